@@ -1,0 +1,42 @@
+-- The words of the table area that hold a trace (docs/LAYOUT.md).
+use Prim.Native.Nat.{ℕ, zero, suc, _+_, _-_, _*_, _%_}
+use mathlib.Core.List.{List, [], _∷_, _++_, map}
+use mathlib.Core.Bool.{Bool, true, false, _&&_}
+use lib.ListN.{length, getD}
+use lib.Dec.{leb, ltb, eqb}
+use Rattle.trace.specs.declared.Event.{Event}
+use Rattle.trace.specs.declared.Event.the-variants.{Send, Recv, Save}
+use Rattle.trace.specs.Trace.{Trace}
+
+-- An event's word: its process, its peer and its kind (1 send, 2 receive, 3 save). Processes of a well-formed trace are below 64,
+-- so that `% 64` changes nothing there; with it every event has a word below 16,384.
+abbrev pub wordOf : Event → ℕ
+wordOf (Send at to val) = at % 64 + 64 * (to % 64) + 4096
+wordOf (Recv at from) = at % 64 + 64 * (from % 64) + 8192
+wordOf (Save at) = at % 64 + 12288
+
+-- an event's value: that of the message sent, or 0
+abbrev pub valueOf : Event → ℕ
+valueOf (Send at to val) = val
+valueOf (Recv at from) = 0
+valueOf (Save at) = 0
+
+-- the words before event 1: the word of event e is `eventBase + e`, its value `valueBase + e`
+abbrev pub eventBase : ℕ
+eventBase = 16
+
+abbrev pub valueBase : ℕ
+valueBase = 2065
+
+abbrev pub pickWord : Bool → ℕ → ℕ → ℕ
+pickWord true a b = a
+pickWord false a b = b
+
+-- Word k of the table area: 0 the process count, 1 the event count, then the events' words, then their values; all others 0.
+unfoldable pub tableWord : Trace → ℕ → ℕ
+tableWord t k =
+    pickWord (eqb k 0) (t .procs)
+    (pickWord (eqb k 1) (length (t .events))
+    (pickWord (leb k eventBase) 0
+    (pickWord (leb k valueBase) (getD (map wordOf (t .events)) (k - (eventBase + 1)) 0)
+    (getD (map valueOf (t .events)) (k - (valueBase + 1)) 0))))

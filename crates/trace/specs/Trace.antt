@@ -1,0 +1,47 @@
+-- Events and traces (document 01, "The trace text"). A process is document 01's zone, a checkpoint its save.
+use Prim.Native.Nat.{ℕ, zero, suc, _+_}
+use mathlib.Core.List.{List, [], _∷_}
+use mathlib.Core.Bool.{Bool, true, false, _&&_}
+use lib.Dec.{eqb}
+use Rattle.trace.specs.declared.Event.{Event}
+use Rattle.trace.specs.declared.Event.the-variants.{Send, Recv, Save}
+
+-- a recorded run: how many processes it has, and its events in text order; event number 1 is the first of the list
+pub record Trace : Type 0 where
+  pub procs : ℕ
+  pub events : List Event
+
+-- a send, a receive on the channel from p to q; a checkpoint of z
+abbrev pub isSend : ℕ → ℕ → Event → Bool
+isSend p q (Send at to val) = eqb p at && eqb q to
+isSend p q (Recv at from) = false
+isSend p q (Save at) = false
+
+abbrev pub isRecv : ℕ → ℕ → Event → Bool
+isRecv p q (Send at to val) = false
+isRecv p q (Recv at from) = eqb p from && eqb q at
+isRecv p q (Save at) = false
+
+abbrev pub isSave : ℕ → Event → Bool
+isSave z (Send at to val) = false
+isSave z (Recv at from) = false
+isSave z (Save at) = eqb z at
+
+abbrev pub oneIf : Bool → ℕ
+oneIf true = 1
+oneIf false = 0
+
+-- how many events of a list pass a test
+unfoldable pub count : (Event → Bool) → List Event → ℕ
+count f [] = 0
+count f (e ∷ es) = oneIf (f e) + count f es
+
+-- how many sends, how many receives on the channel from p to q, how many checkpoints of z a list of events has
+abbrev pub sends : ℕ → ℕ → List Event → ℕ
+sends p q = count (isSend p q)
+
+abbrev pub recvs : ℕ → ℕ → List Event → ℕ
+recvs p q = count (isRecv p q)
+
+abbrev pub saves : ℕ → List Event → ℕ
+saves z = count (isSave z)

@@ -1,0 +1,33 @@
+// What a trace is. The definitions are in specs/: Trace (events and traces), Fit (which traces are well formed) and
+// Table (the words of the table area that hold a trace). Assumes nothing.
+ghost use mathlib.Core.Path.{_≡_};
+ghost use Rattle.trace.specs.Table.{wordOf, valueOf};
+
+// An event of a trace: `ev=send at=A to=B val=V`, `ev=recv at=A from=B`, `ev=save at=A`.
+pub enum Event {
+    Send { at: u32, to: u32, val: u32 },
+    Recv { at: u32, from: u32 },
+    Save { at: u32 },
+}
+
+// The word of an event in the table area.
+pub fn word(e: Event) -> u32
+    ensures { λ r. ⌜ r ≡ wordOf e ⌝ }
+{
+    match e {
+        Event::Send { at, to, val: _ } => at % 64 + 64 * (to % 64) + 4096,
+        Event::Recv { at, from } => at % 64 + 64 * (from % 64) + 8192,
+        Event::Save { at } => at % 64 + 12288,
+    }
+}
+
+// The value of an event in the table area: that of the message sent, or 0.
+pub fn value(e: Event) -> u32
+    ensures { λ r. ⌜ r ≡ valueOf e ⌝ }
+{
+    match e {
+        Event::Send { at: _, to: _, val } => val,
+        Event::Recv { at: _, from: _ } => 0,
+        Event::Save { at: _ } => 0,
+    }
+}
