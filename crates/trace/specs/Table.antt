@@ -15,9 +15,9 @@ wordOf (Send at to val) = at % 64 + 64 * (to % 64) + 4096
 wordOf (Recv at from) = at % 64 + 64 * (from % 64) + 8192
 wordOf (Save at) = at % 64 + 12288
 
--- an event's value: that of the message sent, or 0
+-- an event's value: that of the message sent, or 0 (a value of a well-formed trace is below 4294967296)
 abbrev pub valueOf : Event → ℕ
-valueOf (Send at to val) = val
+valueOf (Send at to val) = val % 4294967296
 valueOf (Recv at from) = 0
 valueOf (Save at) = 0
 

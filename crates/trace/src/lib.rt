@@ -5,9 +5,9 @@ ghost use Rattle.trace.specs.Table.{wordOf, valueOf};
 
 // An event of a trace: `ev=send at=A to=B val=V`, `ev=recv at=A from=B`, `ev=save at=A`.
 pub enum Event {
-    Send { at: u32, to: u32, val: u32 },
-    Recv { at: u32, from: u32 },
-    Save { at: u32 },
+    Send { at: u64, to: u64, val: u64 },
+    Recv { at: u64, from: u64 },
+    Save { at: u64 },
 }
 
 // The word of an event in the table area.
@@ -15,9 +15,9 @@ pub fn word(e: Event) -> u32
     ensures { λ r. ⌜ r ≡ wordOf e ⌝ }
 {
     match e {
-        Event::Send { at, to, val: _ } => at % 64 + 64 * (to % 64) + 4096,
-        Event::Recv { at, from } => at % 64 + 64 * (from % 64) + 8192,
-        Event::Save { at } => at % 64 + 12288,
+        Event::Send { at, to, val: _ } => (at % 64 + 64 * (to % 64) + 4096) as u32,
+        Event::Recv { at, from } => (at % 64 + 64 * (from % 64) + 8192) as u32,
+        Event::Save { at } => (at % 64 + 12288) as u32,
     }
 }
 
@@ -26,7 +26,7 @@ pub fn value(e: Event) -> u32
     ensures { λ r. ⌜ r ≡ valueOf e ⌝ }
 {
     match e {
-        Event::Send { at: _, to: _, val } => val,
+        Event::Send { at: _, to: _, val } => (val % 4294967296) as u32,
         Event::Recv { at: _, from: _ } => 0,
         Event::Save { at: _ } => 0,
     }
