@@ -1,0 +1,4 @@
+pub mod Line
+pub mod Verdict
+pub mod Render
+pub mod Answer
