@@ -13,10 +13,10 @@ abbrev pub answerOf : Verdict → Answer
 answerOf (refused n k) = record { number = n; place = k }
 answerOf (accepted t) = record { number = 0; place = 0 }
 
--- "After 1 to 7 the first 16,384 words of the table area are zero"; accepted: the trace's words; words past 16,384 as they were
-abbrev pub areaOf : Verdict → List ℕ → List ℕ
-areaOf (refused n k) a = ruled (λ i. 0) areaWords a
-areaOf (accepted t) a = ruled (tableWord t) areaWords a
+-- "After 1 to 7 the first 16,384 words of the table area are zero"; accepted: the trace's words
+abbrev pub ruleOf : Verdict → ℕ → ℕ
+ruleOf (refused n k) i = 0
+ruleOf (accepted t) i = tableWord t i
 
 abbrev pub pickAnswer : Bool → Answer → Answer → Answer
 pickAnswer true a b = a
@@ -26,9 +26,9 @@ abbrev pub pickArea : Bool → List ℕ → List ℕ → List ℕ
 pickArea true a b = a
 pickArea false a b = b
 
--- 12, "a table or run area is under 16,384 words", comes first and changes nothing
+-- 12, "a table or run area is under 16,384 words", comes first and changes nothing; words past 16,384 are as they were
 unfoldable pub readAnswer : List ℕ → List ℕ → Answer
 readAnswer text a = pickAnswer (ltb (length a) areaWords) (record { number = 12; place = 0 }) (answerOf (verdict text))
 
 unfoldable pub readArea : List ℕ → List ℕ → List ℕ
-readArea text a = pickArea (ltb (length a) areaWords) a (areaOf (verdict text) a)
+readArea text a = pickArea (ltb (length a) areaWords) a (ruled (ruleOf (verdict text)) areaWords a)

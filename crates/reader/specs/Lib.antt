@@ -2,3 +2,4 @@ pub mod Line
 pub mod Verdict
 pub mod Render
 pub mod Answer
+pub mod Reading

@@ -4,11 +4,21 @@
 // text of a well-formed trace. No public function has a `requires`. Assumes nothing.
 ghost use mathlib.Core.Path.{_≡_};
 ghost use mathlib.Core.List.{List, [], _∷_, _++_};
-ghost use Prim.Native.Nat.{ℕ, _+_, _*_, _≤_, _<_};
-ghost use lib.ListN.{length, getD, take, drop};
+ghost use Prim.Native.Nat.{ℕ, _+_, _-_, _*_, _≤_, _<_};
+ghost use lib.ListN.{length, getD, set, drop, replicate};
 ghost use Rattle.reader.specs.Line.{lineOf, procsOf, sendOf, recvOf, saveOf, failOf};
-ghost use Rattle.reader.specs.Answer.{readAnswer, readArea};
+ghost use Rattle.reader.specs.Answer.{answerOf, ruleOf, readAnswer, readArea};
+ghost use Rattle.words.specs.Area.{areaWords, wordsFrom};
+ghost use Rattle.trace.specs.Trace.{Trace};
+ghost use Rattle.trace.specs.Fit.{faultOf};
+ghost use Rattle.trace.specs.declared.Event.{Event};
+ghost use Rattle.trace.specs.declared.Event.the-variants.{Send, Recv, Save};
+ghost use Rattle.reader.specs.Verdict.{faultHere, judgeEvent, judge, linesFrom, pieces, scan, verdict};
+ghost use Rattle.reader.specs.Reading.{Tally, tallied, Next, Holds, appended, stopOf, Outcome};
+use text::LineEnd;
 use text::Num;
+use trace::Event;
+use words::AREA_WORDS;
 
 // What a line says: a process count, a send, a receive, a checkpoint or a failure, each with its numbers; or none of these.
 pub enum Line {
@@ -25,6 +35,14 @@ pub enum Judged {
     Fit(trace::Event),
     Fails(u64, u64),
     Unfit(u32),
+}
+
+// Where reading the lines ends: a refusal's number and line; the line after the last; or a failure line, its step, its set, its
+// own line and the place after it.
+pub enum Scanned {
+    Refused(u32, usize),
+    Ended(usize),
+    Stopped(u64, u64, usize, usize),
 }
 
 // The answer of a reading: the number of the refusal, 0 if accepted, and the line that it is for, from 1.
@@ -134,4 +152,255 @@ pub fn read_line(line: &[u8]) -> Line
         return fail_line(line);
     }
     Line::Malformed
+}
+
+// How many counters a reading has: messages in transit, a word for each channel, then checkpoints, a word for each process.
+const COUNTS: usize = 4160;
+
+const SAVES_BASE: usize = 4096;
+
+// The counter of a channel.
+fn channel(from: u64, to: u64) -> usize
+    requires { ⌜ (from < 64) × (to < 64) ⌝ }
+    ensures { λ r. ⌜ (r ≡ 64 * from + to) × (r < 4096) ⌝ }
+{
+    (64 * from + to) as usize
+}
+
+// What is wrong with a message between two processes: 3 where one is none, 4 where they are one.
+fn pair_fault(procs: u64, at: u64, peer: u64) -> u32
+    ensures { λ r. ⌜ ((es : List Event) (val : ℕ) → r ≡ faultOf procs es (Send at peer val)) ⌝ }
+{
+    if at >= procs {
+        return 3;
+    }
+    if peer >= procs {
+        return 3;
+    }
+    if at == peer {
+        return 4;
+    }
+    0
+}
+
+// What is wrong with a receive: 5 where nothing is in transit.
+fn recv_fault(counts: &[u32], procs: u64, at: u64, from: u64) -> u32
+    requires { ⌜ (procs ≤ 64) × (length (now counts) ≡ 4160) ⌝ }
+    ensures { λ r. ⌜ ((es : List Event) → Tally (now (counts .entry)) es → r ≡ faultOf procs es (Recv at from)) ⌝ }
+{
+    let f = pair_fault(procs, at, from);
+    if f != 0 {
+        return f;
+    }
+    if counts[channel(from, at)] == 0 {
+        return 5;
+    }
+    0
+}
+
+// What is wrong with a checkpoint: 6 where it is the process's 31st.
+fn save_fault(counts: &[u32], procs: u64, at: u64) -> u32
+    requires { ⌜ (procs ≤ 64) × (length (now counts) ≡ 4160) ⌝ }
+    ensures { λ r. ⌜ ((es : List Event) → Tally (now (counts .entry)) es → r ≡ faultOf procs es (Save at)) ⌝ }
+{
+    if at >= procs {
+        return 3;
+    }
+    if counts[SAVES_BASE + at as usize] >= 30 {
+        return 6;
+    }
+    0
+}
+
+// What is wrong with an event after n others.
+fn fault(counts: &[u32], procs: u64, n: usize, e: Event) -> u32
+    requires { ⌜ (procs ≤ 64) × (length (now counts) ≡ 4160) ⌝ }
+    ensures { λ r. ⌜ ((es : List Event) → Tally (now (counts .entry)) es → n ≡ length es → r ≡ faultHere (record { procs = procs; events = es }) e) ⌝ }
+{
+    if n >= 2048 {
+        return 7;
+    }
+    match e {
+        Event::Send { at, to, val: _ } => pair_fault(procs, at, to),
+        Event::Recv { at, from } => recv_fault(counts, procs, at, from),
+        Event::Save { at } => save_fault(counts, procs, at),
+    }
+}
+
+fn judge_event(counts: &[u32], procs: u64, n: usize, e: Event) -> Judged
+    requires { ⌜ (procs ≤ 64) × (length (now counts) ≡ 4160) ⌝ }
+    ensures { λ r. ⌜ ((es : List Event) → Tally (now (counts .entry)) es → n ≡ length es → r ≡ judgeEvent (record { procs = procs; events = es }) e) ⌝ }
+{
+    let f = fault(counts, procs, n, e);
+    if f == 0 {
+        Judged::Fit(e)
+    } else {
+        Judged::Unfit(f)
+    }
+}
+
+// A line after the first, where n events stand before it.
+fn judge_line(counts: &[u32], procs: u64, n: usize, line: Line) -> Judged
+    requires { ⌜ (procs ≤ 64) × (length (now counts) ≡ 4160) ⌝ }
+    ensures { λ r. ⌜ ((es : List Event) → Tally (now (counts .entry)) es → n ≡ length es → r ≡ judge (record { procs = procs; events = es }) line) ⌝ }
+{
+    match line {
+        Line::Procs(_) => Judged::Unfit(1),
+        Line::Send(a, b, v) => judge_event(
+            counts,
+            procs,
+            n,
+            Event::Send {
+                at: a,
+                to: b,
+                val: v,
+            },
+        ),
+        Line::Recv(a, b) => judge_event(counts, procs, n, Event::Recv { at: a, from: b }),
+        Line::Save(a) => judge_event(counts, procs, n, Event::Save { at: a }),
+        Line::Failure(k, m) => Judged::Fails(k, m),
+        Line::Malformed => Judged::Unfit(1),
+    }
+}
+
+fn raise(counts: &mut [u32], c: usize)
+    requires { ⌜ (c < length (now counts)) × (getD (now counts) c 0 < 4294967295) ⌝ }
+    ensures { λ _. ⌜ now (counts .exit) ≡ set (now (counts .entry)) c (getD (now (counts .entry)) c 0 + 1) ⌝ }
+{
+    counts[c] += 1;
+}
+
+fn lower(counts: &mut [u32], c: usize)
+    requires { ⌜ (c < length (now counts)) × (0 < getD (now counts) c 0) ⌝ }
+    ensures { λ _. ⌜ now (counts .exit) ≡ set (now (counts .entry)) c (getD (now (counts .entry)) c 0 - 1) ⌝ }
+{
+    counts[c] -= 1;
+}
+
+// Counts an event.
+fn tally(counts: &mut [u32], e: Event)
+    requires { ⌜ Next (now counts) e ⌝ }
+    ensures { λ _. ⌜ now (counts .exit) ≡ tallied (now (counts .entry)) e ⌝ }
+{
+    match e {
+        Event::Send { at, to, val: _ } => raise(counts, channel(at, to)),
+        Event::Recv { at, from } => lower(counts, channel(from, at)),
+        Event::Save { at } => raise(counts, SAVES_BASE + at as usize),
+    }
+}
+
+// Stores event n + 1 in the table.
+fn append(table: &mut [u32], n: usize, e: Event)
+    requires { ⌜ (n < 2048) × (length (now table) ≡ areaWords) ⌝ }
+    ensures { λ _. ⌜ now (table .exit) ≡ appended (now (table .entry)) n e ⌝ }
+{
+    table[1] = (n + 1) as u32;
+    table[trace::EVENT_BASE + (n + 1)] = trace::word(e);
+    table[trace::VALUE_BASE + (n + 1)] = trace::value(e);
+}
+
+fn stop(j: Judged, k: usize, next: usize) -> Scanned
+    ensures { λ r. ⌜ r ≡ stopOf j k next ⌝ }
+{
+    match j {
+        Judged::Fit(_) => Scanned::Refused(0, k),
+        Judged::Fails(step, set) => Scanned::Stopped(step, set, k, next),
+        Judged::Unfit(number) => Scanned::Refused(number, k),
+    }
+}
+
+// The lines from a place on, where the table holds a trace of no events and the counters are those of none.
+fn read_events(
+    text: &[u8],
+    from: usize,
+    procs: u64,
+    table: &mut [u32],
+    counts: &mut [u32],
+) -> Scanned
+    requires { ⌜ (procs ≤ 64) × (from ≤ length (now text)) × Holds (now table) (record { procs = procs; events = [] }) × Tally (now counts) [] ⌝ }
+    ensures { λ r. ⌜ Outcome (now (text .entry)) (linesFrom (record { procs = procs; events = [] }) 2 (pieces (drop from (now (text .entry))))) r (now (table .exit)) ⌝ }
+{
+    let mut at = from;
+    let mut n: usize = 0;
+    while at < text.len() {
+        let LineEnd::At(end) = text::line_end(text, at) else {
+            return Scanned::Refused(1, n + 2);
+        };
+        let j = judge_line(counts, procs, n, read_line(&text[at..end]));
+        let Judged::Fit(e) = j else {
+            return stop(j, n + 2, end + 1);
+        };
+        append(table, n, e);
+        tally(counts, e);
+        n += 1;
+        at = end + 1;
+    }
+    Scanned::Ended(n + 2)
+}
+
+// The lines of a text, where the table has 16,384 words.
+fn scan_text(text: &[u8], table: &mut [u32]) -> Scanned
+    requires { ⌜ length (now table) ≡ areaWords ⌝ }
+    ensures { λ r. ⌜ Outcome (now (text .entry)) (scan (now (text .entry))) r (now (table .exit)) ⌝ }
+{
+    let LineEnd::At(end) = text::line_end(text, 0) else {
+        return Scanned::Refused(1, 1);
+    };
+    let first = read_line(&text[..end]);
+    let Line::Procs(n) = first else {
+        return Scanned::Refused(1, 1);
+    };
+    if n < 2 {
+        return Scanned::Refused(2, 1);
+    }
+    if n > 64 {
+        return Scanned::Refused(2, 1);
+    }
+    words::zero(table);
+    table[0] = n as u32;
+    let mut counts = [0u32; COUNTS];
+    read_events(text, end + 1, n, table, &mut counts)
+}
+
+// A refusal leaves zeros.
+fn refuse(table: &mut [u32], number: u32, place: usize) -> Answer
+    ensures answer { λ r. ⌜ r ≡ (record { number = number; place = place }) ⌝ }
+    ensures words { λ _. ⌜ now (table .exit) ≡ replicate (length (now (table .entry))) 0 ⌝ }
+{
+    words::zero(table);
+    Answer {
+        number: number,
+        place: place,
+    }
+}
+
+// Reads a text into a table of 16,384 words.
+fn read_in(text: &[u8], table: &mut [u32]) -> Answer
+    requires { ⌜ length (now table) ≡ areaWords ⌝ }
+    ensures answer { λ r. ⌜ r ≡ answerOf (verdict (now (text .entry))) ⌝ }
+    ensures words { λ _. ⌜ now (table .exit) ≡ wordsFrom (ruleOf (verdict (now (text .entry)))) 0 areaWords ⌝ }
+{
+    let s = scan_text(text, table);
+    match s {
+        Scanned::Refused(number, place) => refuse(table, number, place),
+        Scanned::Ended(_) => Answer {
+            number: 0,
+            place: 0,
+        },
+        Scanned::Stopped(_, _, place, _) => refuse(table, 1, place),
+    }
+}
+
+// Reads a trace text into the table area: the answer, and the area's first 16,384 words, by the verdict on the text.
+pub fn read(text: &[u8], table: &mut [u32]) -> Answer
+    ensures answer { λ r. ⌜ r ≡ readAnswer (now (text .entry)) (now (table .entry)) ⌝ }
+    ensures words { λ _. ⌜ now (table .exit) ≡ readArea (now (text .entry)) (now (table .entry)) ⌝ }
+{
+    if table.len() < AREA_WORDS {
+        return Answer {
+            number: 12,
+            place: 0,
+        };
+    }
+    read_in(text, &mut table[..AREA_WORDS])
 }

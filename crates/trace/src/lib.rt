@@ -10,6 +10,11 @@ pub enum Event {
     Save { at: u64 },
 }
 
+// Where the planes of the table area begin: the word of event e, from 1, is at EVENT_BASE + e, its value at VALUE_BASE + e.
+pub const EVENT_BASE: usize = 16;
+
+pub const VALUE_BASE: usize = 2065;
+
 // The word of an event in the table area.
 pub fn word(e: Event) -> u32
     ensures { λ r. ⌜ r ≡ wordOf e ⌝ }
