@@ -79,7 +79,7 @@ module _ (n : ℕ) (es : List Event) (counts : List ℕ) (small : n ≤ 64) (t :
 
   save-tally : (a : ℕ) → faultOf n es (Save a) ≡ 0 → Tally (tallied counts (Save a)) (es ++ Save a ∷ [])
   save-tally a f =
-      let s = save-fit n es a 0 f in
+      let s = save-fit n es a f in
       let x = getD counts (4096 + a) 0 + 1 in
       record {
         size = simp length-set (t .size);
@@ -116,7 +116,7 @@ module _ (counts : List ℕ) where
   pub save-next : (a : ℕ) → Next counts (Save a) → (a < 64) × ((4096 + a < length counts) × (getD counts (4096 + a) 0 < 4294967295))
   save-next a x =
       let t = x .tally in
-      let s = save-fit (x .procs) (x .events) a 0 (x .fit) in
+      let s = save-fit (x .procs) (x .events) a (x .fit) in
       let m = x .procs-most in
       (omega arith, (omega (arith, t .size), omega (arith, t .saved a (omega arith))))
 

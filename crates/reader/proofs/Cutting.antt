@@ -13,15 +13,6 @@ use Rattle.text.specs.declared.LineEnd.the-variants.{At, Missing}
 use Rattle.text.specs.Line.{lfFrom, pickEnd}
 use Rattle.reader.specs.Verdict.{pieces, grow}
 
--- there is always a last piece
-pub pieces-some : (bs : List ℕ) → (m : List ℕ) × (ms : List (List ℕ)) × (pieces bs ≡ m ∷ ms)
-unfolding pieces
-pieces-some [] = ([], [], refl)
-pieces-some (b ∷ bs) =
-    by-bool (eqb b 10)
-    (λ t. ([], pieces bs, rw t))
-    (λ t. let p = pieces-some bs in (b ∷ p .0, p .1, rw (t, p .2)))
-
 -- the bytes up to the first LF are the first piece
 pub cut-at : (at : ℕ) (bs : List ℕ) (i : ℕ) → lfFrom at bs ≡ At i
     → (d : ℕ) × (i ≡ at + d) × (d < length bs) × (pieces bs ≡ take d bs ∷ pieces (drop (d + 1) bs))

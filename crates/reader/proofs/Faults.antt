@@ -43,13 +43,6 @@ module _ (n : ℕ) (es : List Event) (a b : ℕ) where
       let u = or-zero (leb (sends b a es) (recvs b a es)) 5 0 (omega arith) (z .1) in
       (leb-false n a (x .0), leb-false n b (y .0), eqb-false a b (z .0), leb-false (sends b a es) (recvs b a es) (u .0))
 
-  pub save-fit : faultOf n es (Save a) ≡ 0 → (a < n) × (saves a es < 30)
-  unfolding faultOf
-  save-fit e =
-      let x = or-zero (leb n a) 3 (orElse (leb 30 (saves a es)) 6 0) (omega arith) e in
-      let y = or-zero (leb 30 (saves a es)) 6 0 (omega arith) (x .1) in
-      (leb-false n a (x .0), leb-false 30 (saves a es) (y .0))
-
   -- each way out of `pair_fault`
   module _ (v : ℕ) where
     pub pair-1 : n ≤ a → 3 ≡ faultOf n es (Send a b v)
@@ -96,6 +89,13 @@ module _ (n : ℕ) (es : List Event) (a b : ℕ) where
         rw (lt-leb n a (p .0), lt-leb n b (p .1), ne-eqb a b (p .2), lt-leb (sends b a es) (recvs b a es) q)
 
 module _ (n : ℕ) (es : List Event) (a : ℕ) where
+  pub save-fit : faultOf n es (Save a) ≡ 0 → (a < n) × (saves a es < 30)
+  unfolding faultOf
+  save-fit e =
+      let x = or-zero (leb n a) 3 (orElse (leb 30 (saves a es)) 6 0) (omega arith) e in
+      let y = or-zero (leb 30 (saves a es)) 6 0 (omega arith) (x .1) in
+      (leb-false n a (x .0), leb-false 30 (saves a es) (y .0))
+
   -- each way out of `save_fault`
   pub save-1 : n ≤ a → 3 ≡ faultOf n es (Save a)
   unfolding faultOf

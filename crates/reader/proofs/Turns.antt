@@ -24,7 +24,8 @@ use Rattle.reader.specs.declared.Scanned.the-variants.{Refused, Ended, S
 use Rattle.reader.specs.Line.{lineOf}
 use Rattle.reader.specs.Verdict.{Scan, refused, ended, stopped, pieces, extended, judge, afterLine, atEnd, linesFrom, firstLine, scanPieces, scan}
 use Rattle.reader.specs.Reading.{Holds, stopOf, Outcome}
-use Rattle.reader.proofs.Cutting.{pieces-some, cut-none, line-cut, first-cut}
+use Rattle.reader.proofs.Pieces.{first-piece}
+use Rattle.reader.proofs.Cutting.{cut-none, line-cut, first-cut}
 
 -- a last piece that is something lacks its LF
 lacks : (l : List ℕ) (t : Trace) (k : ℕ) → 0 < length l → atEnd l t k ≡ refused 1 k
@@ -32,10 +33,10 @@ lacks [] t k h = absurd (let z : ⊥ = omega arith in z)
 lacks (b ∷ bs) t k h = refl
 
 -- a line with its LF, whatever follows
-with-lf : (t : Trace) (k : ℕ) (l : List ℕ) (bs : List ℕ)
+pub with-lf : (t : Trace) (k : ℕ) (l : List ℕ) (bs : List ℕ)
     → linesFrom t k (l ∷ pieces bs) ≡ afterLine (judge t (lineOf l)) t k (pieces bs) (λ e. linesFrom (extended t e) (k + 1) (pieces bs))
 unfolding linesFrom
-with-lf t k l bs = let p = pieces-some bs in rw (p .2)
+with-lf t k l bs = let p = first-piece bs in rw (p .2)
 
 module _ (text : List ℕ) (t : Trace) (k at : ℕ) where
   pub turn-end : length text ≤ at → linesFrom t k (pieces (drop at text)) ≡ ended t k
@@ -78,7 +79,7 @@ module _ (text : List ℕ) (s : Scan) (table : List ℕ) where
 -- a first line with its LF, whatever follows
 first-lf : (l bs : List ℕ) → scanPieces (l ∷ pieces bs) ≡ firstLine (lineOf l) (λ n. linesFrom (record { procs = n; events = [] }) 2 (pieces bs))
 unfolding scanPieces
-first-lf l bs = let p = pieces-some bs in rw (p .2)
+first-lf l bs = let p = first-piece bs in rw (p .2)
 
 -- each way out of `scan_text`
 module _ (text : List ℕ) where
