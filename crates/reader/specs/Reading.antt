@@ -7,7 +7,7 @@ use lib.ListN.{length, getD, set, drop}
 use Rattle.words.specs.Area.{areaWords}
 use Rattle.trace.specs.declared.Event.{Event}
 use Rattle.trace.specs.Trace.{Trace}
-use Rattle.trace.specs.Table.{wordOf, valueOf, eventBase, valueBase, tableWord}
+use Rattle.trace.specs.Table.{wordOf, valueWord, eventBase, valueBase, tableWord}
 use Rattle.reader.specs.declared.Judged.{Judged}
 use Rattle.reader.specs.declared.Judged.the-variants.{Fit, Fails, Unfit}
 use Rattle.reader.specs.declared.Scanned.{Scanned}
@@ -21,7 +21,7 @@ pub record Holds (table : List ℕ) (t : Trace) : Type 0 where
 
 -- the table after event n + 1 is stored
 abbrev pub appended : List ℕ → ℕ → Event → List ℕ
-appended table n e = set (set (set table 1 (n + 1)) (eventBase + (n + 1)) (wordOf e)) (valueBase + (n + 1)) (valueOf e)
+appended table n e = set (set (set table 1 (n + 1)) (eventBase + (n + 1)) (wordOf e)) (valueBase + (n + 1)) (valueWord e)
 
 -- where the lines end at a line that is no fit event: line k, and the place after it
 abbrev pub stopOf : Judged → ℕ → ℕ → Scanned

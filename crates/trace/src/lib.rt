@@ -8,7 +8,7 @@ ghost use Rattle.trace.specs.declared.Event.the-variants.{Send, Recv, Sa
 ghost use Rattle.trace.specs.Fit.{faultOf};
 ghost use Rattle.trace.specs.Tally.{Tally, tallied, Next};
 ghost use mathlib.Core.Path.{_≡_};
-ghost use Rattle.trace.specs.Table.{wordOf, valueOf};
+ghost use Rattle.trace.specs.Table.{wordOf, valueWord};
 
 // An event of a trace: `ev=send at=A to=B val=V`, `ev=recv at=A from=B`, `ev=save at=A`.
 pub enum Event {
@@ -35,7 +35,7 @@ pub fn word(e: Event) -> u32
 
 // The value of an event in the table area: that of the message sent, or 0.
 pub fn value(e: Event) -> u32
-    ensures { λ r. ⌜ r ≡ valueOf e ⌝ }
+    ensures { λ r. ⌜ r ≡ valueWord e ⌝ }
 {
     match e {
         Event::Send { at: _, to: _, val } => (val % 4294967296) as u32,
