@@ -1,0 +1,73 @@
+-- What an answer holds, as it can be computed: sets, lines, lists of messages, records compared, orders judged.
+use mathlib.Core.Bool.{Bool, true, false, _&&_, not}
+use mathlib.Core.List.{List, [], _∷_, _++_, map}
+use mathlib.Core.Option.{Option, none, some}
+use Prim.Native.Nat.{ℕ, zero, suc, _+_, _/_, _%_, _^_}
+use lib.ListN.{length, getD}
+use lib.Dec.{eqb}
+use Rattle.trace.specs.Trace.{Trace}
+use Rattle.theory.specs.Lists.{pick, iv, keep, all-below}
+use Rattle.theory.specs.Events.{size, sent}
+use Rattle.theory.specs.Line.{Run, lost, orphan, kept, orphanPhase}
+use Rattle.theory.specs.Replay.{State, start, delivered, faultless}
+use Rattle.theory.specs.Order.{Outcome, done, refused, isNone, lowest, lowestFrom, run}
+
+-- "M a 64-bit number in decimal whose bit z says that zone z failed"
+abbrev pub inSet : ℕ → ℕ → Bool
+inSet m z = eqb (m / 2 ^ z % 2) 1
+
+-- a line given by its numbers; "Places of a line past its N numbers are 0"
+abbrev pub lineOf : List ℕ → ℕ → ℕ
+lineOf l z = getD l z 0
+
+-- a message as the report lists it: from, to, number, phase
+pub record Listed : Type 0 where
+  pub from : ℕ
+  pub to : ℕ
+  pub number : ℕ
+  pub phase : ℕ
+
+-- f 0 ++ .. ++ f (n - 1)
+unfoldable pub gather : {A : Type 0} → (ℕ → List A) → ℕ → List A
+gather f zero = []
+gather f (suc n) = gather f n ++ f n
+
+-- equal lists of numbers and values
+unfoldable pub samePairs : List (ℕ × ℕ) → List (ℕ × ℕ) → Bool
+samePairs [] [] = true
+samePairs [] (y ∷ ys) = false
+samePairs (x ∷ xs) [] = false
+samePairs (x ∷ xs) (y ∷ ys) = eqb (x .0) (y .0) && (eqb (x .1) (y .1) && samePairs xs ys)
+
+module _ (R : Run) where
+  -- the messages that pass a test, "by sender, receiver, number"
+  unfoldable pub messages : (ℕ → ℕ → ℕ → Bool) → (ℕ → ℕ → ℕ → ℕ) → List Listed
+  messages f phase = gather (λ p. gather (λ q.
+      map (λ k. record { from = p; to = q; number = k; phase = phase p q k }) (keep (f p q) (iv 0 (sent (R .trace) p q (size (R .trace))))))
+      (R .trace .procs)) (R .trace .procs)
+
+  abbrev pub orphans : List Listed
+  orphans = messages (orphan R) (orphanPhase R)
+
+  abbrev pub keptOnes : List Listed
+  keptOnes = messages (kept R) (R .carries)
+
+  abbrev pub lostOnes : List Listed
+  lostOnes = messages (lost R) (R .carries)
+
+  -- are the records of a replay and of the run without failure equal, on every channel of the run
+  unfoldable pub sameRecord : State → Bool
+  sameRecord s = all-below (R .trace .procs) (λ p. all-below (R .trace .procs) (λ q. samePairs (delivered R s p q) (faultless R p q)))
+
+  -- an order: the place where it is refused, or 0; whether it is carried out and the state it leaves passes a test
+  abbrev pub placeOf : Outcome → ℕ
+  placeOf (done s) = 0
+  placeOf (refused i) = i
+
+  abbrev pub leaves : (State → Bool) → Outcome → Bool
+  leaves f (done s) = f s
+  leaves f (refused i) = false
+
+  -- the order of lowest allowed choices; no order is longer than twice the number of events
+  abbrev pub lowestOrder : List ℕ
+  lowestOrder = lowestFrom R (size (R .trace) + size (R .trace)) (start R)
