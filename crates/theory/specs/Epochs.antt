@@ -17,13 +17,16 @@ Rule = (p q k a b : ℕ) → Bool
 abbrev pub past : Rule
 past p q k a b = ltb a b
 
--- What the protocol has noted when some events are done: each process's epoch and phase, and what each message carries.
+-- "A message carries its sender's epoch and phase at the send."
+pub record Carried : Type 0 where
+  pub epoch : ℕ
+  pub phase : ℕ
+
+-- What the protocol has noted when some events are done: each process's epoch and phase, and what message k from p to q carries.
 pub record Notes : Type 0 where
-  pub epoch : ℕ → ℕ
-  pub phase : ℕ → ℕ
-  -- "A message carries its sender's epoch and phase at the send."
-  pub carriedEpoch : ℕ → ℕ → ℕ → ℕ
-  pub carriedPhase : ℕ → ℕ → ℕ → ℕ
+  pub epochs : ℕ → ℕ
+  pub phases : ℕ → ℕ
+  pub carried : ℕ → ℕ → ℕ → Carried
 
 -- "At a receive the phase becomes the larger of the zone's own and the message's, or, if logged, of the zone's own and the
 -- message's plus 1." The process's phase f, the message's m.
@@ -34,31 +37,28 @@ joined false f m = max f m
 module _ (t : Trace) (rule : Rule) where
   -- "A zone begins with epoch 1 and phase 1"
   abbrev pub begun : Notes
-  begun = record { epoch = λ z. 1; phase = λ z. 1; carriedEpoch = λ p q k. 0; carriedPhase = λ p q k. 0 }
+  begun = record { epochs = λ z. 1; phases = λ z. 1; carried = λ p q k. record { epoch = 0; phase = 0 } }
 
   -- Event number e. A send of z to q is message `sent z q e`; a receive of z from p takes message `rcvd p z e`.
   unfoldable pub note : Notes → ℕ → Event → Notes
   note n e (Send z q val) = record {
-    epoch = n .epoch;
-    phase = n .phase;
-    carriedEpoch = put3 (n .carriedEpoch) z q (sent t z q e) (n .epoch z);
-    carriedPhase = put3 (n .carriedPhase) z q (sent t z q e) (n .phase z);
+    epochs = n .epochs;
+    phases = n .phases;
+    carried = put3 (n .carried) z q (sent t z q e) (record { epoch = n .epochs z; phase = n .phases z });
   }
   note n e (Recv z p) =
       let k = rcvd t p z e in
-      let log = rule p z k (n .carriedEpoch p z k) (n .epoch z) in
+      let m = n .carried p z k in
       record {
-        epoch = n .epoch;
-        phase = put (n .phase) z (joined log (n .phase z) (n .carriedPhase p z k));
-        carriedEpoch = n .carriedEpoch;
-        carriedPhase = n .carriedPhase;
+        epochs = n .epochs;
+        phases = put (n .phases) z (joined (rule p z k (m .epoch) (n .epochs z)) (n .phases z) (m .phase));
+        carried = n .carried;
       }
-  -- "A save raises both by one"
+  -- "A save raises both by one, and the saved state carries the raised values."
   note n e (Save z) = record {
-    epoch = put (n .epoch) z (suc (n .epoch z));
-    phase = put (n .phase) z (suc (n .phase z));
-    carriedEpoch = n .carriedEpoch;
-    carriedPhase = n .carriedPhase;
+    epochs = put (n .epochs) z (suc (n .epochs z));
+    phases = put (n .phases) z (suc (n .phases z));
+    carried = n .carried;
   }
 
   -- the notes after event x
@@ -68,18 +68,18 @@ module _ (t : Trace) (rule : Rule) where
 
   -- the epoch and the phase of process z after event x
   abbrev pub epochAt : ℕ → ℕ → ℕ
-  epochAt z x = (notes x) .epoch z
+  epochAt z x = (notes x) .epochs z
 
   abbrev pub phaseAt : ℕ → ℕ → ℕ
-  phaseAt z x = (notes x) .phase z
+  phaseAt z x = (notes x) .phases z
 
   -- of message k from p to q: its epoch and its phase, and whether it is logged (a receive changes no epoch, so that the
   -- receiver's epoch is the one after it)
   abbrev pub epochOf : ℕ → ℕ → ℕ → ℕ
-  epochOf p q k = (notes (size t)) .carriedEpoch p q k
+  epochOf p q k = ((notes (size t)) .carried p q k) .epoch
 
   abbrev pub phaseOf : ℕ → ℕ → ℕ → ℕ
-  phaseOf p q k = (notes (size t)) .carriedPhase p q k
+  phaseOf p q k = ((notes (size t)) .carried p q k) .phase
 
   unfoldable pub loggedBy : ℕ → ℕ → ℕ → Bool
   loggedBy p q k = rule p q k (epochOf p q k) (epochAt q (recvOf t p q k))

@@ -65,31 +65,31 @@ module _ (R : Run) where
   abbrev pub LossFree : Type 0
   LossFree = (p q k : ℕ) → lost p q k ≡ false
 
+-- ---- A line: "an epoch from 1 to its current one, or 32, which means the zone stays as it was at the cut"
+abbrev pub staysIn : (ℕ → ℕ) → ℕ → Bool
+staysIn line z = eqb (line z) 32
+
+-- "A restart in an epoch is right after the save that raised the zone to it, in epoch 1 at the zone's start. For a zone that
+-- stays, the cut takes the place of its restart in every rule." Checkpoint number e - 1 of the process raised it to epoch e.
+unfoldable pub restartIn : Trace → ℕ → (ℕ → ℕ) → ℕ → ℕ
+restartIn t cut line z = pick (staysIn line z) cut (place (saves t z) (line z - 1) cut)
+
 module _ (t : Trace) (rule : Rule) (cut : ℕ) where
+  -- the recorded run with this failure and a line
+  abbrev pub recorded : (ℕ → ℕ) → Run
+  recorded line = record {
+    trace = t;
+    phase = phaseAt t rule;
+    carries = phaseOf t rule;
+    logged = loggedBy t rule;
+    cut = cut;
+    stays = staysIn line;
+    restart = restartIn t cut line;
+  }
+
   -- the epoch of process z at the cut
   abbrev pub current : ℕ → ℕ
   current z = epochAt t rule z cut
-
-  -- ---- A line: "an epoch from 1 to its current one, or 32, which means the zone stays as it was at the cut"
-  module _ (line : ℕ → ℕ) where
-    abbrev pub staysIn : ℕ → Bool
-    staysIn z = eqb (line z) 32
-
-    -- "A restart in an epoch is right after the save that raised the zone to it, in epoch 1 at the zone's start. For a zone that
-    -- stays, the cut takes the place of its restart in every rule." Epoch e is raised to by checkpoint e - 1 of the process.
-    unfoldable pub restartIn : ℕ → ℕ
-    restartIn z = pick (staysIn z) cut (place (saves t z) (line z - 1) cut)
-
-    abbrev pub recorded : Run
-    recorded = record {
-      trace = t;
-      phase = phaseAt t rule;
-      carries = phaseOf t rule;
-      logged = loggedBy t rule;
-      cut = cut;
-      stays = staysIn;
-      restart = restartIn;
-    }
 
   -- ---- Which lines are permitted. `usable z e`: may process z restart in epoch e
   -- "an epoch from 1 to its current one"
