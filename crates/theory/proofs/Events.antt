@@ -88,6 +88,13 @@ module _ (t : Trace) where
       let c : kind t d ≡ kind t e = ap (kind t) i in
       let z : _≡_ {A = ℕ} 0 1 = cc in omega arith
 
+  pub recv-not-save : (p q z d e : ℕ) → recvs t p q d ≡ true → saves t z e ≡ true → d ≢ e
+  recv-not-save p q z d e a b i =
+      let x = (recvs-is p q d a) .1 in
+      let y = (saves-is z e b) .1 in
+      let c : kind t d ≡ kind t e = ap (kind t) i in
+      let z : _≡_ {A = ℕ} 0 1 = cc in omega arith
+
   -- ---- Messages by number
 
   pub sent-le : (p q x y : ℕ) → x ≤ y → sent t p q x ≤ sent t p q y
