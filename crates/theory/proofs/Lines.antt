@@ -29,7 +29,7 @@ module _ (t : Trace) (rule : Rule) (A : Valid t) (cut : ℕ) (cl : cut ≤ size 
   pub now-few : (z : ℕ) → current t rule cut z < 32
   now-few z = omega (arith, now-is z, A .saves-few z cut cl)
 
-  epoch-le : (z x : ℕ) → x ≤ cut → E z x ≤ current t rule cut z
+  pub epoch-le : (z x : ℕ) → x ≤ cut → E z x ≤ current t rule cut z
   epoch-le z x h = omega (arith, now-is z, epoch-is t rule x z, cnt-le (saves t z) x cut h)
 
   -- a number that a line may hold for a process: 32, or an epoch that it has reached
@@ -224,3 +224,12 @@ module _ (t : Trace) (rule : Rule) (A : Valid t) (cut : ℕ) (cl : cut ≤ size 
             below = a;
             above = c;
           }
+
+-- under document 01's rule a message that is not logged is received in no later epoch than it is sent in
+pub past-unlogged : (t : Trace) (A : Valid t) (cut : ℕ) (cl : cut ≤ size t) (l : ℕ → ℕ) (p q k : ℕ) (x : ByEpochs t past A cut cl l p q k)
+    → epochAt t past q (x .e) ≤ epochAt t past p (x .d)
+unfolding loggedBy
+past-unlogged t A cut cl l p q k x =
+    let u = ltb-false (epochOf t past p q k) (epochAt t past q (recvOf t p q k)) (x .unlogged) in
+    let v : recvOf t p q k ≡ x .e = ap (recvOf t p q) (sym (x .e-is)) ∙ recvOf-at t p q (x .e) (x .e-recv) (x .e-pos) (omega (arith, x .e-cut)) in
+    omega (arith, rw v at u, epoch-of t past A cut cl l p q k x)
