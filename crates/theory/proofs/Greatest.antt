@@ -10,10 +10,10 @@ use lib.ListN.{length}
 use lib.Dec.{leb, ltb, eqb}
 use borrow.Author.Tests.{ltb-true, ltb-false, eqb-true, ne-eqb}
 use Rattle.trace.specs.Trace.{Trace}
-use Rattle.theory.specs.Lists.{pick, lastOf, first, put}
+use Rattle.theory.specs.Lists.{pick, lastOf, ifSome, first, put}
 use Rattle.theory.specs.Events.{size, rcvd, recvOf}
 use Rattle.theory.specs.Epochs.{Rule, past, epochAt, epochOf, loggedBy}
-use Rattle.theory.specs.Line.{lost, LossFree, recorded, current, Usable, Permitted, Greatest, highest, lower, lowerIf, lowered, onOr, lowering, greatestLine}
+use Rattle.theory.specs.Line.{lost, LossFree, recorded, current, Usable, Permitted, Greatest, highest, lower, lowerIf, lowered, lowering, greatestLine}
 use Rattle.theory.proofs.Base.{by, on, clash, le?, eqb-self, lastOf-le, lastOf-top, first-none, first-some, sum, sum-le, sum-lt}
 use Rattle.theory.proofs.Events.{Valid, recvOf-at}
 use Rattle.theory.proofs.Lines.{now-is, now-few, number-of, ByEpochs, lost-epochs, epoch-of, epoch-le, lost-in, lower-usable, lower-less, lower-over, past-unlogged}
@@ -46,7 +46,7 @@ module _ (t : Trace) (rule : Rule) (A : Valid t) (cut : ℕ) (cl : cut ≤ size 
     v : ℕ
     v = lastOf (usable p) (epochOf t rule p q k)
 
-    below-above : Above (lower t rule cut usable failed m p q k)
+    below-above : Above (lower t rule cut usable m p q k)
     below-above = record {
       ok = λ z l. by (eqb z p)
           (λ u. let i : z ≡ p = eqb-true z p u in inl (rw (u, i) (lower-usable t rule A cut cl usable U failed m (a .ok) p q k h)))
@@ -56,8 +56,8 @@ module _ (t : Trace) (rule : Rule) (A : Valid t) (cut : ℕ) (cl : cut ≤ size 
           (λ u. rw u (a .over l b n z o));
     }
 
-    below-sum : sum (t .procs) (lower t rule cut usable failed m p q k) < sum (t .procs) m
-    below-sum = sum-lt (t .procs) p m (lower t rule cut usable failed m p q k) ((lost-in t rule A cut cl m p q k h) .0)
+    below-sum : sum (t .procs) (lower t rule cut usable m p q k) < sum (t .procs) m
+    below-sum = sum-lt (t .procs) p m (lower t rule cut usable m p q k) ((lost-in t rule A cut cl m p q k h) .0)
         (λ x n. let u : eqb x p ≡ false = ne-eqb x p n in rw u)
         (rw (eqb-self p) (lower-less t rule A cut cl usable U failed m (a .ok) p q k h))
 
@@ -70,37 +70,37 @@ module _ (t : Trace) (rule : Rule) (A : Valid t) (cut : ℕ) (cl : cut ≤ size 
   pick-some false f g h = absurd (Option·none-ne-some g h)
 
   -- nothing left to lower: nothing is lost
-  lowered-none : (m : ℕ → ℕ) → lowered t rule cut usable failed m ≡ none → LossFree (recorded t rule cut m)
+  lowered-none : (m : ℕ → ℕ) → lowered t rule cut usable m ≡ none → LossFree (recorded t rule cut m)
   unfolding lowered
   lowered-none m h p q k = by (lost (recorded t rule cut m) p q k)
       (λ u. let i = lost-in t rule A cut cl m p q k u in
-      let a = first-none (λ p. first (λ q. first (λ k. lowerIf t rule cut usable failed m p q k) (suc (size t))) (t .procs)) (t .procs) h p (i .0) in
-      let b = first-none (λ q. first (λ k. lowerIf t rule cut usable failed m p q k) (suc (size t))) (t .procs) a q (i .1) in
-      pick-none (lost (recorded t rule cut m) p q k) _ (first-none (λ k. lowerIf t rule cut usable failed m p q k) (suc (size t)) b k (i .2)))
+      let a = first-none (λ p. first (λ q. first (λ k. lowerIf t rule cut usable m p q k) (suc (size t))) (t .procs)) (t .procs) h p (i .0) in
+      let b = first-none (λ q. first (λ k. lowerIf t rule cut usable m p q k) (suc (size t))) (t .procs) a q (i .1) in
+      pick-none (lost (recorded t rule cut m) p q k) _ (first-none (λ k. lowerIf t rule cut usable m p q k) (suc (size t)) b k (i .2)))
       (λ u. u)
 
-  lowered-some : (m n : ℕ → ℕ) → lowered t rule cut usable failed m ≡ some n
-      → (p : ℕ) × (q : ℕ) × (k : ℕ) × (lost (recorded t rule cut m) p q k ≡ true) × (lower t rule cut usable failed m p q k ≡ n)
+  lowered-some : (m n : ℕ → ℕ) → lowered t rule cut usable m ≡ some n
+      → (p : ℕ) × (q : ℕ) × (k : ℕ) × (lost (recorded t rule cut m) p q k ≡ true) × (lower t rule cut usable m p q k ≡ n)
   unfolding lowered
   lowered-some m n h =
-      let a = first-some (λ p. first (λ q. first (λ k. lowerIf t rule cut usable failed m p q k) (suc (size t))) (t .procs)) (t .procs) n h in
-      let b = first-some (λ q. first (λ k. lowerIf t rule cut usable failed m (a .0) q k) (suc (size t))) (t .procs) n (a .2) in
-      let c = first-some (λ k. lowerIf t rule cut usable failed m (a .0) (b .0) k) (suc (size t)) n (b .2) in
+      let a = first-some (λ p. first (λ q. first (λ k. lowerIf t rule cut usable m p q k) (suc (size t))) (t .procs)) (t .procs) n h in
+      let b = first-some (λ q. first (λ k. lowerIf t rule cut usable m (a .0) q k) (suc (size t))) (t .procs) n (a .2) in
+      let c = first-some (λ k. lowerIf t rule cut usable m (a .0) (b .0) k) (suc (size t)) n (b .2) in
       let d = pick-some (lost (recorded t rule cut m) (a .0) (b .0) (c .0)) _ n (c .2) in
       (a .0, b .0, c .0, d .0, d .1)
 
-  lowering-greatest : (c : ℕ) (m : ℕ → ℕ) → Above m → sum (t .procs) m ≤ c → Greatest t rule cut usable failed (lowering t rule cut usable failed c m)
+  lowering-greatest : (c : ℕ) (m : ℕ → ℕ) → Above m → sum (t .procs) m ≤ c → Greatest t rule cut usable failed (lowering t rule cut usable c m)
   unfolding lowering
-  lowering-greatest zero m a h = go (lowered t rule cut usable failed m) refl
+  lowering-greatest zero m a h = go (lowered t rule cut usable m) refl
     where
-      go : (o : Option (ℕ → ℕ)) → lowered t rule cut usable failed m ≡ o → Greatest t rule cut usable failed m
+      go : (o : Option (ℕ → ℕ)) → lowered t rule cut usable m ≡ o → Greatest t rule cut usable failed m
       go none e = record { permitted = a .ok; loss-free = lowered-none m e; top = a .over }
       go (some n) e = let r = lowered-some m n e in absurd (omega (arith, below-sum m a (r .0) (r .1) (r .2) (r .3)))
-  lowering-greatest (suc c) m a h = go (lowered t rule cut usable failed m) refl (λ n b l. lowering-greatest c n b l)
+  lowering-greatest (suc c) m a h = go (lowered t rule cut usable m) refl (λ n b l. lowering-greatest c n b l)
     where
-      go : (o : Option (ℕ → ℕ)) → lowered t rule cut usable failed m ≡ o
-          → ((n : ℕ → ℕ) → Above n → sum (t .procs) n ≤ c → Greatest t rule cut usable failed (lowering t rule cut usable failed c n))
-          → Greatest t rule cut usable failed (onOr t rule cut usable failed m o (λ n. lowering t rule cut usable failed c n))
+      go : (o : Option (ℕ → ℕ)) → lowered t rule cut usable m ≡ o
+          → ((n : ℕ → ℕ) → Above n → sum (t .procs) n ≤ c → Greatest t rule cut usable failed (lowering t rule cut usable c n))
+          → Greatest t rule cut usable failed (ifSome o m (λ n. lowering t rule cut usable c n))
       go none e f = record { permitted = a .ok; loss-free = lowered-none m e; top = a .over }
       go (some n) e f =
           let r = lowered-some m n e in

@@ -11,11 +11,11 @@ use lib.ListN.{length}
 use lib.Dec.{leb, ltb, eqb}
 use lib.Arith.{digits-div, digits-mod}
 use borrow.Author.Tests.{lt-ltb, le-ltb, ltb-true, ltb-false}
-use Rattle.theory.specs.Lists.{pick, iv, keep, all-below, or-else, first}
+use Rattle.theory.specs.Lists.{pick, iv, keep, all-below, ifSome, or-else, first}
 use Rattle.theory.specs.Events.{size, sent, rcvd}
 use Rattle.theory.specs.Line.{Run, lost, LossFree}
 use Rattle.theory.specs.Replay.{Choice, process, hand, State, takenBy, start, step, entry, delivered, faultless, SameRecord}
-use Rattle.theory.specs.Order.{choiceOf, Outcome, done, refused, isNone, choose, Allowed, onward, carry, run, steps, Complete, complete, named, lowest, after, lowestFrom}
+use Rattle.theory.specs.Order.{choiceOf, Outcome, carriedOut, refused, isNone, choose, Allowed, carry, run, steps, Complete, complete, named, lowest, lowestFrom}
 use Rattle.theory.specs.Laws.{Laws}
 use Rattle.theory.proofs.Base.{by, on, clash, le?, iv-prefix, all-true, all-at, or-none, or-some, first-none, first-some}
 use Rattle.theory.proofs.Classes.{NoLoss, no-loss, loss-free, lost-is}
@@ -27,7 +27,7 @@ use Rattle.theory.proofs.Steps.{work, process-in, hand-in, reach-work, 
 
 -- ---- Choice numbers
 
-pub numberOf : Choice → ℕ
+unfoldable pub numberOf : Choice → ℕ
 numberOf (process z) = z
 numberOf (hand p q) = 64 + 64 * p + q
 
@@ -44,7 +44,7 @@ choice-hand p q a b =
     rw (t, u, e, digits-div p b, digits-mod p b)
 
 -- a choice's number, and both ways between the two
-choice-is : (c : ℕ) (k : Choice) → choiceOf c ≡ some k → c ≡ numberOf k
+pub choice-is : (c : ℕ) (k : Choice) → choiceOf c ≡ some k → c ≡ numberOf k
 unfolding choiceOf numberOf
 choice-is c k h = by (ltb c 64)
     (λ t. let e : process c ≡ k = Option·some-injective _ _ (rw t at h) in rw (← e))
@@ -64,7 +64,7 @@ isNone-is none h = refl
 isNone-is (some a) h = clash {b = false} h refl
 
 module _ (R : Run) where
-  choose-is : (s t : State) (c : ℕ) → choose R s c ≡ some t → (k : Choice) × (choiceOf c ≡ some k) × (step R s k ≡ some t)
+  pub choose-is : (s t : State) (c : ℕ) → choose R s c ≡ some t → (k : Choice) × (choiceOf c ≡ some k) × (step R s k ≡ some t)
   unfolding choose bind
   choose-is s t c h = go (choiceOf c) refl h
     where
@@ -72,7 +72,7 @@ module _ (R : Run) where
       go none e k = absurd (Option·none-ne-some t k)
       go (some k) e l = (k, e, l)
 
-  choose-of : (s : State) (c : ℕ) (k : Choice) → choiceOf c ≡ some k → choose R s c ≡ step R s k
+  pub choose-of : (s : State) (c : ℕ) (k : Choice) → choiceOf c ≡ some k → choose R s c ≡ step R s k
   unfolding choose bind
   choose-of s c k e = rw e
 
@@ -82,7 +82,7 @@ module _ (R : Run) where
 
   -- ---- An order that is carried out reaches a state in as many steps as it is long
 
-  reaches : (s t : State) (m i : ℕ) (ns : List ℕ) → Reach R s m → carry R s i ns ≡ done t → Reach R t (m + length ns)
+  reaches : (s t : State) (m i : ℕ) (ns : List ℕ) → Reach R s m → carry R s i ns ≡ carriedOut t → Reach R t (m + length ns)
   unfolding carry
   reaches s t m i [] r h =
       let e : s ≡ t = cc in
@@ -90,15 +90,15 @@ module _ (R : Run) where
       rw j (subst (λ u. Reach R u m) e r)
   reaches s t m i (c ∷ ns) r h = go (choose R s c) refl h (λ u k j. reaches u t (suc m) (suc i) ns k j)
     where
-      go : (o : Option State) → choose R s c ≡ o → onward R o i (λ u. carry R u (suc i) ns) ≡ done t
-          → ((u : State) → Reach R u (suc m) → carry R u (suc i) ns ≡ done t → Reach R t (suc m + length ns)) → Reach R t (m + suc (length ns))
+      go : (o : Option State) → choose R s c ≡ o → ifSome o (refused i) (λ u. carry R u (suc i) ns) ≡ carriedOut t
+          → ((u : State) → Reach R u (suc m) → carry R u (suc i) ns ≡ carriedOut t → Reach R t (suc m + length ns)) → Reach R t (m + suc (length ns))
       go none e k f = absurd (let z : _≡_ {A = ℕ} 0 1 = cc in omega arith)
       go (some u) e k f =
           let d = choose-is s u c e in
           let j : m + suc (length ns) ≡ suc m + length ns = omega arith in
           rw j (f u (next (d .0) r (d .2)) k)
 
-  pub run-reaches : (order : List ℕ) (s : State) → run R order ≡ done s → Reach R s (length order)
+  pub run-reaches : (order : List ℕ) (s : State) → run R order ≡ carriedOut s → Reach R s (length order)
   unfolding run
   run-reaches order s h =
       let e : 0 + length order ≡ length order = omega arith in
@@ -114,11 +114,11 @@ module _ (R : Run) where
   )
 
   module _ (L : Laws R) where
-    abbrev InRange : Choice → Type 0
+    abbrev pub InRange : Choice → Type 0
     InRange (process z) = z < R .trace .procs
     InRange (hand p q) = (p < R .trace .procs) × (q < R .trace .procs)
 
-    in-range : (s t : State) (c : Choice) → Inv R s → Did R s c t → InRange c
+    pub in-range : (s t : State) (c : Choice) → Inv R s → Did R s c t → InRange c
     in-range s t c i (did-other {z = z} {e = e} {es = es} h k) = process-in R L s i z e es h
     in-range s t c i (did-send {z = z} {e = e} {q = r} {es = es} h k l) = process-in R L s i z e es h
     in-range s t c i (did-recv {z = z} {e = e} {p = r} {m = m} {es = es} {ms = ms} h k l) = process-in R L s i z e es h
@@ -154,7 +154,7 @@ module _ (R : Run) where
 
     -- ---- The theorems
 
-    module _ (order : List ℕ) (s : State) (h : run R order ≡ done s) where
+    module _ (order : List ℕ) (s : State) (h : run R order ≡ carriedOut s) where
       i : Inv R s
       i = inv R L s (length order) (run-reaches order s h)
 

@@ -135,18 +135,20 @@ module _ (R : Run) where
       cnt-le (sends (R .trace) p q) (R .restart p) (size (R .trace)) (restart-n R L p),
     ))
 
-    pub reach-bound : (s : State) (n : ℕ) → Reach R s n → n ≤ size (R .trace) + size (R .trace)
+    pub work-bound : work (start R) ≤ size (R .trace) + size (R .trace)
     unfolding work sends
-    reach-bound s n h =
+    work-bound =
         let N = R .trace .procs in
         let T = size (R .trace) in
         let f = sends (R .trace) in
         omega (
           arith,
-          reach-work s n h,
           sum-le N (λ z. length (listed R z (R .restart z))) (λ z. cnt (λ e. eqb z (at (R .trace) e)) T) (λ z l. listed-le z),
           sum-le N (λ p. sum N (λ q. length (keptOn R p q))) (λ p. sum N (λ q. cnt (f p q) T))
               (λ p l. sum-le N (λ q. length (keptOn R p q)) (λ q. cnt (f p q) T) (λ q k. kept-le p q)),
           family N (λ z e. eqb z (at (R .trace) e)) (λ e. one-process N (at (R .trace) e)) T,
           family2 N (λ p q e. f p q e) (λ e. one-channel N (eventAt (R .trace) e)) T,
         )
+
+    pub reach-bound : (s : State) (n : ℕ) → Reach R s n → n ≤ size (R .trace) + size (R .trace)
+    reach-bound s n h = omega (arith, reach-work s n h, work-bound)

@@ -10,7 +10,7 @@ use Rattle.theory.specs.Lists.{pick, iv, keep, all-below}
 use Rattle.theory.specs.Events.{size, sent}
 use Rattle.theory.specs.Line.{Run, lost, orphan, kept, orphanPhase}
 use Rattle.theory.specs.Replay.{State, start, delivered, faultless}
-use Rattle.theory.specs.Order.{Outcome, done, refused, isNone, lowest, lowestFrom, run}
+use Rattle.theory.specs.Order.{Outcome, carriedOut, refused, isNone, lowest, lowestFrom, run}
 
 -- "M a 64-bit number in decimal whose bit z says that zone z failed"
 abbrev pub inSet : ℕ → ℕ → Bool
@@ -61,11 +61,11 @@ module _ (R : Run) where
 
   -- an order: the place where it is refused, or 0; whether it is carried out and the state it leaves passes a test
   abbrev pub placeOf : Outcome → ℕ
-  placeOf (done s) = 0
+  placeOf (carriedOut s) = 0
   placeOf (refused i) = i
 
   abbrev pub leaves : (State → Bool) → Outcome → Bool
-  leaves f (done s) = f s
+  leaves f (carriedOut s) = f s
   leaves f (refused i) = false
 
   -- the order of lowest allowed choices; no order is longer than twice the number of events

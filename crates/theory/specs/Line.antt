@@ -7,7 +7,7 @@ use mathlib.Core.Option.{Option, none, some}
 use Prim.Native.Nat.{ℕ, zero, suc, _+_, _-_, _*_, _≤_, _<_}
 use lib.Dec.{leb, ltb, eqb}
 use Rattle.trace.specs.Trace.{Trace}
-use Rattle.theory.specs.Lists.{pick, iv, keep, place, lastOf, all-below, no-one, or-else, first, put}
+use Rattle.theory.specs.Lists.{pick, iv, keep, place, lastOf, all-below, no-one, ifSome, first, put}
 use Rattle.theory.specs.Events.{size, saves, sent, rcvd, sendOf, recvOf}
 use Rattle.theory.specs.Epochs.{Rule, epochAt, phaseAt, epochOf, phaseOf, loggedBy}
 
@@ -112,30 +112,27 @@ module _ (t : Trace) (rule : Rule) (cut : ℕ) where
       pub loss-free : LossFree (recorded l)
       pub top : (m : ℕ → ℕ) → Permitted m → LossFree (recorded m) → (z : ℕ) → z < t .procs → m z ≤ l z
 
-    -- ---- The same line by lowering: from the highest permitted line, as long as a message is lost, its sender goes down to the
-    -- last usable epoch that is not above the epoch of the send
-    unfoldable pub highest : ℕ → ℕ
-    highest z = pick (failed z) (lastOf (usable z) (current z)) 32
-
+  -- ---- The same line by lowering: from the highest permitted line, as long as a message is lost, its sender goes down to the last
+  -- usable epoch that is not above the epoch of the send
+  module _ (usable : ℕ → ℕ → Bool) where
     abbrev pub lower : (ℕ → ℕ) → ℕ → ℕ → ℕ → ℕ → ℕ
     lower l p q k = put l p (lastOf (usable p) (epochOf t rule p q k))
 
-    -- the first lost message of a channel, as the lowered line
+    -- for the first lost message by sender, receiver, number; none where nothing is lost
     abbrev pub lowerIf : (ℕ → ℕ) → ℕ → ℕ → ℕ → Option (ℕ → ℕ)
     lowerIf l p q k = pick (lost (recorded l) p q k) (some (lower l p q k)) none
 
     unfoldable pub lowered : (ℕ → ℕ) → Option (ℕ → ℕ)
     lowered l = first (λ p. first (λ q. first (λ k. lowerIf l p q k) (suc (size t))) (t .procs)) (t .procs)
 
-    abbrev pub onOr : (ℕ → ℕ) → Option (ℕ → ℕ) → ((ℕ → ℕ) → ℕ → ℕ) → ℕ → ℕ
-    onOr l none f = l
-    onOr l (some m) f = f m
-
     -- at most so many times
     unfoldable pub lowering : ℕ → (ℕ → ℕ) → ℕ → ℕ
     lowering zero l = l
-    lowering (suc c) l = onOr l (lowered l) (λ m. lowering c m)
+    lowering (suc c) l = ifSome (lowered l) l (λ m. lowering c m)
+
+    unfoldable pub highest : (ℕ → Bool) → ℕ → ℕ
+    highest failed z = pick (failed z) (lastOf (usable z) (current z)) 32
 
     -- each lowering takes at least 1 from a number of at most 32
-    unfoldable pub greatestLine : ℕ → ℕ
-    greatestLine = lowering (32 * t .procs) highest
+    unfoldable pub greatestLine : (ℕ → Bool) → ℕ → ℕ
+    greatestLine failed = lowering (32 * t .procs) (highest failed)

@@ -43,6 +43,11 @@ unfoldable pub all-below : ℕ → (ℕ → Bool) → Bool
 all-below zero f = true
 all-below (suc n) f = f n && all-below n f
 
+-- what f makes of the value that is there, or else b
+abbrev pub ifSome : {A B : Type 0} → Option A → B → (A → B) → B
+ifSome none b f = b
+ifSome (some a) b f = f a
+
 -- the first of two that is there; the first of f 0 .. f (n - 1) that is there
 abbrev pub or-else : {A : Type 0} → Option A → Option A → Option A
 or-else none b = b

@@ -6,7 +6,7 @@ use mathlib.Core.Option.{Option, none, some, bind}
 use Prim.Native.Nat.{ℕ, zero, suc, _+_, _-_, _*_, _/_, _%_}
 use lib.ListN.{length}
 use lib.Dec.{ltb}
-use Rattle.theory.specs.Lists.{pick, all-below, or-else, first}
+use Rattle.theory.specs.Lists.{pick, all-below, ifSome, or-else, first}
 use Rattle.theory.specs.Line.{Run}
 use Rattle.theory.specs.Replay.{Choice, process, hand, State, step, start}
 
@@ -16,7 +16,7 @@ choiceOf c = pick (ltb c 64) (some (process c)) (pick (ltb c 4160) (some (hand (
 
 -- an order is carried out, or refused at the place of its first choice that is not allowed
 pub data Outcome : Type 0 where
-  done : State → Outcome
+  carriedOut : State → Outcome
   refused : ℕ → Outcome
 
 abbrev pub isNone : {A : Type 0} → Option A → Bool
@@ -31,14 +31,10 @@ module _ (R : Run) where
   abbrev pub Allowed : State → ℕ → Type 0
   Allowed s c = (t : State) × (choose s c ≡ some t)
 
-  abbrev pub onward : Option State → ℕ → (State → Outcome) → Outcome
-  onward none i f = refused i
-  onward (some t) i f = f t
-
   -- "each later one finds what the one before it left, and nothing else changes it"; the first choice has place i
   unfoldable pub carry : State → ℕ → List ℕ → Outcome
-  carry s i [] = done s
-  carry s i (c ∷ cs) = onward (choose s c) i (λ t. carry t (suc i) cs)
+  carry s i [] = carriedOut s
+  carry s i (c ∷ cs) = ifSome (choose s c) (refused i) (λ t. carry t (suc i) cs)
 
   unfoldable pub run : List ℕ → Outcome
   run order = carry (start R) 1 order
@@ -65,11 +61,7 @@ module _ (R : Run) where
       let n = R .trace .procs in
       or-else (first (λ z. named z (choose s z)) n) (first (λ p. first (λ q. named (64 + 64 * p + q) (choose s (64 + 64 * p + q))) n) n)
 
-  abbrev pub after : Option (ℕ × State) → (State → List ℕ) → List ℕ
-  after none f = []
-  after (some r) f = r .0 ∷ f (r .1)
-
   -- "the order that always picks the lowest allowed choice", of at most n choices
   unfoldable pub lowestFrom : ℕ → State → List ℕ
   lowestFrom zero s = []
-  lowestFrom (suc n) s = after (lowest s) (λ t. lowestFrom n t)
+  lowestFrom (suc n) s = ifSome (lowest s) [] (λ r. r .0 ∷ lowestFrom n (r .1))
