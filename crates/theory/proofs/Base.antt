@@ -9,7 +9,7 @@ use native.Mathlib.Omega.{arith}
 use lib.ListN.{length, length-append, length-map}
 use lib.Dec.{leb, ltb, eqb}
 use borrow.Author.Tests.{leb-true, leb-false, ltb-true, ltb-false, eqb-true, eqb-false, lt-ltb, le-ltb, le-leb, lt-leb, eq-eqb, ne-eqb}
-use Rattle.theory.specs.Lists.{pick, iv, keep, cnt, place, lastOf, no-one, all-below, or-else, first}
+use Rattle.theory.specs.Lists.{pick, iv, keep, cnt, place, lastOf, has, no-one, all-below, or-else, first}
 
 -- ---- Cases
 
@@ -50,11 +50,6 @@ same-bool false true f g = g refl
 same-bool false false f g = refl
 
 -- ---- Lists and intervals
-
--- is a number in the list
-unfoldable pub has : ℕ → List ℕ → Bool
-has k [] = false
-has k (x ∷ xs) = eqb k x || has k xs
 
 pub keep-append : (f : ℕ → Bool) (xs ys : List ℕ) → keep f (xs ++ ys) ≡ keep f xs ++ keep f ys
 unfolding keep

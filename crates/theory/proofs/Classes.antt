@@ -15,7 +15,7 @@ use Rattle.theory.specs.Line.{Run, sentBefore, sentAfter, received, rece
 use Rattle.theory.specs.Replay.{keptOn}
 use Rattle.theory.specs.Laws.{Laws}
 use Rattle.theory.proofs.Base.{by, on, clash, le?, both, same-bool, cnt-lt, place-by, place-there, iv-split, keep-append, keep-iv-cong, keep-iv-none}
-use Rattle.theory.proofs.Events.{sent-le, rcvd-le, send-of, sendOf-at}
+use Rattle.theory.proofs.Events.{sends-is, sent-le, rcvd-le, send-of, sendOf-at}
 
 -- ---- Tests
 
@@ -74,6 +74,16 @@ module _ (R : Run) where
 
     pub r-le : (p q : ℕ) → rBefore p q ≤ rCut p q
     r-le p q = rcvd-le (R .trace) p q (R .restart q) (R .cut) (L .restart-le q)
+
+    pub s-le : (p q : ℕ) → sBefore p q ≤ sent (R .trace) p q (size (R .trace))
+    s-le p q = sent-le (R .trace) p q (R .restart p) (size (R .trace)) (restart-n p)
+
+    -- a message that is sent is one between processes of the run
+    pub in-run : (p q k : ℕ) → 0 < k → k ≤ sent (R .trace) p q (size (R .trace)) → (p < R .trace .procs) × (q < R .trace .procs)
+    in-run p q k a b =
+        let d = send-of (R .trace) p q k (size (R .trace)) a b in
+        let w = sends-is (R .trace) p q (d .0) (d .3) in
+        (omega (arith, L .process-lt (d .0) (d .1) (d .2), w .0), L .peer-lt (d .0) q (d .1) (d .2) (w .1))
 
     -- no class has number 0
     low : (k r : ℕ) → ltb 0 k ≡ false → leb k r ≡ true
@@ -175,6 +185,29 @@ module _ (R : Run) where
         let c : leb k (sBefore p q) ≡ true = le-leb k (sBefore p q) (l .before) in
         lost-counts p q k ∙ rw (a, b, c, l .unlogged)
 
+    -- each class is of messages of the run
+    abbrev pub InRun : ℕ → ℕ → ℕ → Type 0
+    InRun p q k = (p < R .trace .procs) × (q < R .trace .procs) × (0 < k) × (k ≤ sent (R .trace) p q (size (R .trace)))
+
+    within : (p q k : ℕ) → 0 < k → k ≤ sent (R .trace) p q (size (R .trace)) → InRun p q k
+    within p q k a b = let r = in-run p q k a b in (r .0, r .1, a, b)
+
+    pub lost-within : (p q k : ℕ) → lost R p q k ≡ true → InRun p q k
+    lost-within p q k h = let l = lost-is p q k h in within p q k (omega (arith, l .after)) (omega (arith, l .before, s-le p q))
+
+    pub orphan-within : (p q k : ℕ) → orphan R p q k ≡ true → InRun p q k
+    orphan-within p q k h =
+        let a = both (ltb (sBefore p q) k) (leb k (rBefore p q)) (sym (orphan-counts p q k) ∙ h) in
+        let b = rcvd-le (R .trace) p q (R .restart q) (size (R .trace)) (restart-n q) in
+        within p q k (omega (arith, ltb-true (sBefore p q) k (a .0)))
+        (omega (arith, leb-true k (rBefore p q) (a .1), L .causal p q (size (R .trace)) (omega arith)))
+
+    pub kept-within : (p q k : ℕ) → kept R p q k ≡ true → InRun p q k
+    kept-within p q k h =
+        let a = both (leb k (sBefore p q)) _ (sym (kept-counts p q k) ∙ h) in
+        let b = both (ltb (rBefore p q) k) _ (a .1) in
+        within p q k (omega (arith, ltb-true (rBefore p q) k (b .0))) (omega (arith, leb-true k (sBefore p q) (a .0), s-le p q))
+
     pub no-loss : LossFree R → NoLoss
     no-loss f p q k l = clash (is-lost p q k l) (f p q k)
 
@@ -187,7 +220,7 @@ module _ (R : Run) where
     kept-list p q =
         let sb = sBefore p q in
         let sn = sent (R .trace) p q (size (R .trace)) in
-        let a : sb ≤ sn = sent-le (R .trace) p q (R .restart p) (size (R .trace)) (restart-n p) in
+        let a : sb ≤ sn = s-le p q in
         let z : 0 + sb ≡ sb = omega arith in
         let low : keep (kept R p q) (iv 0 sb) ≡ keep (keptb p q) (iv 0 sb) = keep-iv-cong (kept R p q) (keptb p q) 0 sb
         (λ y u v. let w : leb y sb ≡ true = le-leb y sb (omega arith) in kept-counts p q y ∙ rw w) in

@@ -10,12 +10,12 @@ use native.Mathlib.Omega.{arith}
 use lib.ListN.{length, length-append, length-map}
 use lib.Dec.{leb, ltb, eqb}
 use borrow.Author.Tests.{leb-true, leb-false, ltb-true, ltb-false, lt-ltb, le-ltb, le-leb, lt-leb}
-use Rattle.theory.specs.Lists.{pick, iv, keep, cnt}
+use Rattle.theory.specs.Lists.{pick, iv, keep, cnt, has}
 use Rattle.theory.specs.Events.{sendTo, recvFrom, size, at, kind, sends, recvs, sent, rcvd}
 use Rattle.theory.specs.Line.{Run}
 use Rattle.theory.specs.Replay.{State, listed, takenBy, keptOn, start, entry, delivered, faultless, SameRecord}
 use Rattle.theory.specs.Laws.{Laws}
-use Rattle.theory.proofs.Base.{by, on, clash, le?, false-or, iv-append, keep-append, keep-iv-cong, keep-above, Each, each-map, each-keep-iv, keep-keep, cnt-iv, map-cnt, length-iv, has, has-append, has-keep, has-keep-not, has-iv, has-iv-not}
+use Rattle.theory.proofs.Base.{by, on, clash, le?, false-or, iv-append, keep-append, keep-iv-cong, keep-above, Each, each-map, each-keep-iv, keep-keep, cnt-iv, map-cnt, length-iv, has-append, has-keep, has-keep-not, has-iv, has-iv-not}
 use Rattle.theory.proofs.Events.{sends-split, recvs-split, sent-le, rcvd-le}
 use Rattle.theory.proofs.Classes.{rBefore, rCut, sBefore, Lost, NoLoss, keptb, Kept, restart-n, r-le, kept-list}
 use Rattle.theory.proofs.Flow.{ahead, flow, toTake, receipts, Inv, inv-step, Reach, here, next}

@@ -40,13 +40,13 @@ line-of es cut set = greatestLine (two es) past cut (reached (two es) past cut) 
 
 -- the order is refused at a place; it is complete, and its record is that of the run without failure, or is not
 abbrev stops : Run → List ℕ → ℕ → Bool
-stops R order i = eqb (placeOf R (run R order)) i
+stops R order i = eqb (placeOf (run R order)) i
 
 abbrev completes : Run → List ℕ → Bool
-completes R order = leaves R (λ s. isNone (lowest R s) && sameRecord R s) (run R order)
+completes R order = leaves (λ s. isNone (lowest R s) && sameRecord R s) (run R order)
 
 abbrev differs : Run → List ℕ → Bool
-differs R order = leaves R (λ s. isNone (lowest R s) && not (sameRecord R s)) (run R order)
+differs R order = leaves (λ s. isNone (lowest R s) && not (sameRecord R s)) (run R order)
 
 -- exactly one orphan, from 0 to 1 with number 1, of a phase
 abbrev only-orphan : List Listed → ℕ → Bool

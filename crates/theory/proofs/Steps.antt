@@ -19,8 +19,7 @@ use Rattle.theory.specs.Line.{Run}
 use Rattle.theory.specs.Replay.{Choice, process, hand, State, listed, keptOn, start, step}
 use Rattle.theory.specs.Laws.{Laws}
 use Rattle.theory.proofs.Base.{by, on, clash, le?, eqb-self, cnt-iv, cnt-le, keep-length, length-iv, sum, sum-cong, sum-zero, sum-le, sum-add, sum-down}
-use Rattle.theory.proofs.Events.{sends-is, send-of}
-use Rattle.theory.proofs.Classes.{sBefore, keptb, Kept, restart-n, kept-list}
+use Rattle.theory.proofs.Classes.{sBefore, keptb, Kept, restart-n, s-le, in-run, kept-list}
 use Rattle.theory.proofs.Flow.{Did, did-other, did-send, did-recv, did-hand, view, at-head, Inv, Reach, here, next}
 use Rattle.theory.proofs.Loss.{inv}
 
@@ -81,16 +80,8 @@ module _ (R : Run) where
         let r = at-head R s (i .cursors) z e es h in
         omega (arith, L .process-lt e (omega (arith, r .0)) (r .1), r .2)
 
-    pub sent-in : (p q k : ℕ) → 0 < k → k ≤ sBefore R p q → (p < R .trace .procs) × (q < R .trace .procs)
-    sent-in p q k a b =
-        let d = send-of (R .trace) p q k (R .restart p) a b in
-        let e = d .0 in
-        let w = sends-is (R .trace) p q e (d .3) in
-        let n : e ≤ size (R .trace) = omega (arith, d .2, restart-n R L p) in
-        (omega (arith, L .process-lt e (d .1) n, w .0), L .peer-lt e q (d .1) n (w .1))
-
     pub hand-in : (p q m : ℕ) → Kept R p q m → (p < R .trace .procs) × (q < R .trace .procs)
-    hand-in p q m k = sent-in p q m (k .0) (k .1)
+    hand-in p q m k = in-run R L p q m (k .0) (omega (arith, k .1, s-le R L p q))
 
     todo-down : (f : ℕ → List ℕ) (z e : ℕ) (es : List ℕ) → f z ≡ e ∷ es → z < R .trace .procs
         → sum (R .trace .procs) (λ x. length (f x)) ≡ suc (sum (R .trace .procs) (λ x. length (put f z es x)))

@@ -1,16 +1,14 @@
 -- What an answer holds, as it can be computed: sets, lines, lists of messages, records compared, orders judged.
-use mathlib.Core.Bool.{Bool, true, false, _&&_, not}
+use mathlib.Core.Bool.{Bool, true, false, _&&_, _||_}
 use mathlib.Core.List.{List, [], _∷_, _++_, map}
-use mathlib.Core.Option.{Option, none, some}
 use Prim.Native.Nat.{ℕ, zero, suc, _+_, _/_, _%_, _^_}
-use lib.ListN.{length, getD}
+use lib.ListN.{getD}
 use lib.Dec.{eqb}
-use Rattle.trace.specs.Trace.{Trace}
-use Rattle.theory.specs.Lists.{pick, iv, keep, all-below}
+use Rattle.theory.specs.Lists.{iv, keep, no-one, all-below}
 use Rattle.theory.specs.Events.{size, sent}
 use Rattle.theory.specs.Line.{Run, lost, orphan, kept, orphanPhase}
 use Rattle.theory.specs.Replay.{State, start, delivered, faultless}
-use Rattle.theory.specs.Order.{Outcome, carriedOut, refused, isNone, lowest, lowestFrom, run}
+use Rattle.theory.specs.Order.{Outcome, carriedOut, refused, lowestFrom}
 
 -- "M a 64-bit number in decimal whose bit z says that zone z failed"
 abbrev pub inSet : ℕ → ℕ → Bool
@@ -39,6 +37,20 @@ samePairs [] (y ∷ ys) = false
 samePairs (x ∷ xs) [] = false
 samePairs (x ∷ xs) (y ∷ ys) = eqb (x .0) (y .0) && (eqb (x .1) (y .1) && samePairs xs ys)
 
+-- does a list name message k from p to q
+unfoldable pub names : ℕ → ℕ → ℕ → List Listed → Bool
+names p q k [] = false
+names p q k (m ∷ ms) = (eqb p (m .from) && (eqb q (m .to) && eqb k (m .number))) || names p q k ms
+
+-- an order: the place where it is refused, or 0; whether it is carried out and the state it leaves passes a test
+abbrev pub placeOf : Outcome → ℕ
+placeOf (carriedOut s) = 0
+placeOf (refused i) = i
+
+abbrev pub leaves : (State → Bool) → Outcome → Bool
+leaves f (carriedOut s) = f s
+leaves f (refused i) = false
+
 module _ (R : Run) where
   -- the messages that pass a test, "by sender, receiver, number"
   unfoldable pub messages : (ℕ → ℕ → ℕ → Bool) → (ℕ → ℕ → ℕ → ℕ) → List Listed
@@ -55,18 +67,13 @@ module _ (R : Run) where
   abbrev pub lostOnes : List Listed
   lostOnes = messages (lost R) (R .carries)
 
+  -- is no message lost
+  unfoldable pub lossFree : Bool
+  lossFree = all-below (R .trace .procs) (λ p. all-below (R .trace .procs) (λ q. no-one (lost R p q) (iv 0 (sent (R .trace) p q (size (R .trace))))))
+
   -- are the records of a replay and of the run without failure equal, on every channel of the run
   unfoldable pub sameRecord : State → Bool
   sameRecord s = all-below (R .trace .procs) (λ p. all-below (R .trace .procs) (λ q. samePairs (delivered R s p q) (faultless R p q)))
-
-  -- an order: the place where it is refused, or 0; whether it is carried out and the state it leaves passes a test
-  abbrev pub placeOf : Outcome → ℕ
-  placeOf (carriedOut s) = 0
-  placeOf (refused i) = i
-
-  abbrev pub leaves : (State → Bool) → Outcome → Bool
-  leaves f (carriedOut s) = f s
-  leaves f (refused i) = false
 
   -- the order of lowest allowed choices; no order is longer than twice the number of events
   abbrev pub lowestOrder : List ℕ

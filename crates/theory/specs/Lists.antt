@@ -34,6 +34,11 @@ unfoldable pub lastOf : (ℕ → Bool) → ℕ → ℕ
 lastOf f zero = 0
 lastOf f (suc x) = pick (f (suc x)) (suc x) (lastOf f x)
 
+-- is a number in the list
+unfoldable pub has : ℕ → List ℕ → Bool
+has k [] = false
+has k (x ∷ xs) = eqb k x || has k xs
+
 -- does no number of a list pass a test; do all numbers below n
 unfoldable pub no-one : (ℕ → Bool) → List ℕ → Bool
 no-one f [] = true
