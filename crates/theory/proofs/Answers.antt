@@ -12,13 +12,13 @@ use borrow.Author.Tests.{leb-true, leb-false, ltb-true, eqb-true, eqb-false, eq-
 use Rattle.theory.specs.Lists.{pick, iv, keep, has, no-one, all-below}
 use Rattle.theory.specs.Events.{Kind, send, recv, other, size, at, kind, sends, recvs, sent, rcvd, sendOf}
 use Rattle.theory.specs.Line.{Run, sentAfter, lost, orphan, kept, orphanPhase, LossFree}
-use Rattle.theory.specs.Replay.{State, listed, resends, ready, start, delivered, faultless, takenBy, SameRecord}
+use Rattle.theory.specs.Replay.{State, sentAgain, resends, ready, start, delivered, faultless, takenBy, SameRecord}
 use Rattle.theory.specs.Answers.{Listed, gather, samePairs, names, messages, orphans, keptOnes, lostOnes, lossFree, sameRecord}
 use Rattle.theory.specs.Laws.{Laws}
-use Rattle.theory.proofs.Base.{by, on, clash, le?, both, same-bool, eqb-self, has-append, has-iv, has-iv-not, all-true, all-at, Each, each-keep-iv}
+use Rattle.theory.proofs.Base.{by, on, clash, le?, both, or-right, same-bool, eqb-self, has-keep-is, has-iv, no-one-at, no-one-all, find-has, all-true, all-at}
 use Rattle.theory.proofs.Events.{sends-is, sends-of, send-of, sendOf-at}
 use Rattle.theory.proofs.Classes.{in-run, lost-within, orphan-within, kept-within}
-use Rattle.theory.proofs.Flow.{flow, Cursors, Inv}
+use Rattle.theory.proofs.Flow.{flow, Cursors, todo-at, resends-of, Inv}
 use Rattle.theory.proofs.Loss.{taken-iv}
 use Rattle.theory.proofs.Counters.{through, flow-keep}
 
@@ -30,10 +30,6 @@ item ph a b j = record { from = a; to = b; number = j; phase = ph a b j }
 or-is : (a b : Bool) → (a || b) ≡ true → (a ≡ true) ⊎ (b ≡ true)
 or-is true b h = inl refl
 or-is false b h = inr h
-
-or-right : (a b : Bool) → b ≡ true → (a || b) ≡ true
-or-right true b h = refl
-or-right false b h = h
 
 names-append : (p q k : ℕ) (xs ys : List Listed) → names p q k (xs ++ ys) ≡ (names p q k xs || names p q k ys)
 unfolding names
@@ -62,37 +58,6 @@ names-map ph p q k a b [] = by (eqb p a && eqb q b) (λ u. rw u) (λ u. rw u)
 names-map ph p q k a b (x ∷ xs) = by (eqb p a)
     (λ u. by (eqb q b) (λ v. rw (u, v, names-map ph p q k a b xs, u, v)) (λ v. rw (u, v, names-map ph p q k a b xs, u, v)))
     (λ u. rw (u, names-map ph p q k a b xs, u))
-
-has-keep-is : (k : ℕ) (f : ℕ → Bool) (l : List ℕ) → has k (keep f l) ≡ (f k && has k l)
-unfolding has keep
-has-keep-is k f [] = by (f k) (λ u. rw u) (λ u. rw u)
-has-keep-is k f (x ∷ xs) =
-    let ih = has-keep-is k f xs in
-    by (eqb k x)
-    (λ u. let e : x ≡ k = sym (eqb-true k x u) in
-    by (f k) (λ v. let w : f x ≡ true = rw e v in rw (w, u, v)) (λ v. let w : f x ≡ false = rw e v in rw (w, ih, v)))
-    (λ u. by (f x) (λ v. rw (v, u) ih) (λ v. rw (v, u) ih))
-
-no-one-at : (f : ℕ → Bool) (l : List ℕ) (k : ℕ) → no-one f l ≡ true → has k l ≡ true → f k ≡ false
-unfolding no-one has
-no-one-at f [] k h u = clash {b = false} u refl
-no-one-at f (x ∷ xs) k h u =
-    let b = both (not (f x)) (no-one f xs) h in
-    by (eqb k x)
-    (λ v. let e : k ≡ x = eqb-true k x v in rw e (by (f x) (λ w. clash {b = false} (rw w at (b .0)) refl) (λ w. w)))
-    (λ v. no-one-at f xs k (b .1) (rw v at u))
-
-no-one-all : (f : ℕ → Bool) (l : List ℕ) → ((x : ℕ) → f x ≡ false) → no-one f l ≡ true
-unfolding no-one
-no-one-all f [] h = refl
-no-one-all f (x ∷ xs) h = rw (h x) (no-one-all f xs h)
-
-find-has : (f : ℕ → Bool) (l : List ℕ) → no-one f l ≡ false → (e : ℕ) × (has e l ≡ true) × (f e ≡ true)
-unfolding no-one has
-find-has f [] h = clash {b = true} refl h
-find-has f (x ∷ xs) h = by (f x)
-    (λ u. (x, rw (eqb-self x), u))
-    (λ u. let r = find-has f xs (rw u at h) in (r .0, or-right (eqb (r .0) x) (has (r .0) xs) (r .1), r .2))
 
 -- ---- Records
 
@@ -157,29 +122,6 @@ module _ (R : Run) where
   unfolding resends
   resends-is r z q e k a b c d = rw (a, b, c, d)
 
-  -- an event that sends an orphan again
-  resends-of : (r z e : ℕ) (k : Kind) → resends R r z e k ≡ true
-      → (q : ℕ) × (k ≡ send q) × (orphan R z q (sent (R .trace) z q e) ≡ true) × (orphanPhase R z q (sent (R .trace) z q e) ≤ r)
-  unfolding resends
-  resends-of r z e (send q) h =
-      let b = both (orphan R z q (sent (R .trace) z q e)) (leb (orphanPhase R z q (sent (R .trace) z q e)) r) h in
-      (q, refl, b .0, leb-true (orphanPhase R z q (sent (R .trace) z q e)) r (b .1))
-  resends-of r z e (recv p) h = clash {b = false} h refl
-  resends-of r z e other h = clash {b = false} h refl
-
-  -- an event that a process has still to do
-  todo-at : (s : State) → Cursors R s → (z e : ℕ) → has e (s .todo z) ≡ true → (at (R .trace) e ≡ z) × (0 < e) × (e ≤ size (R .trace))
-  unfolding listed
-  todo-at s c z e h =
-      let x = c .upTo z in
-      let d = size (R .trace) - x in
-      let a : has e (keep (λ e. eqb z (at (R .trace) e)) (iv x d)) ≡ true = rw (← c .todo-is z) h in
-      let b = both (eqb z (at (R .trace) e)) (has e (iv x d)) (sym (has-keep-is e (λ e. eqb z (at (R .trace) e)) (iv x d)) ∙ a) in (
-        sym (eqb-true z (at (R .trace) e) (b .0)),
-        on (le? e x) (λ u. clash (b .1) (has-iv-not e x d (inl u))) (λ u. omega arith),
-        on (le? e (x + d)) (λ u. omega (arith, c .within z)) (λ u. clash (b .1) (has-iv-not e x d (inr u))),
-      )
-
   module _ (L : Laws R) where
     pub orphans-name : (p q k : ℕ) → names p q k (orphans R) ≡ orphan R p q k
     orphans-name = messages-name (orphan R) (orphanPhase R) (orphan-within R L)
@@ -229,10 +171,6 @@ module _ (R : Run) where
 
     -- ---- Ready
 
-    -- an orphan has been sent again: its send is no longer to do
-    abbrev pub SentAgain : State → ℕ → ℕ → ℕ → Type 0
-    SentAgain s p q k = has (sendOf (R .trace) p q k) (s .todo p) ≡ false
-
     orphan-send : (p q k : ℕ) → orphan R p q k ≡ true
         → let e = sendOf (R .trace) p q k in (sends (R .trace) p q e ≡ true) × (sent (R .trace) p q e ≡ k)
     orphan-send p q k h =
@@ -241,28 +179,32 @@ module _ (R : Run) where
         let e : sendOf (R .trace) p q k ≡ d .0 = ap (sendOf (R .trace) p q) (sym (d .4)) ∙ sendOf-at (R .trace) p q (d .0) (d .3) (d .1) (d .2) in
         rw e (d .3, d .4)
 
+    sent-again : (s : State) (p q k : ℕ) → has (sendOf (R .trace) p q k) (s .todo p) ≡ true → sentAgain R s p q k ≡ false
+    unfolding sentAgain
+    sent-again s p q k h = rw h
+
     pub ready-iff : (s : State) → Cursors R s → (r : ℕ)
-        → (ready R s r ≡ true) ↔ ((p q k : ℕ) → orphan R p q k ≡ true → orphanPhase R p q k ≤ r → SentAgain s p q k)
+        → (ready R s r ≡ true) ↔ ((p q k : ℕ) → orphan R p q k ≡ true → orphanPhase R p q k ≤ r → sentAgain R s p q k ≡ true)
     unfolding ready
     ready-iff s c r = (there, back)
       where
         there : all-below (R .trace .procs) (λ z. no-one (λ e. resends R r z e (kind (R .trace) e)) (s .todo z)) ≡ true
-            → (p q k : ℕ) → orphan R p q k ≡ true → orphanPhase R p q k ≤ r → SentAgain s p q k
-        there h p q k o l = by (has (sendOf (R .trace) p q k) (s .todo p))
+            → (p q k : ℕ) → orphan R p q k ≡ true → orphanPhase R p q k ≤ r → sentAgain R s p q k ≡ true
+        there h p q k o l = unfold sentAgain in by (has (sendOf (R .trace) p q k) (s .todo p))
             (λ u. let e = sendOf (R .trace) p q k in
             let d = orphan-send p q k o in
             let a = no-one-at (λ e. resends R r p e (kind (R .trace) e)) (s .todo p) e (all-at (R .trace .procs) _ h p ((orphan-within R L p q k o) .0)) u in
             let j : leb (orphanPhase R p q k) r ≡ true = le-leb (orphanPhase R p q k) r l in
             clash (resends-is r p q e k ((sends-is (R .trace) p q e (d .0)) .1) (d .1) o j) a)
-            (λ u. u)
+            (λ u. rw u)
 
-        back : ((p q k : ℕ) → orphan R p q k ≡ true → orphanPhase R p q k ≤ r → SentAgain s p q k)
+        back : ((p q k : ℕ) → orphan R p q k ≡ true → orphanPhase R p q k ≤ r → sentAgain R s p q k ≡ true)
             → all-below (R .trace .procs) (λ z. no-one (λ e. resends R r z e (kind (R .trace) e)) (s .todo z)) ≡ true
         back f = all-true (R .trace .procs) _ (λ z a. by (no-one (λ e. resends R r z e (kind (R .trace) e)) (s .todo z)) (λ u. u)
             (λ u. let g = find-has (λ e. resends R r z e (kind (R .trace) e)) (s .todo z) u in
             let e = g .0 in
-            let b = todo-at s c z e (g .1) in
-            let d = resends-of r z e (kind (R .trace) e) (g .2) in
+            let b = todo-at R s c z e (g .1) in
+            let d = resends-of R r z e (kind (R .trace) e) (g .2) in
             let q = d .0 in
-            let w = sendOf-at (R .trace) z q e (sends-of (R .trace) z q e (b .0) (d .1)) (b .1) (b .2) in
-            clash (g .1) (rw w at (f z q (sent (R .trace) z q e) (d .2) (d .3)))))
+            let w = sendOf-at (R .trace) z q e (sends-of (R .trace) z q e (b .2) (d .1)) (omega (arith, b .0)) (b .1) in
+            clash (f z q (sent (R .trace) z q e) (d .2) (d .3)) (sent-again s z q (sent (R .trace) z q e) (rw w (g .1)))))

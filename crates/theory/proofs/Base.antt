@@ -37,12 +37,13 @@ same2 a b c d e = let r = both (eqb a b) (eqb c d) e in (eqb-true a b (r .0), eq
 pub eqb-self : (a : ℕ) → eqb a a ≡ true
 eqb-self a = eq-eqb a a refl
 
+pub or-right : (a b : Bool) → b ≡ true → (a || b) ≡ true
+or-right true b h = refl
+or-right false b h = h
+
 pub false-or : (a b : Bool) → (a || b) ≡ false → a ≡ false
 false-or true b e = e
 false-or false b e = refl
-
-pub not-true : (b : Bool) → b ≡ false → not b ≡ true
-not-true b e = rw e
 
 pub same-bool : (a b : Bool) → (a ≡ true → b ≡ true) → (b ≡ true → a ≡ true) → a ≡ b
 same-bool true b f g = sym (f refl)
@@ -206,18 +207,21 @@ unfolding has
 has-append k [] ys = refl
 has-append k (x ∷ xs) ys = by (eqb k x) (λ e. rw e) (λ e. rw e (has-append k xs ys))
 
-pub has-keep : (k : ℕ) (f : ℕ → Bool) (l : List ℕ) → has k l ≡ false → has k (keep f l) ≡ false
+pub has-keep-is : (k : ℕ) (f : ℕ → Bool) (l : List ℕ) → has k (keep f l) ≡ (f k && has k l)
 unfolding has keep
-has-keep k f [] h = refl
-has-keep k f (x ∷ xs) h = by (eqb k x) (λ e. clash {b = true} refl (rw e at h)) (λ e. let ih = has-keep k f xs (rw e at h) in
-    by (f x) (λ t. rw (t, e) ih) (λ t. rw t ih))
+has-keep-is k f [] = by (f k) (λ u. rw u) (λ u. rw u)
+has-keep-is k f (x ∷ xs) =
+    let ih = has-keep-is k f xs in
+    by (eqb k x)
+    (λ u. let e : x ≡ k = sym (eqb-true k x u) in
+    by (f k) (λ v. let w : f x ≡ true = rw e v in rw (w, u, v)) (λ v. let w : f x ≡ false = rw e v in rw (w, ih, v)))
+    (λ u. by (f x) (λ v. rw (v, u) ih) (λ v. rw (v, u) ih))
+
+pub has-keep : (k : ℕ) (f : ℕ → Bool) (l : List ℕ) → has k l ≡ false → has k (keep f l) ≡ false
+has-keep k f l h = has-keep-is k f l ∙ by (f k) (λ u. rw (u, h)) (λ u. rw u)
 
 pub has-keep-not : (k : ℕ) (f : ℕ → Bool) (l : List ℕ) → f k ≡ false → has k (keep f l) ≡ false
-unfolding has keep
-has-keep-not k f [] h = refl
-has-keep-not k f (x ∷ xs) h =
-    let ih = has-keep-not k f xs h in
-    by (f x) (λ t. let n : eqb k x ≡ false = ne-eqb k x (λ q. clash t (rw q at h)) in rw (t, n) ih) (λ t. rw t ih)
+has-keep-not k f l h = has-keep-is k f l ∙ rw h
 
 pub has-iv-not : (k x d : ℕ) → (k ≤ x) ⊎ (x + d < k) → has k (iv x d) ≡ false
 unfolding has iv
@@ -410,10 +414,26 @@ all-at (suc n) f h z l =
     let b = both (f n) (all-below n f) h in
     on (le? n z) (λ a. let e : z ≡ n = omega arith in rw e (b .0)) (λ a. all-at n f (b .1) z a)
 
-pub find-in : (P : ℕ → Type 0) (f : ℕ → Bool) (l : List ℕ) → Each P l → no-one f l ≡ false → (e : ℕ) × P e × (f e ≡ true)
+pub no-one-at : (f : ℕ → Bool) (l : List ℕ) (k : ℕ) → no-one f l ≡ true → has k l ≡ true → f k ≡ false
+unfolding no-one has
+no-one-at f [] k h u = clash {b = false} u refl
+no-one-at f (x ∷ xs) k h u =
+    let b = both (not (f x)) (no-one f xs) h in
+    by (eqb k x)
+    (λ v. let e : k ≡ x = eqb-true k x v in rw e (by (f x) (λ w. clash {b = false} (rw w at (b .0)) refl) (λ w. w)))
+    (λ v. no-one-at f xs k (b .1) (rw v at u))
+
+pub no-one-all : (f : ℕ → Bool) (l : List ℕ) → ((x : ℕ) → f x ≡ false) → no-one f l ≡ true
 unfolding no-one
-find-in P f [] t h = clash {b = true} refl h
-find-in P f (x ∷ xs) t h = by (f x) (λ u. (x, t .0, u)) (λ u. find-in P f xs (t .1) (rw u at h))
+no-one-all f [] h = refl
+no-one-all f (x ∷ xs) h = rw (h x) (no-one-all f xs h)
+
+pub find-has : (f : ℕ → Bool) (l : List ℕ) → no-one f l ≡ false → (e : ℕ) × (has e l ≡ true) × (f e ≡ true)
+unfolding no-one has
+find-has f [] h = clash {b = true} refl h
+find-has f (x ∷ xs) h = by (f x)
+    (λ u. (x, rw (eqb-self x), u))
+    (λ u. let r = find-has f xs (rw u at h) in (r .0, or-right (eqb (r .0) x) (has (r .0) xs) (r .1), r .2))
 
 pub find-below : (n : ℕ) (f : ℕ → Bool) → all-below n f ≡ false → (z : ℕ) × (z < n) × (f z ≡ false)
 unfolding all-below

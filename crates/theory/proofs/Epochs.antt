@@ -17,7 +17,7 @@ use Rattle.theory.specs.Epochs.{Rule, Carried, Notes, joined, note, note
 use Rattle.theory.specs.Line.{Run, restartIn, recorded}
 use Rattle.theory.specs.Laws.{Laws}
 use Rattle.theory.proofs.Base.{by, on, clash, le?, both, eqb-self, cnt-suc, cnt-skip, place-le, place-is}
-use Rattle.theory.proofs.Events.{send-not-recv, sent-le, recvOf-at, Valid}
+use Rattle.theory.proofs.Events.{send-not-recv, send-no-save, sent-le, recvOf-at, Valid}
 
 -- ---- An event
 
@@ -158,14 +158,24 @@ module _ (t : Trace) (rule : Rule) where
       let v = send-event p q (eventAt t (suc x)) h in
       ap (λ n. n .carried p q (sent t p q (suc x))) (noted x (Send p q (v .0)) (v .1)) ∙ note-send (notes t rule x) (suc x) p q (v .0)
 
-  pub epochOf-send : (p q x : ℕ) → sends t p q (suc x) ≡ true → suc x ≤ size t → epochOf t rule p q (sent t p q (suc x)) ≡ epochAt t rule p x
+  epochOf-send : (p q x : ℕ) → sends t p q (suc x) ≡ true → suc x ≤ size t → epochOf t rule p q (sent t p q (suc x)) ≡ epochAt t rule p x
   epochOf-send p q x h l = ap (λ c. c .epoch) (carried-later p q (sent t p q (suc x)) (suc x) (size t) (omega arith) l ∙ carried-send p q x h)
+
+  pub epochOf-at : (p q d : ℕ) → sends t p q d ≡ true → 0 < d → d ≤ size t → epochOf t rule p q (sent t p q d) ≡ epochAt t rule p d
+  epochOf-at p q zero h a b = absurd (omega arith)
+  epochOf-at p q (suc x) h a b = omega (
+    arith,
+    epochOf-send p q x h (omega arith),
+    epoch-is x p,
+    epoch-is (suc x) p,
+    cnt-skip (saves t p) x (send-no-save t p q (suc x) h),
+  )
 
   send-same : (p q x : ℕ) → sends t p q (suc x) ≡ true → phaseAt t rule p (suc x) ≡ phaseAt t rule p x
   unfolding sends note
   send-same p q x h = let v = send-event p q (eventAt t (suc x)) h in ap (λ n. n .phases p) (noted x (Send p q (v .0)) (v .1))
 
-  phaseOf-send : (p q e : ℕ) → sends t p q e ≡ true → 0 < e → e ≤ size t → phaseOf t rule p q (sent t p q e) ≡ phaseAt t rule p e
+  pub phaseOf-send : (p q e : ℕ) → sends t p q e ≡ true → 0 < e → e ≤ size t → phaseOf t rule p q (sent t p q e) ≡ phaseAt t rule p e
   phaseOf-send p q zero h a b = absurd (omega arith)
   phaseOf-send p q (suc x) h a b =
       ap (λ c. c .phase) (carried-later p q (sent t p q (suc x)) (suc x) (size t) (omega arith) b ∙ carried-send p q x h) ∙ sym (send-same p q x h)
@@ -173,6 +183,15 @@ module _ (t : Trace) (rule : Rule) where
   recv-epoch : (p q x : ℕ) → recvs t p q (suc x) ≡ true → epochAt t rule q (suc x) ≡ epochAt t rule q x
   unfolding recvs note
   recv-epoch p q x h = ap (λ n. n .epochs q) (noted x (Recv q p) (recv-event p q (eventAt t (suc x)) h))
+
+  -- what the rule says of a message, by the epochs of its send d and its receive e
+  pub logged-is : (p q d e : ℕ) → sends t p q d ≡ true → recvs t p q e ≡ true → 0 < d → 0 < e → d ≤ size t → e ≤ size t → sent t p q d ≡ rcvd t p q e
+      → loggedBy t rule p q (sent t p q d) ≡ rule p q (sent t p q d) (epochAt t rule p d) (epochAt t rule q e)
+  unfolding loggedBy
+  logged-is p q d e u v a b m n i =
+      let k = sent t p q d in
+      let j : recvOf t p q k ≡ e = ap (recvOf t p q) i ∙ recvOf-at t p q e v b n in
+      ap (λ x. rule p q k x (epochAt t rule q (recvOf t p q k))) (epochOf-at p q d u a m) ∙ ap (λ x. rule p q k (epochAt t rule p d) (epochAt t rule q x)) j
 
   -- ---- What a receive finds
 
@@ -184,7 +203,7 @@ module _ (t : Trace) (rule : Rule) where
     found = carried-later p q (rcvd t p q (suc x)) x (size t) (omega (arith, sent-same p q x no-send, A .causal p q (suc x) l)) (omega arith)
 
     -- the epoch of the receive
-    pub epoch-recv : epochAt t rule q (recvOf t p q (rcvd t p q (suc x))) ≡ epochAt t rule q x
+    epoch-recv : epochAt t rule q (recvOf t p q (rcvd t p q (suc x))) ≡ epochAt t rule q x
     epoch-recv = rw (recvOf-at t p q (suc x) h (omega arith) l) (recv-epoch p q x h)
 
     message : Carried
@@ -196,7 +215,7 @@ module _ (t : Trace) (rule : Rule) where
         ap (λ (c : Carried). rule p q (rcvd t p q (suc x)) (c .epoch) (epochAt t rule q (recvOf t p q (rcvd t p q (suc x))))) found
         ∙ ap (rule p q (rcvd t p q (suc x)) (message .epoch)) epoch-recv
 
-    phase-recv : phaseAt t rule q (suc x)
+    pub phase-recv : phaseAt t rule q (suc x)
         ≡ joined (loggedBy t rule p q (rcvd t p q (suc x))) (phaseAt t rule q x) (phaseOf t rule p q (rcvd t p q (suc x)))
     unfolding recvs message
     phase-recv =

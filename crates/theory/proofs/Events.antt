@@ -95,6 +95,12 @@ module _ (t : Trace) where
       let c : kind t d ≡ kind t e = ap (kind t) i in
       let z : _≡_ {A = ℕ} 0 1 = cc in omega arith
 
+  pub send-no-save : (p q d : ℕ) → sends t p q d ≡ true → saves t p d ≡ false
+  send-no-save p q d h = by (saves t p d) (λ u. absurd (send-not-save p q p d d h u refl)) (λ u. u)
+
+  pub recv-no-save : (p q e : ℕ) → recvs t p q e ≡ true → saves t q e ≡ false
+  recv-no-save p q e h = by (saves t q e) (λ u. absurd (recv-not-save p q q e e h u refl)) (λ u. u)
+
   -- ---- Messages by number
 
   pub sent-le : (p q x y : ℕ) → x ≤ y → sent t p q x ≤ sent t p q y
@@ -129,6 +135,15 @@ module _ (t : Trace) where
   pub recvOf-at : (p q e : ℕ) → recvs t p q e ≡ true → 0 < e → e ≤ size t → recvOf t p q (rcvd t p q e) ≡ e
   unfolding rcvd recvOf
   recvOf-at p q e h a b = place-at (recvs t p q) e (size t) h a b
+
+  -- the send of the message that a receive takes is before it
+  pub partner : ((p q x : ℕ) → x ≤ size t → rcvd t p q x ≤ sent t p q x) → (p q e : ℕ) → recvs t p q e ≡ true → 0 < e → e ≤ size t
+      → (d : ℕ) × (0 < d) × (d < e) × (sends t p q d ≡ true) × (sent t p q d ≡ rcvd t p q e)
+  partner c p q e r a b =
+      let l : 0 < rcvd t p q e = omega (arith, rcvd-lt p q 0 e r a) in
+      let f = send-of p q (rcvd t p q e) e l (c p q e b) in
+      let n : f .0 ≢ e = send-not-recv p q (f .0) e (f .3) r in
+      (f .0, f .1, omega (arith, f .2), f .3, f .4)
 
 -- ---- Well-formed traces
 

@@ -10,11 +10,11 @@ use native.Mathlib.Omega.{arith}
 use lib.ListN.{length, length-append}
 use lib.Dec.{leb, ltb, eqb}
 use borrow.Author.Tests.{leb-true, leb-false, eqb-true, lt-ltb, le-ltb, eq-eqb}
-use Rattle.theory.specs.Lists.{pick, iv, keep, cnt, put, put2}
+use Rattle.theory.specs.Lists.{pick, iv, keep, has, put, put2}
 use Rattle.theory.specs.Events.{Kind, send, recv, other, sendTo, recvFrom, size, at, kind, sends, recvs, sent, rcvd}
-use Rattle.theory.specs.Line.{Run}
-use Rattle.theory.specs.Replay.{Choice, process, hand, State, listed, takenBy, ready, gate, start, moved, joins, sending, taking, handing, sendStep, recvStep, eventStep, processStep, handStep, step}
-use Rattle.theory.proofs.Base.{by, on, clash, le?, both, same2, eqb-self, Each, keep-head}
+use Rattle.theory.specs.Line.{Run, orphan, orphanPhase}
+use Rattle.theory.specs.Replay.{Choice, process, hand, State, listed, takenBy, resends, ready, gate, start, moved, joins, sending, taking, handing, sendStep, recvStep, eventStep, processStep, handStep, step}
+use Rattle.theory.proofs.Base.{by, on, clash, le?, both, same2, eqb-self, Each, keep-head, has-keep-is, has-iv-not}
 use Rattle.theory.proofs.Classes.{rBefore, sBefore, keptb, Kept}
 
 module _ (R : Run) where
@@ -204,6 +204,29 @@ module _ (R : Run) where
   same-cursors s t c (did-recv {z = z} {e = e} {p = r} {m = m} {es = es} {ms = ms} h k l) i = next-cursors s t z e es h refl i
   same-cursors s t c (did-hand {p = a} {q = r} {m = m} {ms = ms} h) i =
       record { upTo = i .upTo; from = i .from; within = i .within; todo-is = i .todo-is }
+
+  -- an event that a process has still to do
+  pub todo-at : (s : State) (c : Cursors s) (z e : ℕ) → has e (s .todo z) ≡ true → (c .upTo z < e) × (e ≤ size (R .trace)) × (at (R .trace) e ≡ z)
+  unfolding listed
+  todo-at s c z e h =
+      let x = c .upTo z in
+      let d = size (R .trace) - x in
+      let a : has e (keep (λ e. eqb z (at (R .trace) e)) (iv x d)) ≡ true = rw (← c .todo-is z) h in
+      let b = both (eqb z (at (R .trace) e)) (has e (iv x d)) (sym (has-keep-is e (λ e. eqb z (at (R .trace) e)) (iv x d)) ∙ a) in (
+        on (le? e x) (λ u. clash (b .1) (has-iv-not e x d (inl u))) (λ u. u),
+        on (le? e (x + d)) (λ u. omega (arith, c .within z)) (λ u. clash (b .1) (has-iv-not e x d (inr u))),
+        sym (eqb-true z (at (R .trace) e) (b .0)),
+      )
+
+  -- an event that sends an orphan again
+  pub resends-of : (r z e : ℕ) (k : Kind) → resends R r z e k ≡ true
+      → (q : ℕ) × (k ≡ send q) × (orphan R z q (sent (R .trace) z q e) ≡ true) × (orphanPhase R z q (sent (R .trace) z q e) ≤ r)
+  unfolding resends
+  resends-of r z e (send q) h =
+      let b = both (orphan R z q (sent (R .trace) z q e)) (leb (orphanPhase R z q (sent (R .trace) z q e)) r) h in
+      (q, refl, b .0, leb-true (orphanPhase R z q (sent (R .trace) z q e)) r (b .1))
+  resends-of r z e (recv p) h = clash {b = false} h refl
+  resends-of r z e other h = clash {b = false} h refl
 
   -- the messages left to hand over are kept ones
   pub next-left : (s t : State) (c : Choice) → Did s c t → ((p q : ℕ) → Each (Kept R p q) (s .left p q)) → (p q : ℕ) → Each (Kept R p q) (t .left p q)

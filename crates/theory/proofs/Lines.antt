@@ -15,9 +15,9 @@ use Rattle.theory.specs.Epochs.{Rule, past, epochAt, epochOf, loggedBy}
 use Rattle.theory.specs.Line.{Run, lost, LossFree, restartIn, recorded, current, reached, Usable, Permitted}
 use Rattle.theory.specs.Laws.{Laws}
 use Rattle.theory.proofs.Base.{by, on, clash, le?, both, cnt-suc, cnt-skip, cnt-le, cnt-lt, cnt-bound, place-zero, place-cnt, place-le, place-mono, lastOf-le, lastOf-top}
-use Rattle.theory.proofs.Events.{sends-is, recvs-is, saves-is, send-not-save, recv-not-save, sent-le, rcvd-le, sent-lt, rcvd-lt, send-of, recv-of, recvOf-at, Valid}
+use Rattle.theory.proofs.Events.{sends-is, recvs-is, send-no-save, recv-no-save, sent-le, rcvd-le, sent-lt, rcvd-lt, send-of, recv-of, recvOf-at, Valid}
 use Rattle.theory.proofs.Classes.{Lost, lost-is, is-lost, rBefore, sBefore, rCut}
-use Rattle.theory.proofs.Epochs.{restart-cut, epoch-is, epochOf-send, epoch-recv, laws}
+use Rattle.theory.proofs.Epochs.{restart-cut, epoch-is, epochOf-at, logged-is, laws}
 
 module _ (t : Trace) (rule : Rule) (A : Valid t) (cut : ℕ) (cl : cut ≤ size t) where
   abbrev E : ℕ → ℕ → ℕ
@@ -79,12 +79,6 @@ module _ (t : Trace) (rule : Rule) (A : Valid t) (cut : ℕ) (cl : cut ≤ size 
       (λ u. let r : place (saves t z) (l z - 1) cut < x = rw (back-at l z (omega (arith, u .1, now-few z))) at h in
       place-before z x (l z) a ns (u .0) (u .1) r)
 
-  send-no-save : (p q d : ℕ) → sends t p q d ≡ true → saves t p d ≡ false
-  send-no-save p q d h = by (saves t p d) (λ u. absurd (send-not-save t p q p d d h u refl)) (λ u. u)
-
-  recv-no-save : (p q e : ℕ) → recvs t p q e ≡ true → saves t q e ≡ false
-  recv-no-save p q e h = by (saves t q e) (λ u. absurd (recv-not-save t p q q e e h u refl)) (λ u. u)
-
   -- a message that is lost, by the epochs of its send d and its receive e
   pub record ByEpochs (l : ℕ → ℕ) (p q k : ℕ) : Type 0 where
     pub d : ℕ
@@ -125,35 +119,24 @@ module _ (t : Trace) (rule : Rule) (A : Valid t) (cut : ℕ) (cl : cut ≤ size 
           e-recv = g .3;
           e-is = g .4;
           unlogged = x .unlogged;
-          below = before-restart l p (f .0) np (f .1) (send-no-save p q (f .0) (f .3)) (f .2);
-          above = after-restart l q (g .0) nq (g .1) (g .2) (recv-no-save p q (g .0) (g .3)) u;
+          below = before-restart l p (f .0) np (f .1) (send-no-save t p q (f .0) (f .3)) (f .2);
+          above = after-restart l q (g .0) nq (g .1) (g .2) (recv-no-save t p q (g .0) (g .3)) u;
         }
 
     pub epochs-lost : ByEpochs l p q k → lost (recorded t rule cut l) p q k ≡ true
     epochs-lost x = is-lost (recorded t rule cut l) L p q k (record {
       after = on (le? (x .e) (restartIn t cut l q))
-          (λ a. absurd (omega (arith, before-restart l q (x .e) nq (x .e-pos) (recv-no-save p q (x .e) (x .e-recv)) a, x .above)))
+          (λ a. absurd (omega (arith, before-restart l q (x .e) nq (x .e-pos) (recv-no-save t p q (x .e) (x .e-recv)) a, x .above)))
           (λ a. omega (arith, rcvd-lt t p q (restartIn t cut l q) (x .e) (x .e-recv) a, x .e-is));
       by-cut = omega (arith, rcvd-le t p q (x .e) cut (x .e-cut), x .e-is);
       before = on (le? (x .d) (restartIn t cut l p))
           (λ a. omega (arith, sent-le t p q (x .d) (restartIn t cut l p) a, x .d-is))
-          (λ a. absurd (omega (arith, after-restart l p (x .d) np (x .d-pos) (x .d-cut) (send-no-save p q (x .d) (x .d-send)) a, x .below)));
+          (λ a. absurd (omega (arith, after-restart l p (x .d) np (x .d-pos) (x .d-cut) (send-no-save t p q (x .d) (x .d-send)) a, x .below)));
       unlogged = x .unlogged;
     })
 
-  -- the epoch of a message is its sender's at the send, and in its receiver's epoch it is received
-  epochOf-at : (p q d : ℕ) → sends t p q d ≡ true → 0 < d → d ≤ cut → epochOf t rule p q (sent t p q d) ≡ E p d
-  epochOf-at p q zero h a b = absurd (omega arith)
-  epochOf-at p q (suc x) h a b = omega (
-    arith,
-    epochOf-send t rule p q x h (omega arith),
-    epoch-is t rule x p,
-    epoch-is t rule (suc x) p,
-    cnt-skip (saves t p) x (send-no-save p q (suc x) h),
-  )
-
   pub epoch-of : (l : ℕ → ℕ) (p q k : ℕ) (x : ByEpochs l p q k) → epochOf t rule p q k ≡ E p (x .d)
-  epoch-of l p q k x = ap (epochOf t rule p q) (sym (x .d-is)) ∙ epochOf-at p q (x .d) (x .d-send) (x .d-pos) (x .d-cut)
+  epoch-of l p q k x = ap (epochOf t rule p q) (sym (x .d-is)) ∙ epochOf-at t rule p q (x .d) (x .d-send) (x .d-pos) (omega (arith, x .d-cut))
 
   -- a lost message is one between processes of the trace, with a number of at most the events
   pub lost-in : (l : ℕ → ℕ) (p q k : ℕ) → lost (recorded t rule cut l) p q k ≡ true → (p < t .procs) × (q < t .procs) × (k < suc (size t))
@@ -228,8 +211,7 @@ module _ (t : Trace) (rule : Rule) (A : Valid t) (cut : ℕ) (cl : cut ≤ size 
 -- under document 01's rule a message that is not logged is received in no later epoch than it is sent in
 pub past-unlogged : (t : Trace) (A : Valid t) (cut : ℕ) (cl : cut ≤ size t) (l : ℕ → ℕ) (p q k : ℕ) (x : ByEpochs t past A cut cl l p q k)
     → epochAt t past q (x .e) ≤ epochAt t past p (x .d)
-unfolding loggedBy
 past-unlogged t A cut cl l p q k x =
-    let u = ltb-false (epochOf t past p q k) (epochAt t past q (recvOf t p q k)) (x .unlogged) in
-    let v : recvOf t p q k ≡ x .e = ap (recvOf t p q) (sym (x .e-is)) ∙ recvOf-at t p q (x .e) (x .e-recv) (x .e-pos) (omega (arith, x .e-cut)) in
-    omega (arith, rw v at u, epoch-of t past A cut cl l p q k x)
+    let n : (y : ℕ) → y ≤ cut → y ≤ size t = λ y h. omega arith in
+    let u = logged-is t past p q (x .d) (x .e) (x .d-send) (x .e-recv) (x .d-pos) (x .e-pos) (n (x .d) (x .d-cut)) (n (x .e) (x .e-cut)) (x .d-is ∙ sym (x .e-is)) in
+    ltb-false (epochAt t past p (x .d)) (epochAt t past q (x .e)) (sym u ∙ rw (x .d-is) (x .unlogged))

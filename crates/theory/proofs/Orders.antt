@@ -7,7 +7,7 @@ use mathlib.Core.List.{List, [], _∷_, _++_, map}
 use mathlib.Core.Option.{Option, none, some, bind, Option·some-injective, Option·none-ne-some}
 use Prim.Native.Nat.{ℕ, zero, suc, _+_, _-_, _*_, _/_, _%_, _≤_, _<_}
 use native.Mathlib.Omega.{arith}
-use lib.ListN.{length}
+use lib.ListN.{length, getD, take}
 use lib.Dec.{leb, ltb, eqb}
 use lib.Arith.{digits-div, digits-mod}
 use borrow.Author.Tests.{lt-ltb, le-ltb, ltb-true, ltb-false}
@@ -103,6 +103,27 @@ module _ (R : Run) where
   run-reaches order s h =
       let e : 0 + length order ≡ length order = omega arith in
       rw e at (reaches (start R) s 0 1 order here h)
+
+  -- an order that is refused at place i: the choices before it are carried out, and choice i is not allowed in what they leave
+  refused-at : (s : State) (i j : ℕ) (ns : List ℕ) → carry R s i ns ≡ refused j
+      → (m : ℕ) × (u : State) × (j ≡ i + m) × (m < length ns) × (carry R s i (take m ns) ≡ carriedOut u) × (choose R u (getD ns m 0) ≡ none)
+  unfolding carry
+  refused-at s i j [] h = absurd (let z : _≡_ {A = ℕ} 0 1 = cc in omega arith)
+  refused-at s i j (c ∷ ns) h = go (choose R s c) refl h (λ u k. refused-at u (suc i) j ns k)
+    where
+      go : (o : Option State) → choose R s c ≡ o → ifSome o (refused i) (λ u. carry R u (suc i) ns) ≡ refused j
+          → ((u : State) → carry R u (suc i) ns ≡ refused j
+          → (m : ℕ) × (v : State) × (j ≡ suc i + m) × (m < length ns) × (carry R u (suc i) (take m ns) ≡ carriedOut v) × (choose R v (getD ns m 0) ≡ none))
+          → (m : ℕ) × (v : State) × (j ≡ i + m) × (m < suc (length ns)) × (carry R s i (take m (c ∷ ns)) ≡ carriedOut v) × (choose R v (getD (c ∷ ns) m 0) ≡ none)
+      go none e k f = let q : j ≡ i = cc in (0, s, omega arith, omega arith, refl, e)
+      go (some u) e k f =
+          let r = f u k in
+          (suc (r .0), r .1, omega (arith, r .2), omega (arith, r .3), rw e (r .4), r .5)
+
+  pub run-refused : (order : List ℕ) (i : ℕ) → run R order ≡ refused i
+      → (m : ℕ) × (s : State) × (i ≡ suc m) × (m < length order) × (run R (take m order) ≡ carriedOut s) × (choose R s (getD order m 0) ≡ none)
+  unfolding run
+  run-refused order i h = let r = refused-at (start R) 1 i order h in (r .0, r .1, omega (arith, r .2), r .3, r .4, r .5)
 
   -- ---- Complete, as it can be tested
 

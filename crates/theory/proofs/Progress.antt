@@ -15,8 +15,8 @@ use Rattle.theory.specs.Events.{Kind, send, recv, other, sendTo, recvFro
 use Rattle.theory.specs.Line.{Run, sentAfter, orphan, orphanPhase}
 use Rattle.theory.specs.Replay.{Choice, process, hand, State, listed, resends, ready, gate, start, moved, sending, taking, handing, sendStep, recvStep, eventStep, processStep, handStep, step}
 use Rattle.theory.specs.Laws.{Laws}
-use Rattle.theory.proofs.Base.{by, on, clash, le?, both, eqb-self, iv-at, keep-length, keep-some, Begins, Each, each-keep-iv, length-iv, find-in, find-below}
-use Rattle.theory.proofs.Events.{sends-is, recvs-is, sends-of, recvs-of, send-not-recv, send-not-save, sent-le, rcvd-le, sent-lt, rcvd-lt, send-of, sendOf-at}
+use Rattle.theory.proofs.Base.{by, on, clash, le?, both, eqb-self, iv-at, keep-length, keep-some, Begins, Each, each-keep-iv, length-iv}
+use Rattle.theory.proofs.Events.{sends-is, recvs-is, sends-of, recvs-of, sent-le, partner}
 use Rattle.theory.proofs.Classes.{rBefore, rCut, sBefore, NoLoss, keptb, Kept, restart-n}
 use Rattle.theory.proofs.Flow.{ahead, flow, toTake, toTake-recv, receipts, Cursors, at-head, Inv}
 use Rattle.theory.proofs.Loss.{toTake-listed, ahead-listed, flow-all}
@@ -77,15 +77,6 @@ module _ (R : Run) where
       pub recv-left : (p z e : ℕ) → recvs (R .trace) p z e ≡ true → R .restart z < e → e ≤ size (R .trace) → C e → Kept R p z (rcvd (R .trace) p z e)
           → ready R s (R .carries p z (rcvd (R .trace) p z e)) ≡ false → CanStep s
 
-    -- the send of the message that a receive takes
-    partner : (p z e : ℕ) → recvs (R .trace) p z e ≡ true → 0 < e → e ≤ size (R .trace)
-        → (d : ℕ) × (0 < d) × (d < e) × (sends (R .trace) p z d ≡ true) × (sent (R .trace) p z d ≡ rcvd (R .trace) p z e)
-    partner p z e r a b =
-        let l : 0 < rcvd (R .trace) p z e = omega (arith, rcvd-lt (R .trace) p z 0 e r a) in
-        let f = send-of (R .trace) p z (rcvd (R .trace) p z e) e l (L .causal p z e b) in
-        let n : f .0 ≢ e = send-not-recv (R .trace) p z (f .0) e (f .3) r in
-        (f .0, f .1, omega (arith, f .2), f .3, f .4)
-
     module _ (C : ℕ → Type 0) (P : Pass C) where
       -- an event e in reach: its zone has not come to it
       unfoldable pub Go : ℕ → Type 0
@@ -111,7 +102,7 @@ module _ (R : Run) where
       go-recv b f z p e es le h c g k [] l [] j =
           let a = at-head R s (i .cursors) z e es h in
           let t = recvs-of (R .trace) p z e (a .2) k in
-          let d = partner p z e t (omega (arith, a .0)) (a .1) in
+          let d = partner (R .trace) (L .causal) p z e t (omega (arith, a .0)) (a .1) in
           let x = i .cursors .upTo p in
           let u : x < d .0 = on (le? (d .0) x)
           (λ v. absurd (omega (arith, sent-le (R .trace) p z (d .0) x v, d .4, rank p z e es h k, not-sent p z l j)))

@@ -12,13 +12,13 @@ use lib.Dec.{leb, ltb, eqb}
 use borrow.Author.Tests.{leb-true, leb-false, ltb-true, ltb-false, eqb-true, eqb-false, lt-ltb, le-ltb, le-leb, lt-leb, eq-eqb, ne-eqb}
 use Rattle.theory.specs.Lists.{pick, iv, keep, cnt, no-one, all-below}
 use Rattle.theory.specs.Events.{Kind, send, recv, other, sendTo, recvFrom, size, at, kind, sends, recvs, saves, sent, rcvd, sendOf}
-use Rattle.theory.specs.Line.{Run, sentAfter, orphan, orphanPhase}
+use Rattle.theory.specs.Line.{Run, sentAfter, receivedBefore, orphan, orphanPhase}
 use Rattle.theory.specs.Replay.{Choice, process, hand, State, listed, resends, ready, gate, start, moved, sending, taking, handing, sendStep, recvStep, eventStep, processStep, handStep, step}
 use Rattle.theory.specs.Laws.{Laws}
-use Rattle.theory.proofs.Base.{by, on, clash, le?, both, eqb-self, iv-at, keep-length, keep-some, Begins, Each, each-keep-iv, length-iv, find-in, find-below}
+use Rattle.theory.proofs.Base.{by, on, clash, le?, both, eqb-self, iv-at, keep-length, keep-some, Begins, Each, each-keep-iv, length-iv, find-has, find-below}
 use Rattle.theory.proofs.Events.{sends-is, recvs-is, sends-of, recvs-of, send-not-recv, send-not-save, sent-le, rcvd-le, sent-lt, rcvd-lt, send-of, sendOf-at}
 use Rattle.theory.proofs.Classes.{rBefore, rCut, sBefore, NoLoss, keptb, Kept, restart-n}
-use Rattle.theory.proofs.Flow.{ahead, flow, toTake, toTake-recv, receipts, Cursors, at-head, Inv}
+use Rattle.theory.proofs.Flow.{ahead, flow, toTake, toTake-recv, receipts, Cursors, at-head, todo-at, resends-of, Inv}
 use Rattle.theory.proofs.Loss.{toTake-listed, ahead-listed, flow-all}
 use Rattle.theory.proofs.Progress.{CanStep, Pass, Go, go, go-head}
 
@@ -55,38 +55,24 @@ module _ (R : Run) where
     abbrev Waits : ℕ → ℕ → ℕ → Type 0
     Waits r z e = (at (R .trace) e ≡ z) × (i .cursors .upTo z < e) × (e ≤ size (R .trace)) × (e ≤ R .cut) × (ph e ≤ r)
 
-    -- a send of an orphan that is still to do is one of before the cut, and the orphan's phase is its sender's
-    resends-is : (r z e : ℕ) (k : Kind) → kind (R .trace) e ≡ k → at (R .trace) e ≡ z → 0 < e → e ≤ size (R .trace) → resends R r z e k ≡ true
-        → (e ≤ R .cut) × (ph e ≤ r)
-    unfolding resends orphan sentAfter orphanPhase
-    resends-is r z e (send q) k a x y h =
-        let t = sends-of (R .trace) z q e a k in
-        let n = sent (R .trace) z q e in
-        let b = both (orphan R z q n) (leb (R .carries z q n) r) h in
-        let c = both (sentAfter R z q n) _ (b .0) in
-        let d = both (ltb (R .restart z) (sendOf (R .trace) z q n)) (leb (sendOf (R .trace) z q n) (R .cut)) (c .0) in
-        let w = sendOf-at (R .trace) z q e t x y in
-        let p = L .carries-send z q e t x y in
-        (omega (arith, leb-true (sendOf (R .trace) z q n) (R .cut) (d .1)), omega (arith, leb-true (R .carries z q n) r (b .1), ph-at z e a))
-    resends-is r z e (recv p) k a x y h = clash {b = false} h refl
-    resends-is r z e other k a x y h = clash {b = false} h refl
-
-    -- a phase that is not ready: the orphan that it waits for
+    -- a phase that is not ready: the orphan that it waits for. Its send is one of before the cut, and its phase is its sender's
     waits : (r : ℕ) → ready R s r ≡ false → (z : ℕ) × (e : ℕ) × Waits r z e
-    unfolding ready listed
+    unfolding ready orphan sentAfter orphanPhase
     waits r h =
         let zz = find-below (R .trace .procs) (λ z. no-one (λ e. resends R r z e (kind (R .trace) e)) (s .todo z)) h in
         let z = zz .0 in
-        let x = i .cursors .upTo z in
-        let n = size (R .trace) in
-        let a : Each (λ y. (x < y) × (y ≤ x + (n - x)) × (eqb z (at (R .trace) y) ≡ true)) (s .todo z) =
-        rw (i .cursors .todo-is z) (each-keep-iv (λ e. eqb z (at (R .trace) e)) x (n - x)) in
-        let f = find-in (λ y. (x < y) × (y ≤ x + (n - x)) × (eqb z (at (R .trace) y) ≡ true)) (λ e. resends R r z e (kind (R .trace) e)) (s .todo z) a (zz .2) in
+        let f = find-has (λ e. resends R r z e (kind (R .trace) e)) (s .todo z) (zz .2) in
         let e = f .0 in
-        let u : at (R .trace) e ≡ z = sym (eqb-true z (at (R .trace) e) (f .1 .2)) in
-        let v : e ≤ n = omega (arith, f .1 .1, i .cursors .within z) in
-        let o = resends-is r z e (kind (R .trace) e) refl u (omega (arith, f .1 .0)) v (f .2) in
-        (z, e, (u, f .1 .0, v, o .0, o .1))
+        let a = todo-at R s (i .cursors) z e (f .1) in
+        let o = resends-of R r z e (kind (R .trace) e) (f .2) in
+        let q = o .0 in
+        let n = sent (R .trace) z q e in
+        let t = sends-of (R .trace) z q e (a .2) (o .1) in
+        let c = both (sentAfter R z q n) (receivedBefore R z q n) (o .2) in
+        let d = both (ltb (R .restart z) (sendOf (R .trace) z q n)) (leb (sendOf (R .trace) z q n) (R .cut)) (c .0) in
+        let w = sendOf-at (R .trace) z q e t (omega (arith, a .0)) (a .1) in
+        let p = L .carries-send z q e t (omega (arith, a .0)) (a .1) in
+        (z, e, (a .2, a .0, a .1, omega (arith, leb-true (sendOf (R .trace) z q n) (R .cut) (d .1)), omega (arith, o .3, ph-at z e (a .2))))
 
     kept-logged : (p q k : ℕ) → rBefore R p q < k → k ≤ rCut R p q → keptb R p q k ≡ true → R .logged p q k ≡ true
     unfolding keptb

@@ -5,8 +5,8 @@ use mathlib.Core.List.{List, [], _∷_, _++_, map}
 use mathlib.Core.Option.{Option, none, some}
 use Prim.Native.Nat.{ℕ, zero, suc, _+_, _-_}
 use lib.Dec.{leb, ltb, eqb}
-use Rattle.theory.specs.Lists.{pick, iv, keep, no-one, all-below, put, put2}
-use Rattle.theory.specs.Events.{Kind, send, recv, other, size, at, kind, recvs, sent, rcvd, value}
+use Rattle.theory.specs.Lists.{pick, iv, keep, has, no-one, all-below, put, put2}
+use Rattle.theory.specs.Events.{Kind, send, recv, other, size, at, kind, recvs, sent, rcvd, sendOf, value}
 use Rattle.theory.specs.Line.{Run, orphan, kept, orphanPhase}
 
 -- a choice: a process does its next listed event, or the oldest kept message from p to q is handed over
@@ -38,6 +38,10 @@ module _ (R : Run) where
   -- "The first choice finds the zones at their restarts, all channels empty, no kept message handed over and no orphan sent again"
   abbrev pub start : State
   start = record { todo = λ z. listed z (R .restart z); left = keptOn; chan = λ p q. []; got = λ p q. takenBy p q (R .restart q) }
+
+  -- message k from p to q has been sent again: its send is no longer to do
+  unfoldable pub sentAgain : State → ℕ → ℕ → ℕ → Bool
+  sentAgain s p q k = not (has (sendOf (R .trace) p q k) (s .todo p))
 
   -- event e of process z sends an orphan of phase r or less again
   unfoldable pub resends : ℕ → ℕ → ℕ → Kind → Bool
