@@ -1,18 +1,17 @@
 -- What can be computed is what is meant: a list names a message exactly if its test says so, and the tests of a run say yes exactly if the run
 -- loses nothing, leaves the same record, is ready. From the laws of the run and the invariants of Flow.
 use mathlib.Core.Path.{_≡_, refl, sym, _∙_, ap, subst}
-use mathlib.Core.Logic.{_⊎_, inl, inr, _↔_, _≢_}
-use mathlib.Core.Bool.{Bool, true, false, _&&_, _||_, not}
+use mathlib.Core.Logic.{_⊎_, inl, inr, _↔_}
+use mathlib.Core.Bool.{Bool, true, false, _&&_, _||_}
 use mathlib.Core.List.{List, [], _∷_, _++_, map}
-use Prim.Native.Nat.{ℕ, zero, suc, _+_, _-_, _≤_, _<_}
+use Prim.Native.Nat.{ℕ, zero, suc, _≤_, _<_}
 use native.Mathlib.Omega.{arith}
-use lib.ListN.{length}
-use lib.Dec.{leb, ltb, eqb}
-use borrow.Author.Tests.{leb-true, leb-false, ltb-true, eqb-true, eqb-false, eq-eqb, ne-eqb, le-leb}
-use Rattle.theory.specs.Lists.{pick, iv, keep, has, no-one, all-below}
-use Rattle.theory.specs.Events.{Kind, send, recv, other, size, at, kind, sends, recvs, sent, rcvd, sendOf}
-use Rattle.theory.specs.Line.{Run, sentAfter, lost, orphan, kept, orphanPhase, LossFree}
-use Rattle.theory.specs.Replay.{State, sentAgain, resends, ready, start, delivered, faultless, takenBy, SameRecord}
+use lib.Dec.{leb, eqb}
+use borrow.Author.Tests.{eqb-true, le-leb}
+use Rattle.theory.specs.Lists.{iv, keep, has, no-one, all-below}
+use Rattle.theory.specs.Events.{send, size, at, kind, sends, sent, rcvd, sendOf}
+use Rattle.theory.specs.Line.{Run, lost, orphan, kept, orphanPhase, LossFree}
+use Rattle.theory.specs.Replay.{State, sentAgain, resends, ready, delivered, faultless, takenBy, SameRecord}
 use Rattle.theory.specs.Answers.{Listed, gather, samePairs, names, messages, orphans, keptOnes, lostOnes, lossFree, sameRecord}
 use Rattle.theory.specs.Laws.{Laws}
 use Rattle.theory.proofs.Base.{by, on, clash, le?, both, or-right, same-bool, eqb-self, has-keep-is, has-iv, no-one-at, no-one-all, find-has, all-true, all-at}
@@ -20,7 +19,7 @@ use Rattle.theory.proofs.Events.{sends-is, sends-of, send-of, sendOf-at
 use Rattle.theory.proofs.Classes.{in-run, lost-within, orphan-within, kept-within}
 use Rattle.theory.proofs.Flow.{flow, Cursors, todo-at, resends-of, Inv}
 use Rattle.theory.proofs.Loss.{taken-iv}
-use Rattle.theory.proofs.Counters.{through, flow-keep}
+use Rattle.theory.proofs.Counters.{flow-keep}
 
 -- ---- Lists of messages
 

@@ -1,24 +1,24 @@
 -- What document 01 promises of recovery, each claim under its sentence. Read this file first, with the definitions of specs/; the other files
 -- of proofs/ say why. `demand-3` is demand 3 whole. All claims hold for every well-formed trace (crate trace), every cut, and, where `rule` and
 -- `usable` are named, for every rule of logging and every set of usable checkpoints; document 01's own are `past` and `reached`.
-use mathlib.Core.Path.{_≡_, refl, sym, _∙_, ap}
+use mathlib.Core.Path.{_≡_, sym, _∙_}
 use mathlib.Core.Logic.{_⊎_, inl, inr, _↔_, _≢_}
 use mathlib.Core.Bool.{Bool, true, false, _&&_, _||_, not}
-use mathlib.Core.List.{List, [], _∷_, _++_}
-use mathlib.Core.Option.{Option, none, some}
-use Prim.Native.Nat.{ℕ, zero, suc, _+_, _≤_, _<_}
+use mathlib.Core.List.{List, [], _∷_}
+use mathlib.Core.Option.{none, some}
+use Prim.Native.Nat.{ℕ, suc, _+_, _≤_, _<_}
 use native.Mathlib.Omega.{arith}
 use lib.ListN.{length, getD, take}
 use lib.Dec.{leb, ltb}
 use borrow.Author.Tests.{le-leb, lt-ltb}
 use Rattle.trace.specs.Trace.{Trace}
 use Rattle.trace.specs.Fit.{wellFormed}
-use Rattle.theory.specs.Lists.{iv, keep, cnt, lastOf}
+use Rattle.theory.specs.Lists.{cnt, lastOf}
 use Rattle.theory.specs.Events.{size, sends, recvs, saves, sent, rcvd}
 use Rattle.theory.specs.Epochs.{Rule, past, joined, epochAt, phaseAt, epochOf, phaseOf, loggedBy}
 use Rattle.theory.specs.Line.{Run, undone, lost, orphan, kept, orphanPhase, LossFree, restartIn, recorded, current, reached, Usable, Permitted, Greatest, greatestLine}
-use Rattle.theory.specs.Replay.{State, sentAgain, ready, start, delivered, faultless, SameRecord}
-use Rattle.theory.specs.Order.{Outcome, carriedOut, refused, choose, Allowed, run, steps, Complete, complete, lowest}
+use Rattle.theory.specs.Replay.{State, sentAgain, ready, delivered, faultless, SameRecord}
+use Rattle.theory.specs.Order.{carriedOut, refused, choose, Allowed, run, steps, Complete, complete, lowest}
 use Rattle.theory.specs.Answers.{names, orphans, keptOnes, lostOnes, lossFree, sameRecord, lowestOrder}
 use Rattle.theory.specs.Laws.{Laws}
 use Rattle.theory.proofs.Base.{on, by, le?}

@@ -1,14 +1,12 @@
 -- What becomes of a message, by counting: the tests of specs/Line, worded by events, equal comparisons of its number with three counts.
 -- From the laws that the line lies within the run and that no message is received before it is sent.
 use mathlib.Core.Path.{_≡_, refl, sym, _∙_, ap}
-use mathlib.Core.Logic.{_⊎_, inl, inr}
 use mathlib.Core.Bool.{Bool, true, false, _&&_, _||_, not}
-use mathlib.Core.List.{List, [], _∷_, _++_, append-nil}
-use Prim.Native.Nat.{ℕ, zero, suc, _+_, _-_, _≤_, _<_}
+use mathlib.Core.List.{[], append-nil}
+use Prim.Native.Nat.{ℕ, _+_, _-_, _≤_, _<_}
 use native.Mathlib.Omega.{arith}
-use lib.ListN.{length}
-use lib.Dec.{leb, ltb, eqb}
-use borrow.Author.Tests.{leb-true, leb-false, ltb-true, ltb-false, lt-ltb, le-ltb, le-leb, lt-leb}
+use lib.Dec.{leb, ltb}
+use borrow.Author.Tests.{leb-true, ltb-true, ltb-false, lt-ltb, le-ltb, le-leb, lt-leb}
 use Rattle.theory.specs.Lists.{iv, keep, place}
 use Rattle.theory.specs.Events.{size, sends, recvs, sent, rcvd, sendOf, recvOf}
 use Rattle.theory.specs.Line.{Run, sentBefore, sentAfter, received, receivedBefore, undone, lost, orphan, kept, LossFree}

@@ -1,20 +1,18 @@
 -- A channel by two numbers: what flows through it is an ascending list told by one test, up to the first number it is taken, up to the second put in.
 -- For code that has no queues. From the laws of the run and the invariants of Flow.
-use mathlib.Core.Path.{_≡_, refl, sym, _∙_, ap, subst}
-use mathlib.Core.Logic.{_⊎_, inl, inr}
-use mathlib.Core.Bool.{Bool, true, false, _&&_, _||_, not}
+use mathlib.Core.Path.{_≡_, refl, sym, _∙_, ap}
+use mathlib.Core.Bool.{Bool, true, false, _||_}
 use mathlib.Core.List.{List, [], _∷_, _++_, append-assoc}
-use Prim.Native.Nat.{ℕ, zero, suc, _+_, _-_, _≤_, _<_}
+use Prim.Native.Nat.{ℕ, zero, suc, _+_, _-_, _≤_}
 use native.Mathlib.Omega.{arith}
-use lib.ListN.{length}
-use lib.Dec.{leb, ltb, eqb}
-use borrow.Author.Tests.{leb-true, leb-false, ltb-true, ltb-false, lt-ltb, le-ltb, le-leb, lt-leb}
-use Rattle.theory.specs.Lists.{pick, iv, keep}
-use Rattle.theory.specs.Events.{size, sent, rcvd}
+use lib.Dec.{leb, ltb}
+use borrow.Author.Tests.{leb-false, lt-ltb, le-ltb, le-leb, lt-leb}
+use Rattle.theory.specs.Lists.{iv, keep}
+use Rattle.theory.specs.Events.{size, sent}
 use Rattle.theory.specs.Line.{Run}
 use Rattle.theory.specs.Replay.{State, start}
 use Rattle.theory.specs.Laws.{Laws}
-use Rattle.theory.proofs.Base.{by, on, clash, le?, iv-split, keep-append, keep-iv-cong, keep-iv-all, keep-iv-none, keep-above}
+use Rattle.theory.proofs.Base.{by, on, le?, iv-split, keep-append, keep-iv-cong, keep-iv-all, keep-iv-none, keep-above}
 use Rattle.theory.proofs.Events.{sent-le, rcvd-le}
 use Rattle.theory.proofs.Classes.{rBefore, sBefore, keptb, restart-n, kept-list}
 use Rattle.theory.proofs.Flow.{ahead, flow, Inv}

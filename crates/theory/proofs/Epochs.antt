@@ -1,22 +1,21 @@
 -- The epochs and phases of a valid trace meet the laws of a recorded run, for every rule of logging, cut and line: `laws`.
 -- From the definitions of specs/Epochs and what a well-formed trace has (Events).
-use mathlib.Core.Path.{_≡_, refl, sym, _∙_, ap, subst}
-use mathlib.Core.Logic.{_⊎_, inl, inr, _≢_}
-use mathlib.Core.Bool.{Bool, true, false, _&&_, _||_, not}
-use Prim.Native.Nat.{ℕ, zero, suc, _+_, _-_, _≤_, _<_, max}
+use mathlib.Core.Path.{_≡_, refl, sym, _∙_, ap}
+use mathlib.Core.Logic.{_≢_}
+use mathlib.Core.Bool.{Bool, true, false, _&&_}
+use Prim.Native.Nat.{ℕ, zero, suc, _+_, _-_, _≤_, _<_}
 use native.Mathlib.Omega.{arith}
-use lib.ListN.{length}
-use lib.Dec.{leb, ltb, eqb}
-use borrow.Author.Tests.{eqb-true, eqb-false, eq-eqb, ne-eqb}
+use lib.Dec.{eqb}
+use borrow.Author.Tests.{eqb-true}
 use Rattle.trace.specs.declared.Event.{Event}
 use Rattle.trace.specs.declared.Event.the-variants.{Send, Recv, Save}
 use Rattle.trace.specs.Trace.{Trace, isSend, isRecv, isSave}
-use Rattle.theory.specs.Lists.{pick, cnt, place, put, put3}
+use Rattle.theory.specs.Lists.{pick, cnt, put}
 use Rattle.theory.specs.Events.{size, eventAt, sends, recvs, saves, sent, rcvd, recvOf}
 use Rattle.theory.specs.Epochs.{Rule, Carried, Notes, joined, note, notes, epochAt, phaseAt, epochOf, phaseOf, loggedBy}
-use Rattle.theory.specs.Line.{Run, restartIn, recorded}
+use Rattle.theory.specs.Line.{restartIn, recorded}
 use Rattle.theory.specs.Laws.{Laws}
-use Rattle.theory.proofs.Base.{by, on, clash, le?, both, eqb-self, cnt-suc, cnt-skip, place-le, place-is}
+use Rattle.theory.proofs.Base.{by, clash, both, eqb-self, cnt-suc, cnt-skip, place-le, place-is}
 use Rattle.theory.proofs.Events.{send-not-recv, send-no-save, sent-le, recvOf-at, Valid}
 
 -- ---- An event

@@ -1,22 +1,22 @@
 -- The events of a trace by number: what a send, a receive, a checkpoint is, messages by their events, and what a well-formed trace has.
 -- From the definitions of specs/Events and crate trace's `wellFormed`.
-use mathlib.Core.Path.{_≡_, refl, sym, _∙_, ap, subst}
-use mathlib.Core.Logic.{_⊎_, inl, inr, _≢_}
-use mathlib.Core.Bool.{Bool, true, false, _&&_, _||_, not}
+use mathlib.Core.Path.{_≡_, refl, sym, _∙_, ap}
+use mathlib.Core.Logic.{_≢_}
+use mathlib.Core.Bool.{Bool, true, false, _&&_}
 use mathlib.Core.List.{List, [], _∷_, _++_, append-assoc, append-nil}
-use Prim.Native.Nat.{ℕ, zero, suc, _+_, _-_, _≤_, _<_}
+use Prim.Native.Nat.{ℕ, zero, suc, _+_, _≤_, _<_}
 use native.Mathlib.Omega.{arith}
 use lib.ListN.{length, getD, take}
 use lib.Seq.{take-suc}
-use lib.Dec.{leb, ltb, eqb}
-use borrow.Author.Tests.{leb-true, leb-false, ltb-true, ltb-false, eqb-true, eqb-false, lt-ltb, le-ltb, le-leb, lt-leb, eq-eqb, ne-eqb}
+use lib.Dec.{leb, eqb}
+use borrow.Author.Tests.{leb-true, leb-false, eqb-true}
 use Rattle.trace.specs.declared.Event.{Event}
 use Rattle.trace.specs.declared.Event.the-variants.{Send, Recv, Save}
 use Rattle.trace.specs.Trace.{Trace, isSend, isRecv, isSave, oneIf, count}
 use Rattle.trace.specs.Fit.{orElse, faultOf, valueFits, allFit, wellFormed}
 use Rattle.theory.specs.Lists.{pick, cnt}
 use Rattle.theory.specs.Events.{Kind, send, recv, other, kindOf, processOf, sendTo, recvFrom, size, eventAt, at, kind, sends, recvs, saves, sent, rcvd, sendOf, recvOf}
-use Rattle.theory.proofs.Base.{by, on, clash, le?, both, eqb-self, cnt-suc, cnt-skip, cnt-le, cnt-lt, cnt-find, place-at, place-there}
+use Rattle.theory.proofs.Base.{by, clash, both, eqb-self, cnt-suc, cnt-skip, cnt-le, cnt-lt, cnt-find, place-at}
 
 -- ---- The kinds of events
 

@@ -1,21 +1,21 @@
 -- What every allowed choice keeps, whatever the line: the messages of a channel only move on from one list to the next (I1, I2), receives done
 -- and to do add up (I3), and each process has its listed events from some event on. From the definitions of specs/Replay.
 use mathlib.Core.Path.{_≡_, refl, sym, _∙_, ap, subst}
-use mathlib.Core.Logic.{_⊎_, inl, inr}
-use mathlib.Core.Bool.{Bool, true, false, _&&_, _||_, not}
-use mathlib.Core.List.{List, [], _∷_, _++_, map, append-assoc, append-nil}
-use mathlib.Core.Option.{Option, none, some, bind, Option·some-injective, Option·none-ne-some}
-use Prim.Native.Nat.{ℕ, zero, suc, _+_, _-_, _≤_, _<_}
+use mathlib.Core.Logic.{inl, inr}
+use mathlib.Core.Bool.{Bool, true, false, _&&_}
+use mathlib.Core.List.{List, [], _∷_, _++_, map, append-assoc}
+use mathlib.Core.Option.{some, Option·some-injective, Option·none-ne-some}
+use Prim.Native.Nat.{ℕ, suc, _+_, _-_, _≤_, _<_}
 use native.Mathlib.Omega.{arith}
 use lib.ListN.{length, length-append}
 use lib.Dec.{leb, ltb, eqb}
 use borrow.Author.Tests.{leb-true, leb-false, eqb-true, lt-ltb, le-ltb, eq-eqb}
-use Rattle.theory.specs.Lists.{pick, iv, keep, has, put, put2}
-use Rattle.theory.specs.Events.{Kind, send, recv, other, sendTo, recvFrom, size, at, kind, sends, recvs, sent, rcvd}
+use Rattle.theory.specs.Lists.{pick, iv, keep, has, put}
+use Rattle.theory.specs.Events.{Kind, send, recv, other, sendTo, recvFrom, size, at, kind, sent, rcvd}
 use Rattle.theory.specs.Line.{Run, orphan, orphanPhase}
-use Rattle.theory.specs.Replay.{Choice, process, hand, State, listed, takenBy, resends, ready, gate, start, moved, joins, sending, taking, handing, sendStep, recvStep, eventStep, processStep, handStep, step}
+use Rattle.theory.specs.Replay.{Choice, process, hand, State, listed, resends, ready, gate, start, moved, sending, taking, handing, sendStep, recvStep, eventStep, processStep, handStep, step}
 use Rattle.theory.proofs.Base.{by, on, clash, le?, both, same2, eqb-self, Each, keep-head, has-keep-is, has-iv-not}
-use Rattle.theory.proofs.Classes.{rBefore, sBefore, keptb, Kept}
+use Rattle.theory.proofs.Classes.{rBefore, Kept}
 
 module _ (R : Run) where
   -- an allowed choice, taken apart

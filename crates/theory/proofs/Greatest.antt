@@ -1,22 +1,21 @@
 -- Lowering gives the greatest line without loss, and it is the only one; and the floor. For any usable checkpoints, and any rule (the floor: `past`).
 -- From the step of lowering (Lines).
-use mathlib.Core.Path.{_≡_, refl, sym, _∙_, ap, subst}
-use mathlib.Core.Logic.{_⊎_, inl, inr, _≢_}
-use mathlib.Core.Bool.{Bool, true, false, _&&_, _||_, not}
+use mathlib.Core.Path.{_≡_, refl, sym, subst}
+use mathlib.Core.Logic.{_⊎_, inl, inr}
+use mathlib.Core.Bool.{Bool, true, false}
 use mathlib.Core.Option.{Option, none, some, Option·some-injective, Option·none-ne-some}
-use Prim.Native.Nat.{ℕ, zero, suc, _+_, _-_, _*_, _≤_, _<_}
+use Prim.Native.Nat.{ℕ, zero, suc, _*_, _≤_, _<_}
 use native.Mathlib.Omega.{arith}
-use lib.ListN.{length}
-use lib.Dec.{leb, ltb, eqb}
-use borrow.Author.Tests.{ltb-true, ltb-false, eqb-true, ne-eqb}
+use lib.Dec.{eqb}
+use borrow.Author.Tests.{eqb-true, ne-eqb}
 use Rattle.trace.specs.Trace.{Trace}
-use Rattle.theory.specs.Lists.{pick, lastOf, ifSome, first, put}
-use Rattle.theory.specs.Events.{size, rcvd, recvOf}
-use Rattle.theory.specs.Epochs.{Rule, past, epochAt, epochOf, loggedBy}
+use Rattle.theory.specs.Lists.{pick, lastOf, ifSome, first}
+use Rattle.theory.specs.Events.{size}
+use Rattle.theory.specs.Epochs.{Rule, past, epochAt, epochOf}
 use Rattle.theory.specs.Line.{lost, LossFree, recorded, current, Usable, Permitted, Greatest, highest, lower, lowerIf, lowered, lowering, greatestLine}
-use Rattle.theory.proofs.Base.{by, on, clash, le?, eqb-self, lastOf-le, lastOf-top, first-none, first-some, sum, sum-le, sum-lt}
-use Rattle.theory.proofs.Events.{Valid, recvOf-at}
-use Rattle.theory.proofs.Lines.{now-is, now-few, number-of, ByEpochs, lost-epochs, epoch-of, epoch-le, lost-in, lower-usable, lower-less, lower-over, past-unlogged}
+use Rattle.theory.proofs.Base.{by, on, clash, eqb-self, lastOf-top, first-none, first-some, sum, sum-lt}
+use Rattle.theory.proofs.Events.{Valid}
+use Rattle.theory.proofs.Lines.{now-is, now-few, number-of, lost-epochs, epoch-le, lost-in, lower-usable, lower-less, lower-over, past-unlogged}
 
 sum-32 : (n : ℕ) (f : ℕ → ℕ) → ((x : ℕ) → x < n → f x ≤ 32) → sum n f ≤ 32 * n
 unfolding sum

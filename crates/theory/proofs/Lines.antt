@@ -1,22 +1,21 @@
 -- Lines by epochs: when a permitted line loses a message, how far a line without loss lies below one that loses it, and the floor.
 -- For any rule and any set of usable checkpoints. From the laws of Epochs and the counting form of Classes.
-use mathlib.Core.Path.{_≡_, refl, sym, _∙_, ap, subst}
+use mathlib.Core.Path.{_≡_, sym, _∙_, ap, subst}
 use mathlib.Core.Logic.{_⊎_, inl, inr, _≢_}
-use mathlib.Core.Bool.{Bool, true, false, _&&_, _||_, not}
-use Prim.Native.Nat.{ℕ, zero, suc, _+_, _-_, _≤_, _<_}
+use mathlib.Core.Bool.{Bool, true, false}
+use Prim.Native.Nat.{ℕ, suc, _-_, _≤_, _<_}
 use native.Mathlib.Omega.{arith}
-use lib.ListN.{length}
-use lib.Dec.{leb, ltb, eqb}
-use borrow.Author.Tests.{leb-true, ltb-true, ltb-false, eqb-true, eqb-false, lt-ltb, le-leb, eq-eqb, ne-eqb}
+use lib.Dec.{leb, eqb}
+use borrow.Author.Tests.{leb-true, ltb-false, le-leb, eq-eqb, ne-eqb}
 use Rattle.trace.specs.Trace.{Trace}
-use Rattle.theory.specs.Lists.{pick, cnt, place, lastOf}
-use Rattle.theory.specs.Events.{size, sends, recvs, saves, sent, rcvd, recvOf}
+use Rattle.theory.specs.Lists.{cnt, place, lastOf}
+use Rattle.theory.specs.Events.{size, sends, recvs, saves, sent, rcvd}
 use Rattle.theory.specs.Epochs.{Rule, past, epochAt, epochOf, loggedBy}
-use Rattle.theory.specs.Line.{Run, lost, LossFree, restartIn, recorded, current, reached, Usable, Permitted}
+use Rattle.theory.specs.Line.{lost, LossFree, restartIn, recorded, current, reached, Usable, Permitted}
 use Rattle.theory.specs.Laws.{Laws}
-use Rattle.theory.proofs.Base.{by, on, clash, le?, both, cnt-suc, cnt-skip, cnt-le, cnt-lt, cnt-bound, place-zero, place-cnt, place-le, place-mono, lastOf-le, lastOf-top}
-use Rattle.theory.proofs.Events.{sends-is, recvs-is, send-no-save, recv-no-save, sent-le, rcvd-le, sent-lt, rcvd-lt, send-of, recv-of, recvOf-at, Valid}
-use Rattle.theory.proofs.Classes.{Lost, lost-is, is-lost, rBefore, sBefore, rCut}
+use Rattle.theory.proofs.Base.{on, clash, le?, both, cnt-le, cnt-lt, cnt-bound, place-zero, place-cnt, place-mono, lastOf-le, lastOf-top}
+use Rattle.theory.proofs.Events.{sends-is, send-no-save, recv-no-save, sent-le, rcvd-le, rcvd-lt, send-of, recv-of, Valid}
+use Rattle.theory.proofs.Classes.{lost-is, is-lost}
 use Rattle.theory.proofs.Epochs.{restart-cut, epoch-is, epochOf-at, logged-is, laws}
 
 module _ (t : Trace) (rule : Rule) (A : Valid t) (cut : ℕ) (cl : cut ≤ size t) where

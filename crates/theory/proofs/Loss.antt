@@ -1,24 +1,23 @@
 -- What flows through a channel: all its messages where none is lost, and never a lost one; so a record that lacks nothing shows that nothing is
 -- lost, in every state that an order leads to. From the laws of the run and the invariants of Flow.
-use mathlib.Core.Path.{_≡_, refl, sym, _∙_, ap, subst}
-use mathlib.Core.Logic.{_⊎_, inl, inr, _↔_}
-use mathlib.Core.Bool.{Bool, true, false, _&&_, _||_, not}
-use mathlib.Core.List.{List, [], _∷_, _++_, map, append-assoc, append-nil}
-use mathlib.Core.Option.{Option, none, some}
-use Prim.Native.Nat.{ℕ, zero, suc, _+_, _-_, _≤_, _<_}
+use mathlib.Core.Path.{_≡_, refl, sym, _∙_, ap}
+use mathlib.Core.Logic.{inl, inr}
+use mathlib.Core.Bool.{true, false}
+use mathlib.Core.List.{List, [], _∷_, _++_, map}
+use Prim.Native.Nat.{ℕ, _+_, _-_, _≤_, _<_}
 use native.Mathlib.Omega.{arith}
-use lib.ListN.{length, length-append, length-map}
-use lib.Dec.{leb, ltb, eqb}
-use borrow.Author.Tests.{leb-true, leb-false, ltb-true, ltb-false, lt-ltb, le-ltb, le-leb, lt-leb}
-use Rattle.theory.specs.Lists.{pick, iv, keep, cnt, has}
+use lib.ListN.{length}
+use lib.Dec.{ltb, eqb}
+use borrow.Author.Tests.{ltb-true, ltb-false, lt-ltb, le-ltb}
+use Rattle.theory.specs.Lists.{iv, keep, cnt, has}
 use Rattle.theory.specs.Events.{sendTo, recvFrom, size, at, kind, sends, recvs, sent, rcvd}
 use Rattle.theory.specs.Line.{Run}
-use Rattle.theory.specs.Replay.{State, listed, takenBy, keptOn, start, entry, delivered, faultless, SameRecord}
+use Rattle.theory.specs.Replay.{State, listed, takenBy, start, entry, delivered, faultless, SameRecord}
 use Rattle.theory.specs.Laws.{Laws}
-use Rattle.theory.proofs.Base.{by, on, clash, le?, false-or, iv-append, keep-append, keep-iv-cong, keep-above, Each, each-map, each-keep-iv, keep-keep, cnt-iv, map-cnt, length-iv, has-append, has-keep, has-keep-not, has-iv, has-iv-not}
+use Rattle.theory.proofs.Base.{by, clash, false-or, iv-append, keep-append, keep-iv-cong, keep-above, each-map, each-keep-iv, keep-keep, cnt-iv, map-cnt, length-iv, has-append, has-keep, has-keep-not, has-iv, has-iv-not}
 use Rattle.theory.proofs.Events.{sends-split, recvs-split, sent-le, rcvd-le}
-use Rattle.theory.proofs.Classes.{rBefore, rCut, sBefore, Lost, NoLoss, keptb, Kept, restart-n, r-le, kept-list}
-use Rattle.theory.proofs.Flow.{ahead, flow, toTake, receipts, Inv, inv-step, Reach, here, next}
+use Rattle.theory.proofs.Classes.{rBefore, rCut, sBefore, Lost, NoLoss, keptb, Kept, restart-n, kept-list}
+use Rattle.theory.proofs.Flow.{ahead, flow, toTake, Inv, inv-step, Reach, here, next}
 
 module _ (R : Run) where
   pub taken-iv : (p q x : ℕ) → takenBy R p q x ≡ iv 0 (rcvd (R .trace) p q x)

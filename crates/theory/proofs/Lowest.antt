@@ -1,16 +1,16 @@
 -- The order that always picks the lowest allowed choice: its choices are the lowest, and it is complete; so every line has a complete order.
 -- From Orders and the work that is left (Steps).
 use mathlib.Core.Path.{_≡_, refl, sym, _∙_, ap, subst}
-use mathlib.Core.Logic.{_⊎_, inl, inr, _≢_, _↔_}
-use mathlib.Core.List.{List, [], _∷_}
+use mathlib.Core.Logic.{_↔_}
+use mathlib.Core.List.{[], _∷_}
 use mathlib.Core.Option.{Option, none, some, Option·some-injective, Option·none-ne-some}
-use Prim.Native.Nat.{ℕ, zero, suc, _+_, _-_, _*_, _≤_, _<_}
+use Prim.Native.Nat.{ℕ, zero, suc, _+_, _*_, _≤_, _<_}
 use native.Mathlib.Omega.{arith}
-use Rattle.theory.specs.Lists.{ifSome, or-else, first}
+use Rattle.theory.specs.Lists.{ifSome, first}
 use Rattle.theory.specs.Events.{size}
 use Rattle.theory.specs.Line.{Run}
 use Rattle.theory.specs.Replay.{Choice, process, hand, State, start, step}
-use Rattle.theory.specs.Order.{choiceOf, Outcome, carriedOut, refused, choose, carry, run, Complete, named, lowest, lowestFrom}
+use Rattle.theory.specs.Order.{choiceOf, carriedOut, choose, carry, run, Complete, named, lowest, lowestFrom}
 use Rattle.theory.specs.Answers.{lowestOrder}
 use Rattle.theory.specs.Laws.{Laws}
 use Rattle.theory.proofs.Base.{on, le?, or-none, or-some, first-none, first-some}

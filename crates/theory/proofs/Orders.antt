@@ -1,23 +1,23 @@
 -- Orders of choice numbers: what they reach, when they are complete, and the theorem: a complete order leaves the record of the run without
 -- failure exactly where the line loses no message. From the laws of the run, by Loss, Ready and Steps.
 use mathlib.Core.Path.{_≡_, refl, sym, _∙_, ap, subst}
-use mathlib.Core.Logic.{_⊎_, inl, inr, _↔_, _≢_}
-use mathlib.Core.Bool.{Bool, true, false, _&&_, _||_, not}
-use mathlib.Core.List.{List, [], _∷_, _++_, map}
+use mathlib.Core.Logic.{_↔_, _≢_}
+use mathlib.Core.Bool.{true, false}
+use mathlib.Core.List.{List, [], _∷_, map}
 use mathlib.Core.Option.{Option, none, some, bind, Option·some-injective, Option·none-ne-some}
-use Prim.Native.Nat.{ℕ, zero, suc, _+_, _-_, _*_, _/_, _%_, _≤_, _<_}
+use Prim.Native.Nat.{ℕ, suc, _+_, _-_, _*_, _/_, _%_, _≤_, _<_}
 use native.Mathlib.Omega.{arith}
 use lib.ListN.{length, getD, take}
-use lib.Dec.{leb, ltb, eqb}
+use lib.Dec.{ltb}
 use lib.Arith.{digits-div, digits-mod}
-use borrow.Author.Tests.{lt-ltb, le-ltb, ltb-true, ltb-false}
-use Rattle.theory.specs.Lists.{pick, iv, keep, all-below, ifSome, or-else, first}
+use borrow.Author.Tests.{lt-ltb, le-ltb, ltb-false}
+use Rattle.theory.specs.Lists.{keep, ifSome}
 use Rattle.theory.specs.Events.{size, sent, rcvd}
 use Rattle.theory.specs.Line.{Run, lost, LossFree}
 use Rattle.theory.specs.Replay.{Choice, process, hand, State, takenBy, start, step, entry, delivered, faultless, SameRecord}
-use Rattle.theory.specs.Order.{choiceOf, Outcome, carriedOut, refused, isNone, choose, Allowed, carry, run, steps, Complete, complete, named, lowest, lowestFrom}
+use Rattle.theory.specs.Order.{choiceOf, carriedOut, refused, isNone, choose, Allowed, carry, run, steps, Complete, complete}
 use Rattle.theory.specs.Laws.{Laws}
-use Rattle.theory.proofs.Base.{by, on, clash, le?, iv-prefix, all-true, all-at, or-none, or-some, first-none, first-some}
+use Rattle.theory.proofs.Base.{by, on, clash, le?, iv-prefix, all-true, all-at}
 use Rattle.theory.proofs.Classes.{NoLoss, no-loss, loss-free, lost-is}
 use Rattle.theory.proofs.Flow.{Did, did-other, did-send, did-recv, did-hand, view, toTake, Inv, Reach, here, next}
 use Rattle.theory.proofs.Loss.{taken-iv, inv, flow-all, same-no-loss, same-no-loss-at}

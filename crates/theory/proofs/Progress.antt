@@ -1,24 +1,23 @@
 -- Where no message is lost, an event in reach makes a choice allowed, provided that the phases it waits for do: the general part of progress.
 -- From the laws of the run and the invariants of Flow.
-use mathlib.Core.Path.{_≡_, refl, sym, _∙_, ap, subst}
-use mathlib.Core.Logic.{_⊎_, inl, inr, _↔_, _≢_}
-use mathlib.Core.Bool.{Bool, true, false, _&&_, _||_, not}
-use mathlib.Core.List.{List, [], _∷_, _++_, map, append-assoc, append-nil}
-use mathlib.Core.Option.{Option, none, some, bind, Option·some-injective, Option·none-ne-some}
+use mathlib.Core.Path.{_≡_, refl, sym, _∙_, ap}
+use mathlib.Core.Bool.{true, false}
+use mathlib.Core.List.{List, [], _∷_, _++_}
+use mathlib.Core.Option.{some}
 use Prim.Native.Nat.{ℕ, zero, suc, _+_, _-_, _≤_, _<_}
 use native.Mathlib.Omega.{arith}
-use lib.ListN.{length, length-append, length-map}
-use lib.Dec.{leb, ltb, eqb}
-use borrow.Author.Tests.{leb-true, leb-false, ltb-true, ltb-false, eqb-true, eqb-false, lt-ltb, le-ltb, le-leb, lt-leb, eq-eqb, ne-eqb}
-use Rattle.theory.specs.Lists.{pick, iv, keep, cnt, no-one, all-below}
-use Rattle.theory.specs.Events.{Kind, send, recv, other, sendTo, recvFrom, size, at, kind, sends, recvs, saves, sent, rcvd, sendOf}
-use Rattle.theory.specs.Line.{Run, sentAfter, orphan, orphanPhase}
-use Rattle.theory.specs.Replay.{Choice, process, hand, State, listed, resends, ready, gate, start, moved, sending, taking, handing, sendStep, recvStep, eventStep, processStep, handStep, step}
+use lib.ListN.{length, length-append}
+use lib.Dec.{ltb, eqb}
+use borrow.Author.Tests.{eq-eqb}
+use Rattle.theory.specs.Lists.{iv}
+use Rattle.theory.specs.Events.{Kind, send, recv, other, recvFrom, size, at, kind, sends, recvs, sent, rcvd}
+use Rattle.theory.specs.Line.{Run}
+use Rattle.theory.specs.Replay.{Choice, process, hand, State, listed, ready, gate, moved, sending, taking, handing, step}
 use Rattle.theory.specs.Laws.{Laws}
-use Rattle.theory.proofs.Base.{by, on, clash, le?, both, eqb-self, iv-at, keep-length, keep-some, Begins, Each, each-keep-iv, length-iv}
-use Rattle.theory.proofs.Events.{sends-is, recvs-is, sends-of, recvs-of, sent-le, partner}
-use Rattle.theory.proofs.Classes.{rBefore, rCut, sBefore, NoLoss, keptb, Kept, restart-n}
-use Rattle.theory.proofs.Flow.{ahead, flow, toTake, toTake-recv, receipts, Cursors, at-head, Inv}
+use Rattle.theory.proofs.Base.{by, on, le?, eqb-self, iv-at, keep-length, keep-some, Begins, length-iv}
+use Rattle.theory.proofs.Events.{sends-is, recvs-of, sent-le, partner}
+use Rattle.theory.proofs.Classes.{rBefore, NoLoss, Kept}
+use Rattle.theory.proofs.Flow.{ahead, flow, toTake, toTake-recv, at-head, Inv}
 use Rattle.theory.proofs.Loss.{toTake-listed, ahead-listed, flow-all}
 
 module _ (R : Run) where

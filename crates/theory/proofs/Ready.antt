@@ -1,25 +1,23 @@
 -- From a line without loss a choice is allowed until every process has done all its events: a phase that is not ready waits for an orphan, and
 -- the events up to the cut of that phase or less make a choice allowed. From the laws on phases, by Progress.
-use mathlib.Core.Path.{_≡_, refl, sym, _∙_, ap, subst}
-use mathlib.Core.Logic.{_⊎_, inl, inr, _↔_, _≢_}
-use mathlib.Core.Bool.{Bool, true, false, _&&_, _||_, not}
-use mathlib.Core.List.{List, [], _∷_, _++_, map, append-assoc, append-nil}
-use mathlib.Core.Option.{Option, none, some, bind, Option·some-injective, Option·none-ne-some}
+use mathlib.Core.Path.{_≡_, refl, sym, _∙_, ap}
+use mathlib.Core.Logic.{_≢_}
+use mathlib.Core.Bool.{true, false}
+use mathlib.Core.List.{List, [], _∷_}
+use mathlib.Core.Option.{none, Option·none-ne-some}
 use Prim.Native.Nat.{ℕ, zero, suc, _+_, _-_, _≤_, _<_}
 use native.Mathlib.Omega.{arith}
-use lib.ListN.{length, length-append, length-map}
-use lib.Dec.{leb, ltb, eqb}
-use borrow.Author.Tests.{leb-true, leb-false, ltb-true, ltb-false, eqb-true, eqb-false, lt-ltb, le-ltb, le-leb, lt-leb, eq-eqb, ne-eqb}
-use Rattle.theory.specs.Lists.{pick, iv, keep, cnt, no-one, all-below}
-use Rattle.theory.specs.Events.{Kind, send, recv, other, sendTo, recvFrom, size, at, kind, sends, recvs, saves, sent, rcvd, sendOf}
+use lib.Dec.{leb, ltb}
+use borrow.Author.Tests.{leb-true, lt-ltb, le-ltb}
+use Rattle.theory.specs.Lists.{no-one}
+use Rattle.theory.specs.Events.{size, at, kind, sends, recvs, saves, sent, rcvd, sendOf}
 use Rattle.theory.specs.Line.{Run, sentAfter, receivedBefore, orphan, orphanPhase}
-use Rattle.theory.specs.Replay.{Choice, process, hand, State, listed, resends, ready, gate, start, moved, sending, taking, handing, sendStep, recvStep, eventStep, processStep, handStep, step}
+use Rattle.theory.specs.Replay.{Choice, State, resends, ready, gate, step}
 use Rattle.theory.specs.Laws.{Laws}
-use Rattle.theory.proofs.Base.{by, on, clash, le?, both, eqb-self, iv-at, keep-length, keep-some, Begins, Each, each-keep-iv, length-iv, find-has, find-below}
-use Rattle.theory.proofs.Events.{sends-is, recvs-is, sends-of, recvs-of, send-not-recv, send-not-save, sent-le, rcvd-le, sent-lt, rcvd-lt, send-of, sendOf-at}
-use Rattle.theory.proofs.Classes.{rBefore, rCut, sBefore, NoLoss, keptb, Kept, restart-n}
-use Rattle.theory.proofs.Flow.{ahead, flow, toTake, toTake-recv, receipts, Cursors, at-head, todo-at, resends-of, Inv}
-use Rattle.theory.proofs.Loss.{toTake-listed, ahead-listed, flow-all}
+use Rattle.theory.proofs.Base.{by, on, both, find-has, find-below}
+use Rattle.theory.proofs.Events.{sends-is, recvs-is, sends-of, send-not-save, rcvd-le, rcvd-lt, send-of, sendOf-at}
+use Rattle.theory.proofs.Classes.{rBefore, rCut, NoLoss, keptb, Kept}
+use Rattle.theory.proofs.Flow.{todo-at, resends-of, Inv}
 use Rattle.theory.proofs.Progress.{CanStep, Pass, Go, go, go-head}
 
 module _ (R : Run) where

@@ -1,22 +1,21 @@
 -- Runs that tell the definitions from plausible mistakes (PROOF-PLAN, section 8), by computation from the definitions alone.
 use mathlib.Core.Path.{_≡_, refl}
-use mathlib.Core.Bool.{Bool, true, false, _&&_, _||_, not}
-use mathlib.Core.List.{List, [], _∷_, _++_, map}
-use mathlib.Core.Option.{Option, none, some, bind}
-use Prim.Native.Nat.{ℕ, zero, suc, _+_, _-_}
-use lib.ListN.{length, getD}
-use lib.Dec.{leb, ltb, eqb}
+use mathlib.Core.Bool.{Bool, true, false, _&&_, not}
+use mathlib.Core.List.{List, [], _∷_, map}
+use mathlib.Core.Option.{bind}
+use Prim.Native.Nat.{ℕ}
+use lib.Dec.{eqb}
 use Rattle.trace.specs.declared.Event.{Event}
 use Rattle.trace.specs.declared.Event.the-variants.{Send, Recv, Save}
-use Rattle.trace.specs.Trace.{Trace, isSend, isRecv, isSave, count}
+use Rattle.trace.specs.Trace.{Trace, count}
 use Rattle.trace.specs.Fit.{wellFormed, allFit, faultOf}
-use Rattle.theory.specs.Lists.{pick, iv, keep, cnt, place, lastOf, no-one, all-below, first}
+use Rattle.theory.specs.Lists.{iv, keep, cnt, place, lastOf, no-one, all-below, first}
 use Rattle.theory.specs.Events.{eventAt, at, kind, sends, recvs, saves, sent, rcvd, sendOf, recvOf, value}
-use Rattle.theory.specs.Epochs.{Rule, past, note, notes, loggedBy}
+use Rattle.theory.specs.Epochs.{past, note, notes, loggedBy}
 use Rattle.theory.specs.Line.{Run, sentBefore, sentAfter, received, receivedBefore, undone, lost, orphan, kept, orphanPhase, restartIn, recorded, reached, highest, lowered, lowering, greatestLine}
-use Rattle.theory.specs.Replay.{State, listed, keptOn, takenBy, resends, ready, gate, sendStep, recvStep, eventStep, processStep, handStep, step, start, delivered, faultless}
-use Rattle.theory.specs.Order.{Outcome, choiceOf, choose, carry, run, isNone, lowest, lowestFrom, complete}
-use Rattle.theory.specs.Answers.{inSet, lineOf, Listed, gather, messages, orphans, keptOnes, lostOnes, samePairs, sameRecord, placeOf, leaves, lowestOrder}
+use Rattle.theory.specs.Replay.{listed, keptOn, takenBy, resends, ready, gate, sendStep, recvStep, eventStep, processStep, handStep, step, delivered, faultless}
+use Rattle.theory.specs.Order.{choiceOf, choose, carry, run, isNone, lowest, lowestFrom, complete}
+use Rattle.theory.specs.Answers.{inSet, lineOf, Listed, gather, messages, orphans, samePairs, sameRecord, placeOf, leaves}
 
 -- all that a row computes with
 unfoldable pub opens : ℕ

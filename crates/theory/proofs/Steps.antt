@@ -1,24 +1,23 @@
 -- The steps of an order: each takes one from the work that is left, and there is no more work than two for each event.
 -- From the laws of the run and the invariants of Flow.
-use mathlib.Core.Path.{_≡_, refl, sym, _∙_, ap, subst}
-use mathlib.Core.Logic.{_⊎_, inl, inr, _↔_, _≢_}
-use mathlib.Core.Bool.{Bool, true, false, _&&_, _||_, not}
-use mathlib.Core.List.{List, [], _∷_, _++_, map}
-use mathlib.Core.Option.{Option, none, some, Option·none-ne-some}
+use mathlib.Core.Path.{_≡_, refl}
+use mathlib.Core.Logic.{_≢_}
+use mathlib.Core.Bool.{Bool, true, false, _&&_}
+use mathlib.Core.List.{List, _∷_}
 use Prim.Native.Nat.{ℕ, zero, suc, _+_, _-_, _≤_, _<_}
 use native.Mathlib.Omega.{arith}
 use lib.ListN.{length}
-use lib.Dec.{leb, ltb, eqb}
+use lib.Dec.{eqb}
 use borrow.Author.Tests.{eqb-true, eqb-false, ne-eqb}
 use Rattle.trace.specs.declared.Event.{Event}
 use Rattle.trace.specs.declared.Event.the-variants.{Send, Recv, Save}
 use Rattle.trace.specs.Trace.{isSend}
-use Rattle.theory.specs.Lists.{pick, iv, keep, cnt, put, put2}
-use Rattle.theory.specs.Events.{Kind, send, recv, other, size, eventAt, at, kind, sends, sent}
+use Rattle.theory.specs.Lists.{pick, iv, cnt, put, put2}
+use Rattle.theory.specs.Events.{size, eventAt, at, sends, sent}
 use Rattle.theory.specs.Line.{Run}
-use Rattle.theory.specs.Replay.{Choice, process, hand, State, listed, keptOn, start, step}
+use Rattle.theory.specs.Replay.{Choice, State, listed, keptOn, start}
 use Rattle.theory.specs.Laws.{Laws}
-use Rattle.theory.proofs.Base.{by, on, clash, le?, eqb-self, cnt-iv, cnt-le, keep-length, length-iv, sum, sum-cong, sum-zero, sum-le, sum-add, sum-down}
+use Rattle.theory.proofs.Base.{by, eqb-self, cnt-iv, cnt-le, keep-length, length-iv, sum, sum-zero, sum-le, sum-add, sum-down}
 use Rattle.theory.proofs.Classes.{sBefore, keptb, Kept, restart-n, s-le, in-run, kept-list}
 use Rattle.theory.proofs.Flow.{Did, did-other, did-send, did-recv, did-hand, view, at-head, Inv, Reach, here, next}
 use Rattle.theory.proofs.Loss.{inv}

@@ -1,7 +1,7 @@
 -- Epochs, phases, logged messages (document 01, "Epochs, phases, kept messages"), for any rule that says of each received message
 -- whether it is logged.
 use mathlib.Core.Bool.{Bool, true, false}
-use Prim.Native.Nat.{ℕ, zero, suc, _+_, max}
+use Prim.Native.Nat.{ℕ, zero, suc, max}
 use lib.Dec.{ltb}
 use Rattle.trace.specs.declared.Event.{Event}
 use Rattle.trace.specs.declared.Event.the-variants.{Send, Recv, Save}

@@ -1,6 +1,5 @@
 -- Events, channels and message numbers of a trace (document 01, "The trace text"). A process is document 01's zone, a checkpoint its save.
-use mathlib.Core.Bool.{Bool, true, false}
-use mathlib.Core.List.{List, [], _∷_}
+use mathlib.Core.Bool.{Bool, false}
 use Prim.Native.Nat.{ℕ, zero, suc}
 use lib.ListN.{length, getD}
 use lib.Dec.{eqb}

@@ -1,9 +1,9 @@
 -- The laws of a recorded run with a failure and a line: the only thing that the theorems of recovery use.
 use mathlib.Core.Path.{_≡_}
 use mathlib.Core.Logic.{_⊎_}
-use mathlib.Core.Bool.{Bool, true, false}
-use Prim.Native.Nat.{ℕ, zero, suc, _≤_, _<_}
-use Rattle.theory.specs.Events.{Kind, send, recv, size, at, kind, sends, recvs, saves, sent, rcvd}
+use mathlib.Core.Bool.{true, false}
+use Prim.Native.Nat.{ℕ, suc, _≤_, _<_}
+use Rattle.theory.specs.Events.{send, size, at, kind, sends, recvs, saves, sent, rcvd}
 use Rattle.theory.specs.Line.{Run}
 
 pub record Laws (R : Run) : Type 0 where

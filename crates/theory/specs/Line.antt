@@ -2,13 +2,12 @@
 use mathlib.Core.Path.{_≡_}
 use mathlib.Core.Logic.{_⊎_}
 use mathlib.Core.Bool.{Bool, true, false, _&&_, _||_, not}
-use mathlib.Core.List.{List, [], _∷_}
 use mathlib.Core.Option.{Option, none, some}
-use Prim.Native.Nat.{ℕ, zero, suc, _+_, _-_, _*_, _≤_, _<_}
+use Prim.Native.Nat.{ℕ, zero, suc, _-_, _*_, _≤_, _<_}
 use lib.Dec.{leb, ltb, eqb}
 use Rattle.trace.specs.Trace.{Trace}
-use Rattle.theory.specs.Lists.{pick, iv, keep, place, lastOf, all-below, no-one, ifSome, first, put}
-use Rattle.theory.specs.Events.{size, saves, sent, rcvd, sendOf, recvOf}
+use Rattle.theory.specs.Lists.{pick, place, lastOf, ifSome, first, put}
+use Rattle.theory.specs.Events.{size, saves, sendOf, recvOf}
 use Rattle.theory.specs.Epochs.{Rule, epochAt, phaseAt, epochOf, phaseOf, loggedBy}
 
 -- A recorded run with a failure and a recovery line: all that recovery knows. What holds of it is said by `Laws`.

@@ -1,8 +1,8 @@
 -- Small tools: a choice by a test, numbers in a row, what a test keeps or counts of them, one place of a function changed.
 use mathlib.Core.Bool.{Bool, true, false, _&&_, _||_, not}
-use mathlib.Core.List.{List, [], _∷_, _++_}
+use mathlib.Core.List.{List, [], _∷_}
 use mathlib.Core.Option.{Option, none, some}
-use Prim.Native.Nat.{ℕ, zero, suc, _+_}
+use Prim.Native.Nat.{ℕ, zero, suc}
 use lib.Dec.{eqb}
 
 abbrev pub pick {ℓ} : {A : Type ℓ} → Bool → A → A → A

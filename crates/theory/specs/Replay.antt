@@ -1,10 +1,10 @@
 -- The replay machine (document 01, "Gates and steps"): its states, when a phase is ready, and the one step of each choice.
 use mathlib.Core.Path.{_≡_}
-use mathlib.Core.Bool.{Bool, true, false, _&&_, _||_, not}
+use mathlib.Core.Bool.{Bool, true, false, _&&_, not}
 use mathlib.Core.List.{List, [], _∷_, _++_, map}
 use mathlib.Core.Option.{Option, none, some}
-use Prim.Native.Nat.{ℕ, zero, suc, _+_, _-_}
-use lib.Dec.{leb, ltb, eqb}
+use Prim.Native.Nat.{ℕ, _-_}
+use lib.Dec.{leb, eqb}
 use Rattle.theory.specs.Lists.{pick, iv, keep, has, no-one, all-below, put, put2}
 use Rattle.theory.specs.Events.{Kind, send, recv, other, size, at, kind, recvs, sent, rcvd, sendOf, value}
 use Rattle.theory.specs.Line.{Run, orphan, kept, orphanPhase}
