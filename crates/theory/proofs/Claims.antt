@@ -18,8 +18,8 @@ use Rattle.theory.specs.Events.{size, sends, recvs, saves, sent, rcvd}
 use Rattle.theory.specs.Epochs.{Rule, past, joined, epochAt, phaseAt, epochOf, phaseOf, loggedBy}
 use Rattle.theory.specs.Line.{Run, undone, lost, orphan, kept, orphanPhase, LossFree, restartIn, recorded, current, reached, Usable, Permitted, Greatest, greatestLine}
 use Rattle.theory.specs.Replay.{State, sentAgain, ready, delivered, faultless, SameRecord}
-use Rattle.theory.specs.Order.{carriedOut, refused, choose, Allowed, run, steps, Complete, complete, lowest}
-use Rattle.theory.specs.Answers.{names, orphans, keptOnes, lostOnes, lossFree, sameRecord, lowestOrder}
+use Rattle.theory.specs.Order.{carriedOut, refused, choose, Allowed, run, steps, Complete, complete, lowest, lowestOrder}
+use Rattle.theory.specs.Answers.{names, orphans, keptOnes, lostOnes, lossFree, sameRecord}
 use Rattle.theory.specs.Laws.{Laws}
 use Rattle.theory.proofs.Base.{on, by, le?}
 use Rattle.theory.proofs.Events.{Valid, valid, partner, sent-lt}
@@ -193,7 +193,7 @@ module _ (t : Trace) (w : wellFormed t ≡ true) (rule : Rule) where
         does-all = order-done R (the-laws line) order s h
 
         -- "Steps is the length of the order carried out, and is at most twice the number of events."
-        pub steps-at-most : steps (recorded t rule cut line) order ≤ size t + size t
+        pub steps-at-most : steps order ≤ size t + size t
         steps-at-most = order-bound R (the-laws line) order s h
 
         -- "Phase r is ready when every orphan of phase r or less has been sent again."

@@ -15,10 +15,21 @@ use Rattle.trace.specs.declared.Event.the-variants.{Send, Recv, Save}
 use Rattle.trace.specs.Trace.{Trace, isSend, isRecv, isSave, oneIf, count}
 use Rattle.trace.specs.Fit.{orElse, faultOf, valueFits, allFit, wellFormed}
 use Rattle.theory.specs.Lists.{pick, cnt}
-use Rattle.theory.specs.Events.{Kind, send, recv, other, kindOf, processOf, sendTo, recvFrom, size, eventAt, at, kind, sends, recvs, saves, sent, rcvd, sendOf, recvOf}
+use Rattle.theory.specs.Events.{Kind, send, recv, other, kindOf, processOf, size, eventAt, at, kind, sends, recvs, saves, sent, rcvd, sendOf, recvOf}
 use Rattle.theory.proofs.Base.{by, clash, both, eqb-self, cnt-suc, cnt-skip, cnt-le, cnt-lt, cnt-find, place-at}
 
 -- ---- The kinds of events
+
+-- is it a send to q; is it a receive from p
+abbrev pub sendTo : ℕ → Kind → Bool
+sendTo q (send r) = eqb q r
+sendTo q (recv r) = false
+sendTo q other = false
+
+abbrev pub recvFrom : ℕ → Kind → Bool
+recvFrom p (send r) = false
+recvFrom p (recv r) = eqb p r
+recvFrom p other = false
 
 send-split : (p q : ℕ) (e : Event) → isSend p q e ≡ (eqb p (processOf e) && sendTo q (kindOf e))
 send-split p q (Send a b v) = refl

@@ -11,10 +11,11 @@ use lib.ListN.{length, length-append}
 use lib.Dec.{leb, ltb, eqb}
 use borrow.Author.Tests.{leb-true, leb-false, eqb-true, lt-ltb, le-ltb, eq-eqb}
 use Rattle.theory.specs.Lists.{pick, iv, keep, has, put}
-use Rattle.theory.specs.Events.{Kind, send, recv, other, sendTo, recvFrom, size, at, kind, sent, rcvd}
+use Rattle.theory.specs.Events.{Kind, send, recv, other, size, at, kind, sent, rcvd}
 use Rattle.theory.specs.Line.{Run, orphan, orphanPhase}
 use Rattle.theory.specs.Replay.{Choice, process, hand, State, listed, resends, ready, gate, start, moved, sending, taking, handing, sendStep, recvStep, eventStep, processStep, handStep, step}
 use Rattle.theory.proofs.Base.{by, on, clash, le?, both, same2, eqb-self, Each, keep-head, has-keep-is, has-iv-not}
+use Rattle.theory.proofs.Events.{sendTo, recvFrom}
 use Rattle.theory.proofs.Classes.{rBefore, Kept}
 
 module _ (R : Run) where

@@ -12,7 +12,7 @@ use Rattle.trace.specs.Trace.{Trace}
 use Rattle.theory.specs.Lists.{pick, lastOf, ifSome, first}
 use Rattle.theory.specs.Events.{size}
 use Rattle.theory.specs.Epochs.{Rule, past, epochAt, epochOf}
-use Rattle.theory.specs.Line.{lost, LossFree, recorded, current, Usable, Permitted, Greatest, highest, lower, lowerIf, lowered, lowering, greatestLine}
+use Rattle.theory.specs.Line.{lost, LossFree, recorded, current, Usable, Permitted, Greatest, Above, highest, lower, lowerIf, lowered, lowering, greatestLine}
 use Rattle.theory.proofs.Base.{by, on, clash, eqb-self, lastOf-top, first-none, first-some, sum, sum-lt}
 use Rattle.theory.proofs.Events.{Valid}
 use Rattle.theory.proofs.Lines.{now-is, now-few, number-of, lost-epochs, epoch-le, lost-in, lower-usable, lower-less, lower-over, past-unlogged}
@@ -23,42 +23,34 @@ sum-32 zero f h = omega arith
 sum-32 (suc n) f h = omega (arith, h n (omega arith), sum-32 n f (λ x l. h x (omega arith)))
 
 module _ (t : Trace) (rule : Rule) (A : Valid t) (cut : ℕ) (cl : cut ≤ size t) (usable : ℕ → ℕ → Bool) (U : Usable t rule cut usable) (failed : ℕ → Bool) where
-  -- a permitted line that no permitted line without loss exceeds
-  record Above (m : ℕ → ℕ) : Type 0 where
-    ok : Permitted t rule cut usable failed m
-    over : (l : ℕ → ℕ) → Permitted t rule cut usable failed l → LossFree (recorded t rule cut l) → (z : ℕ) → z < t .procs → l z ≤ m z
-
-  highest-above : Above (highest t rule cut usable failed)
+  pub highest-above : Above t rule cut usable failed (highest t rule cut usable failed)
   unfolding highest
   highest-above = record {
-    ok = λ z h. by (failed z)
+    permitted = λ z h. by (failed z)
         (λ u. inl (rw u ((lastOf-top (usable z) (current t rule cut z) 1 (U .start z) (omega arith) (omega (arith, now-is t rule A cut cl z))) .1)))
         (λ u. inr (rw u, u));
-    over = λ l b n z h. on (b z h)
+    top = λ l b n z h. on (b z h)
         (λ u. let w = U .within z (l z) u in
         by (failed z) (λ v. rw v ((lastOf-top (usable z) (current t rule cut z) (l z) u (w .0) (w .1)) .0)) (λ v. rw v (omega (arith, w .1, now-few t rule A cut cl z))))
         (λ u. rw (u .1) (omega (arith, u .0)));
   }
 
   -- one lowering keeps that, and makes the line's numbers fewer
-  module _ (m : ℕ → ℕ) (a : Above m) (p q k : ℕ) (h : lost (recorded t rule cut m) p q k ≡ true) where
-    v : ℕ
-    v = lastOf (usable p) (epochOf t rule p q k)
-
-    below-above : Above (lower t rule cut usable m p q k)
+  module _ (m : ℕ → ℕ) (a : Above t rule cut usable failed m) (p q k : ℕ) (h : lost (recorded t rule cut m) p q k ≡ true) where
+    pub below-above : Above t rule cut usable failed (lower t rule cut usable m p q k)
     below-above = record {
-      ok = λ z l. by (eqb z p)
-          (λ u. let i : z ≡ p = eqb-true z p u in inl (rw (u, i) (lower-usable t rule A cut cl usable U failed m (a .ok) p q k h)))
-          (λ u. rw u (a .ok z l));
-      over = λ l b n z o. by (eqb z p)
-          (λ u. let i : z ≡ p = eqb-true z p u in rw (u, i) (lower-over t rule A cut cl usable U failed m (a .ok) p q k h l b n (a .over l b n)))
-          (λ u. rw u (a .over l b n z o));
+      permitted = λ z l. by (eqb z p)
+          (λ u. let i : z ≡ p = eqb-true z p u in inl (rw (u, i) (lower-usable t rule A cut cl usable U failed m (a .permitted) p q k h)))
+          (λ u. rw u (a .permitted z l));
+      top = λ l b n z o. by (eqb z p)
+          (λ u. let i : z ≡ p = eqb-true z p u in rw (u, i) (lower-over t rule A cut cl usable U failed m (a .permitted) p q k h l b n (a .top l b n)))
+          (λ u. rw u (a .top l b n z o));
     }
 
     below-sum : sum (t .procs) (lower t rule cut usable m p q k) < sum (t .procs) m
     below-sum = sum-lt (t .procs) p m (lower t rule cut usable m p q k) ((lost-in t rule A cut cl m p q k h) .0)
         (λ x n. let u : eqb x p ≡ false = ne-eqb x p n in rw u)
-        (rw (eqb-self p) (lower-less t rule A cut cl usable U failed m (a .ok) p q k h))
+        (rw (eqb-self p) (lower-less t rule A cut cl usable U failed m (a .permitted) p q k h))
 
   pick-none : (b : Bool) (f : ℕ → ℕ) → pick b (some f) none ≡ none → b ≡ false
   pick-none true f h = absurd (Option·none-ne-some f (sym h))
@@ -88,28 +80,28 @@ module _ (t : Trace) (rule : Rule) (A : Valid t) (cut : ℕ) (cl : cut ≤ size 
       let d = pick-some (lost (recorded t rule cut m) (a .0) (b .0) (c .0)) _ n (c .2) in
       (a .0, b .0, c .0, d .0, d .1)
 
-  lowering-greatest : (c : ℕ) (m : ℕ → ℕ) → Above m → sum (t .procs) m ≤ c → Greatest t rule cut usable failed (lowering t rule cut usable c m)
+  lowering-greatest : (c : ℕ) (m : ℕ → ℕ) → Above t rule cut usable failed m → sum (t .procs) m ≤ c → Greatest t rule cut usable failed (lowering t rule cut usable c m)
   unfolding lowering
   lowering-greatest zero m a h = go (lowered t rule cut usable m) refl
     where
       go : (o : Option (ℕ → ℕ)) → lowered t rule cut usable m ≡ o → Greatest t rule cut usable failed m
-      go none e = record { permitted = a .ok; loss-free = lowered-none m e; top = a .over }
+      go none e = record { permitted = a .permitted; loss-free = lowered-none m e; top = a .top }
       go (some n) e = let r = lowered-some m n e in absurd (omega (arith, below-sum m a (r .0) (r .1) (r .2) (r .3)))
   lowering-greatest (suc c) m a h = go (lowered t rule cut usable m) refl (λ n b l. lowering-greatest c n b l)
     where
       go : (o : Option (ℕ → ℕ)) → lowered t rule cut usable m ≡ o
-          → ((n : ℕ → ℕ) → Above n → sum (t .procs) n ≤ c → Greatest t rule cut usable failed (lowering t rule cut usable c n))
+          → ((n : ℕ → ℕ) → Above t rule cut usable failed n → sum (t .procs) n ≤ c → Greatest t rule cut usable failed (lowering t rule cut usable c n))
           → Greatest t rule cut usable failed (ifSome o m (λ n. lowering t rule cut usable c n))
-      go none e f = record { permitted = a .ok; loss-free = lowered-none m e; top = a .over }
+      go none e f = record { permitted = a .permitted; loss-free = lowered-none m e; top = a .top }
       go (some n) e f =
           let r = lowered-some m n e in
           let s = below-sum m a (r .0) (r .1) (r .2) (r .3) in
-          f n (subst Above (r .4) (below-above m a (r .0) (r .1) (r .2) (r .3))) (subst (λ g. sum (t .procs) g ≤ c) (r .4) (omega arith))
+          f n (subst (Above t rule cut usable failed) (r .4) (below-above m a (r .0) (r .1) (r .2) (r .3))) (subst (λ g. sum (t .procs) g ≤ c) (r .4) (omega arith))
 
   pub greatest-is : Greatest t rule cut usable failed (greatestLine t rule cut usable failed)
   unfolding greatestLine
   greatest-is = lowering-greatest (32 * t .procs) (highest t rule cut usable failed) highest-above
-      (sum-32 (t .procs) (highest t rule cut usable failed) (λ z h. on (highest-above .ok z h)
+      (sum-32 (t .procs) (highest t rule cut usable failed) (λ z h. on (highest-above .permitted z h)
       (λ u. omega (arith, (U .within z _ u) .1, now-few t rule A cut cl z)) (λ u. omega (arith, u .0))))
 
   pub greatest-unique : (l m : ℕ → ℕ) → Greatest t rule cut usable failed l → Greatest t rule cut usable failed m → (z : ℕ) → z < t .procs → l z ≡ m z

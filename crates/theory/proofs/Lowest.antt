@@ -10,8 +10,7 @@ use Rattle.theory.specs.Lists.{ifSome, first}
 use Rattle.theory.specs.Events.{size}
 use Rattle.theory.specs.Line.{Run}
 use Rattle.theory.specs.Replay.{Choice, process, hand, State, start, step}
-use Rattle.theory.specs.Order.{choiceOf, carriedOut, choose, carry, run, Complete, named, lowest, lowestFrom}
-use Rattle.theory.specs.Answers.{lowestOrder}
+use Rattle.theory.specs.Order.{choiceOf, carriedOut, choose, carry, run, Complete, named, lowest, lowestFrom, lowestOrder}
 use Rattle.theory.specs.Laws.{Laws}
 use Rattle.theory.proofs.Base.{on, le?, or-none, or-some, first-none, first-some}
 use Rattle.theory.proofs.Flow.{view, Inv, inv-step}

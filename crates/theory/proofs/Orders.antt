@@ -195,8 +195,8 @@ module _ (R : Run) where
       pub order-done : LossFree R → Complete R s → (z : ℕ) → s .todo z ≡ []
       order-done f c z = all-done R L (no-loss R L f) s i (stuck s i c) z
 
-      pub order-work : work R (start R) ≡ steps R order + work R s
+      pub order-work : work R (start R) ≡ steps order + work R s
       order-work = reach-work R L s (length order) (run-reaches order s h)
 
-      pub order-bound : steps R order ≤ size (R .trace) + size (R .trace)
+      pub order-bound : steps order ≤ size (R .trace) + size (R .trace)
       order-bound = reach-bound R L s (length order) (run-reaches order s h)

@@ -12,10 +12,10 @@ use Rattle.trace.specs.Fit.{wellFormed, allFit, faultOf}
 use Rattle.theory.specs.Lists.{iv, keep, cnt, place, lastOf, no-one, all-below, first}
 use Rattle.theory.specs.Events.{eventAt, at, kind, sends, recvs, saves, sent, rcvd, sendOf, recvOf, value}
 use Rattle.theory.specs.Epochs.{past, note, notes, loggedBy}
-use Rattle.theory.specs.Line.{Run, sentBefore, sentAfter, received, receivedBefore, undone, lost, orphan, kept, orphanPhase, restartIn, recorded, reached, highest, lowered, lowering, greatestLine}
+use Rattle.theory.specs.Line.{inSet, Run, sentBefore, sentAfter, received, receivedBefore, undone, lost, orphan, kept, orphanPhase, restartIn, recorded, reached, highest, lowered, lowering, greatestLine}
 use Rattle.theory.specs.Replay.{listed, keptOn, takenBy, resends, ready, gate, sendStep, recvStep, eventStep, processStep, handStep, step, delivered, faultless}
 use Rattle.theory.specs.Order.{choiceOf, choose, carry, run, isNone, lowest, lowestFrom, complete}
-use Rattle.theory.specs.Answers.{inSet, lineOf, Listed, gather, messages, orphans, samePairs, sameRecord, placeOf, leaves}
+use Rattle.theory.specs.Answers.{lineOf, Listed, gather, messages, orphans, samePairs, sameRecord, placeOf, leaves}
 
 -- all that a row computes with
 unfoldable pub opens : ℕ

@@ -1,18 +1,14 @@
--- What an answer holds, as it can be computed: sets, lines, lists of messages, records compared, orders judged.
+-- What an answer holds, as it can be computed: lines, lists of messages, loss, records compared, orders judged.
 use mathlib.Core.Bool.{Bool, true, false, _&&_, _||_}
 use mathlib.Core.List.{List, [], _∷_, _++_, map}
-use Prim.Native.Nat.{ℕ, zero, suc, _+_, _/_, _%_, _^_}
+use Prim.Native.Nat.{ℕ, zero, suc}
 use lib.ListN.{getD}
 use lib.Dec.{eqb}
 use Rattle.theory.specs.Lists.{iv, keep, no-one, all-below}
 use Rattle.theory.specs.Events.{size, sent}
 use Rattle.theory.specs.Line.{Run, lost, orphan, kept, orphanPhase}
-use Rattle.theory.specs.Replay.{State, start, delivered, faultless}
-use Rattle.theory.specs.Order.{Outcome, carriedOut, refused, lowestFrom}
-
--- "M a 64-bit number in decimal whose bit z says that zone z failed"
-abbrev pub inSet : ℕ → ℕ → Bool
-inSet m z = eqb (m / 2 ^ z % 2) 1
+use Rattle.theory.specs.Replay.{State, delivered, faultless}
+use Rattle.theory.specs.Order.{Outcome, carriedOut, refused}
 
 -- a line given by its numbers; "Places of a line past its N numbers are 0"
 abbrev pub lineOf : List ℕ → ℕ → ℕ
@@ -74,7 +70,3 @@ module _ (R : Run) where
   -- are the records of a replay and of the run without failure equal, on every channel of the run
   unfoldable pub sameRecord : State → Bool
   sameRecord s = all-below (R .trace .procs) (λ p. all-below (R .trace .procs) (λ q. samePairs (delivered R s p q) (faultless R p q)))
-
-  -- the order of lowest allowed choices; no order is longer than twice the number of events
-  abbrev pub lowestOrder : List ℕ
-  lowestOrder = lowestFrom R (size (R .trace) + size (R .trace)) (start R)

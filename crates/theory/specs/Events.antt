@@ -1,8 +1,7 @@
 -- Events, channels and message numbers of a trace (document 01, "The trace text"). A process is document 01's zone, a checkpoint its save.
-use mathlib.Core.Bool.{Bool, false}
+use mathlib.Core.Bool.{Bool}
 use Prim.Native.Nat.{ℕ, zero, suc}
 use lib.ListN.{length, getD}
-use lib.Dec.{eqb}
 use Rattle.trace.specs.declared.Event.{Event}
 use Rattle.trace.specs.declared.Event.the-variants.{Send, Recv, Save}
 use Rattle.trace.specs.Trace.{Trace, isSend, isRecv, isSave}
@@ -24,17 +23,6 @@ abbrev pub processOf : Event → ℕ
 processOf (Send at to val) = at
 processOf (Recv at from) = at
 processOf (Save at) = at
-
--- is it a send to q; is it a receive from p
-abbrev pub sendTo : ℕ → Kind → Bool
-sendTo q (send r) = eqb q r
-sendTo q (recv r) = false
-sendTo q other = false
-
-abbrev pub recvFrom : ℕ → Kind → Bool
-recvFrom p (send r) = false
-recvFrom p (recv r) = eqb p r
-recvFrom p other = false
 
 module _ (t : Trace) where
   -- "events, numbered from 1 in text order": how many there are, and event e. Under any other number stands a checkpoint of

@@ -3,12 +3,21 @@ use mathlib.Core.Path.{_≡_}
 use mathlib.Core.Logic.{_⊎_}
 use mathlib.Core.Bool.{Bool, true, false, _&&_, _||_, not}
 use mathlib.Core.Option.{Option, none, some}
-use Prim.Native.Nat.{ℕ, zero, suc, _-_, _*_, _≤_, _<_}
+use Prim.Native.Nat.{ℕ, zero, suc, _-_, _*_, _/_, _%_, _^_, _≤_, _<_}
 use lib.Dec.{leb, ltb, eqb}
 use Rattle.trace.specs.Trace.{Trace}
 use Rattle.theory.specs.Lists.{pick, place, lastOf, ifSome, first, put}
 use Rattle.theory.specs.Events.{size, saves, sendOf, recvOf}
 use Rattle.theory.specs.Epochs.{Rule, epochAt, phaseAt, epochOf, phaseOf, loggedBy}
+
+-- ---- A line: "an epoch from 1 to its current one, or 32, which means the zone stays as it was at the cut"
+abbrev pub staysIn : (ℕ → ℕ) → ℕ → Bool
+staysIn line z = eqb (line z) 32
+
+-- "A restart in an epoch is right after the save that raised the zone to it, in epoch 1 at the zone's start. For a zone that
+-- stays, the cut takes the place of its restart in every rule." Checkpoint number e - 1 of the process raised it to epoch e.
+unfoldable pub restartIn : Trace → ℕ → (ℕ → ℕ) → ℕ → ℕ
+restartIn t cut line z = pick (staysIn line z) cut (place (saves t z) (line z - 1) cut)
 
 -- A recorded run with a failure and a recovery line: all that recovery knows. What holds of it is said by `Laws`.
 pub record Run : Type 0 where
@@ -23,6 +32,10 @@ pub record Run : Type 0 where
   -- does process z stay as it was at the cut; and right after which event it restarts, the cut if it stays
   pub stays : ℕ → Bool
   pub restart : ℕ → ℕ
+
+-- "M a 64-bit number in decimal whose bit z says that zone z failed"
+abbrev pub inSet : ℕ → ℕ → Bool
+inSet m z = eqb (m / 2 ^ z % 2) 1
 
 -- ---- What becomes of message k from p to q. "Only events up to K count here."
 module _ (R : Run) where
@@ -64,15 +77,6 @@ module _ (R : Run) where
   abbrev pub LossFree : Type 0
   LossFree = (p q k : ℕ) → lost p q k ≡ false
 
--- ---- A line: "an epoch from 1 to its current one, or 32, which means the zone stays as it was at the cut"
-abbrev pub staysIn : (ℕ → ℕ) → ℕ → Bool
-staysIn line z = eqb (line z) 32
-
--- "A restart in an epoch is right after the save that raised the zone to it, in epoch 1 at the zone's start. For a zone that
--- stays, the cut takes the place of its restart in every rule." Checkpoint number e - 1 of the process raised it to epoch e.
-unfoldable pub restartIn : Trace → ℕ → (ℕ → ℕ) → ℕ → ℕ
-restartIn t cut line z = pick (staysIn line z) cut (place (saves t z) (line z - 1) cut)
-
 module _ (t : Trace) (rule : Rule) (cut : ℕ) where
   -- the recorded run with this failure and a line
   abbrev pub recorded : (ℕ → ℕ) → Run
@@ -100,6 +104,7 @@ module _ (t : Trace) (rule : Rule) (cut : ℕ) where
     pub start : (z : ℕ) → usable z 1 ≡ true
     pub within : (z e : ℕ) → usable z e ≡ true → (1 ≤ e) × (e ≤ current z)
 
+  -- `failed z`: is process z one that failed
   module _ (usable : ℕ → ℕ → Bool) (failed : ℕ → Bool) where
     -- "Failed zones may not stay."
     abbrev pub Permitted : (ℕ → ℕ) → Type 0
@@ -109,6 +114,11 @@ module _ (t : Trace) (rule : Rule) (cut : ℕ) where
     pub record Greatest (l : ℕ → ℕ) : Type 0 where
       pub permitted : Permitted l
       pub loss-free : LossFree (recorded l)
+      pub top : (m : ℕ → ℕ) → Permitted m → LossFree (recorded m) → (z : ℕ) → z < t .procs → m z ≤ l z
+
+    -- a permitted line that no permitted line without loss exceeds
+    pub record Above (l : ℕ → ℕ) : Type 0 where
+      pub permitted : Permitted l
       pub top : (m : ℕ → ℕ) → Permitted m → LossFree (recorded m) → (z : ℕ) → z < t .procs → m z ≤ l z
 
   -- ---- The same line by lowering: from the highest permitted line, as long as a message is lost, its sender goes down to the last

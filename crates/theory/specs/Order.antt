@@ -7,6 +7,7 @@ use Prim.Native.Nat.{ℕ, zero, suc, _+_, _-_, _*_, _/_, _%_}
 use lib.ListN.{length}
 use lib.Dec.{ltb}
 use Rattle.theory.specs.Lists.{pick, all-below, ifSome, or-else, first}
+use Rattle.theory.specs.Events.{size}
 use Rattle.theory.specs.Line.{Run}
 use Rattle.theory.specs.Replay.{Choice, process, hand, State, step, start}
 
@@ -23,6 +24,10 @@ abbrev pub isNone : {A : Type 0} → Option A → Bool
 isNone none = true
 isNone (some a) = false
 
+-- "Steps is the length of the order carried out"
+abbrev pub steps : List ℕ → ℕ
+steps order = length order
+
 module _ (R : Run) where
   -- the state that a choice number leaves, or none
   unfoldable pub choose : State → ℕ → Option State
@@ -38,10 +43,6 @@ module _ (R : Run) where
 
   unfoldable pub run : List ℕ → Outcome
   run order = carry (start R) 1 order
-
-  -- "Steps is the length of the order carried out"
-  abbrev pub steps : List ℕ → ℕ
-  steps order = length order
 
   -- "An order is complete when no choice is allowed"
   abbrev pub Complete : State → Type 0
@@ -65,3 +66,7 @@ module _ (R : Run) where
   unfoldable pub lowestFrom : ℕ → State → List ℕ
   lowestFrom zero s = []
   lowestFrom (suc n) s = ifSome (lowest s) [] (λ r. r .0 ∷ lowestFrom n (r .1))
+
+  -- no order is longer than twice the number of events
+  abbrev pub lowestOrder : List ℕ
+  lowestOrder = lowestFrom (size (R .trace) + size (R .trace)) (start R)
