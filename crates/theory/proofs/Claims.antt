@@ -16,7 +16,7 @@ use Rattle.trace.specs.Fit.{wellFormed}
 use Rattle.theory.specs.Lists.{cnt, lastOf}
 use Rattle.theory.specs.Events.{size, sends, recvs, saves, sent, rcvd}
 use Rattle.theory.specs.Epochs.{Rule, past, joined, epochAt, phaseAt, epochOf, phaseOf, loggedBy}
-use Rattle.theory.specs.Line.{Run, undone, lost, orphan, kept, orphanPhase, LossFree, restartIn, recorded, current, reached, Usable, Permitted, Greatest, greatestLine}
+use Rattle.theory.specs.Line.{Run, undone, lost, orphan, kept, orphanPhase, LossFree, restartIn, recorded, current, reached, Usable, Permitted, Greatest, Above, lower, highest, greatestLine}
 use Rattle.theory.specs.Replay.{State, sentAgain, ready, delivered, faultless, SameRecord}
 use Rattle.theory.specs.Order.{carriedOut, refused, choose, Allowed, run, steps, Complete, complete, lowest, lowestOrder}
 use Rattle.theory.specs.Answers.{names, orphans, keptOnes, lostOnes, lossFree, sameRecord}
@@ -27,8 +27,8 @@ use Rattle.theory.proofs.Classes.{undone-counts, lost-counts, orphan-co
 use Rattle.theory.proofs.Flow.{Inv}
 use Rattle.theory.proofs.Loss.{inv}
 use Rattle.theory.proofs.Epochs.{epoch-is, epochOf-at, phaseOf-send, logged-is, phase-recv, laws}
-use Rattle.theory.proofs.Lines.{now-is, now-few, usable-reached, restart-mono, number-of, lower-usable, lower-less, lower-over}
-use Rattle.theory.proofs.Greatest.{greatest-is, greatest-unique, floor-below}
+use Rattle.theory.proofs.Lines.{now-is, now-few, usable-reached, restart-mono, number-of, lower-less}
+use Rattle.theory.proofs.Greatest.{highest-above, below-above, greatest-is, greatest-unique, floor-below}
 use Rattle.theory.proofs.Orders.{run-reaches, run-refused, complete-iff, order-iff, order-differs, order-progress, order-done, order-bound}
 use Rattle.theory.proofs.Lowest.{lowest-some, lowest-iff, lowest-order}
 use Rattle.theory.proofs.Answers.{orphans-name, kept-name, lost-name, lossFree-iff, sameRecord-iff, ready-iff}
@@ -42,7 +42,7 @@ pub demand-3 : (t : Trace) → wellFormed t ≡ true → (cut : ℕ) → cut ≤
 demand-3 t w cut cl failed line b order s h c = order-iff (recorded t past cut line) (laws t past (valid t w) cut line cl) order s h c
 
 module _ (t : Trace) (w : wellFormed t ≡ true) (rule : Rule) where
-  A : Valid t
+  abbrev A : Valid t
   A = valid t w
 
   -- ---- "A takes the oldest message in transit": the message that a receive takes was sent before
@@ -56,7 +56,7 @@ module _ (t : Trace) (w : wellFormed t ≡ true) (rule : Rule) where
   pub epoch-counts : (z x : ℕ) → epochAt t rule z x ≡ suc (cnt (saves t z) x)
   epoch-counts z x = epoch-is t rule x z
 
-  -- "A message carries its sender's epoch and phase at the send." (which a send does not change)
+  -- "A message carries its sender's epoch and phase at the send." (A send changes neither.)
   pub carries-epoch : (p q d : ℕ) → sends t p q d ≡ true → 0 < d → d ≤ size t → epochOf t rule p q (sent t p q d) ≡ epochAt t rule p d
   carries-epoch = epochOf-at t rule
 
@@ -74,45 +74,52 @@ module _ (t : Trace) (w : wellFormed t ≡ true) (rule : Rule) where
   receive-phase = phase-recv t rule A
 
   module _ (cut : ℕ) (cl : cut ≤ size t) where
-    -- ---- The laws, from which all that follows is proved: they hold for every line
-    pub the-laws : (line : ℕ → ℕ) → Laws (recorded t rule cut line)
-    the-laws line = laws t rule A cut line cl
+    -- ---- A line, whatever its numbers
 
-    -- ---- The restart line
+    module _ (line : ℕ → ℕ) where
+      abbrev R : Run
+      R = recorded t rule cut line
 
-    module _ (line : ℕ → ℕ) (p q k : ℕ) where
-      abbrev L : Laws (recorded t rule cut line)
-      L = laws t rule A cut line cl
+      -- the laws, from which all that follows is proved
+      pub the-laws : Laws R
+      the-laws = laws t rule A cut line cl
 
-      -- undone, lost, orphan, kept, as document 01 words them by events, are comparisons with three counts on the channel: received before
-      -- the receiver's restart, received by the cut, sent before the sender's restart
-      pub undone-by-counts : undone (recorded t rule cut line) p q k ≡ (ltb (rcvd t p q (restartIn t cut line q)) k && leb k (rcvd t p q cut))
-      undone-by-counts = undone-counts (recorded t rule cut line) L p q k
+      -- undone, lost, orphan, kept, which document 01 words by events, are comparisons with three counts on the channel
+      abbrev rBefore : ℕ → ℕ → ℕ
+      rBefore p q = rcvd t p q (restartIn t cut line q)
 
-      pub lost-by-counts : lost (recorded t rule cut line) p q k
-          ≡ (ltb (rcvd t p q (restartIn t cut line q)) k && (leb k (rcvd t p q cut) && (leb k (sent t p q (restartIn t cut line p)) && not (loggedBy t rule p q k))))
-      lost-by-counts = lost-counts (recorded t rule cut line) L p q k
+      abbrev rCut : ℕ → ℕ → ℕ
+      rCut p q = rcvd t p q cut
 
-      pub orphan-by-counts : orphan (recorded t rule cut line) p q k
-          ≡ (ltb (sent t p q (restartIn t cut line p)) k && leb k (rcvd t p q (restartIn t cut line q)))
-      orphan-by-counts = orphan-counts (recorded t rule cut line) L p q k
+      abbrev sBefore : ℕ → ℕ → ℕ
+      sBefore p q = sent t p q (restartIn t cut line p)
 
-      pub kept-by-counts : kept (recorded t rule cut line) p q k
-          ≡ (leb k (sent t p q (restartIn t cut line p)) && (ltb (rcvd t p q (restartIn t cut line q)) k && (ltb (rcvd t p q cut) k || loggedBy t rule p q k)))
-      kept-by-counts = kept-counts (recorded t rule cut line) L p q k
+      pub undone-by-counts : (p q k : ℕ) → undone R p q k ≡ (ltb (rBefore p q) k && leb k (rCut p q))
+      undone-by-counts = undone-counts R the-laws
+
+      pub lost-by-counts : (p q k : ℕ) → lost R p q k ≡ (ltb (rBefore p q) k && (leb k (rCut p q) && (leb k (sBefore p q) && not (loggedBy t rule p q k))))
+      lost-by-counts = lost-counts R the-laws
+
+      pub orphan-by-counts : (p q k : ℕ) → orphan R p q k ≡ (ltb (sBefore p q) k && leb k (rBefore p q))
+      orphan-by-counts = orphan-counts R the-laws
+
+      pub kept-by-counts : (p q k : ℕ) → kept R p q k ≡ (leb k (sBefore p q) && (ltb (rBefore p q) k && (ltb (rCut p q) k || loggedBy t rule p q k)))
+      kept-by-counts = kept-counts R the-laws
 
       -- "each counted if and only if its definition holds": the lists name a message exactly if it is of the class
-      pub orphans-listed : names p q k (orphans (recorded t rule cut line)) ≡ orphan (recorded t rule cut line) p q k
-      orphans-listed = orphans-name (recorded t rule cut line) L p q k
+      pub orphans-listed : (p q k : ℕ) → names p q k (orphans R) ≡ orphan R p q k
+      orphans-listed = orphans-name R the-laws
 
-      pub kept-listed : names p q k (keptOnes (recorded t rule cut line)) ≡ kept (recorded t rule cut line) p q k
-      kept-listed = kept-name (recorded t rule cut line) L p q k
+      pub kept-listed : (p q k : ℕ) → names p q k (keptOnes R) ≡ kept R p q k
+      kept-listed = kept-name R the-laws
 
-      pub lost-listed : names p q k (lostOnes (recorded t rule cut line)) ≡ lost (recorded t rule cut line) p q k
-      lost-listed = lost-name (recorded t rule cut line) L p q k
+      pub lost-listed : (p q k : ℕ) → names p q k (lostOnes R) ≡ lost R p q k
+      lost-listed = lost-name R the-laws
 
-    pub loss-test : (line : ℕ → ℕ) → (lossFree (recorded t rule cut line) ≡ true) ↔ LossFree (recorded t rule cut line)
-    loss-test line = lossFree-iff (recorded t rule cut line) (the-laws line)
+      pub loss-test : (lossFree R ≡ true) ↔ LossFree R
+      loss-test = lossFree-iff R the-laws
+
+    -- ---- The restart line, of any usable checkpoints
 
     -- "an epoch from 1 to its current one" is a set of usable checkpoints that contains the start
     pub reached-usable : Usable t rule cut (reached t rule cut)
@@ -129,90 +136,91 @@ module _ (t : Trace) (w : wellFormed t ≡ true) (rule : Rule) where
       -- "in no other such line does any zone keep more of its work"
       pub greatest-work : (l m : ℕ → ℕ) → Greatest t rule cut usable failed l → Permitted t rule cut usable failed m → LossFree (recorded t rule cut m)
           → (z : ℕ) → z < t .procs → restartIn t cut m z ≤ restartIn t cut l z
-      greatest-work l m g b f z h = restart-mono t rule A cut cl m l z (number-of t rule A cut cl usable U failed l (g .permitted) z h) (g .top m b f z h)
+      greatest-work l m g b f z h =
+          restart-mono t rule A cut cl m l z (number-of t rule A cut cl usable U failed l (g .permitted) z h) (g .top m b f z h)
 
-      -- the step of lowering: a message lost under a line lets its sender be at most in the last usable epoch not above the epoch of the send
-      pub lowering-step : (m : ℕ → ℕ) → Permitted t rule cut usable failed m → (p q k : ℕ) → lost (recorded t rule cut m) p q k ≡ true
-          → (usable p (lastOf (usable p) (epochOf t rule p q k)) ≡ true)
-          × (lastOf (usable p) (epochOf t rule p q k) < m p)
-          × ((l : ℕ → ℕ) → Permitted t rule cut usable failed l → LossFree (recorded t rule cut l) → ((z : ℕ) → z < t .procs → l z ≤ m z)
-          → l p ≤ lastOf (usable p) (epochOf t rule p q k))
-      lowering-step m b p q k h = (
-        lower-usable t rule A cut cl usable U failed m b p q k h,
-        lower-less t rule A cut cl usable U failed m b p q k h,
-        lower-over t rule A cut cl usable U failed m b p q k h,
-      )
+      -- Lowering, step by step. It begins with the highest permitted line. A message lost under a line sends its sender to the last usable epoch
+      -- that is not above the epoch of its send, which is lower, and still no permitted line without loss is above. It ends when nothing is lost.
+      pub lowering-begins : Above t rule cut usable failed (highest t rule cut usable failed)
+      lowering-begins = highest-above t rule A cut cl usable U failed
+
+      pub lowering-goes-on : (m : ℕ → ℕ) → Above t rule cut usable failed m → (p q k : ℕ) → lost (recorded t rule cut m) p q k ≡ true
+          → Above t rule cut usable failed (lower t rule cut usable m p q k) × (lastOf (usable p) (epochOf t rule p q k) < m p)
+      lowering-goes-on m a p q k h =
+          (below-above t rule A cut cl usable U failed m a p q k h, lower-less t rule A cut cl usable U failed m (a .permitted) p q k h)
+
+      pub lowering-ends : (m : ℕ → ℕ) → Above t rule cut usable failed m → LossFree (recorded t rule cut m) → Greatest t rule cut usable failed m
+      lowering-ends m a f = record { permitted = a .permitted; loss-free = f; top = a .top }
 
     -- ---- Gates and steps
 
     module _ (line : ℕ → ℕ) where
-      abbrev R : Run
-      R = recorded t rule cut line
+      abbrev S : Run
+      S = recorded t rule cut line
 
-      -- "a sent message whose number is at most how many the receiver had received on that channel before its restart is dropped": those are
-      -- the orphans, of the sends after the restart
+      abbrev L : Laws S
+      L = laws t rule A cut line cl
+
+      -- "a sent message whose number is at most how many the receiver had received on that channel before its restart is dropped": of the sends
+      -- after the restart those are the orphans'
       pub dropped-orphans : (p q e : ℕ) → sends t p q e ≡ true → restartIn t cut line p < e
-          → leb (sent t p q e) (rcvd t p q (restartIn t cut line q)) ≡ orphan (recorded t rule cut line) p q (sent t p q e)
+          → leb (sent t p q e) (rcvd t p q (restartIn t cut line q)) ≡ orphan S p q (sent t p q e)
       dropped-orphans p q e h l =
           let a : ltb (sent t p q (restartIn t cut line p)) (sent t p q e) ≡ true = lt-ltb _ _ (sent-lt t p q (restartIn t cut line p) e h l) in
-          sym (orphan-counts R (the-laws line) p q (sent t p q e) ∙ rw a)
+          sym (orphan-counts S L p q (sent t p q e) ∙ rw a)
 
-      -- "a complete order", tested: "An order is complete when no choice is allowed"
-      pub complete-test : (s : State) → (complete (recorded t rule cut line) s ≡ true) ↔ Complete (recorded t rule cut line) s
-      complete-test = complete-iff R
+      -- "An order is complete when no choice is allowed", as it can be tested: no number below 4,160 is
+      pub complete-test : (s : State) → (complete S s ≡ true) ↔ Complete S s
+      complete-test = complete-iff S
 
-      -- 11: "a choice isn't allowed where it comes", with its place
-      pub refused-place : (order : List ℕ) (i : ℕ) → run (recorded t rule cut line) order ≡ refused i
-          → (m : ℕ) × (s : State) × (i ≡ suc m) × (m < length order)
-          × (run (recorded t rule cut line) (take m order) ≡ carriedOut s) × (choose (recorded t rule cut line) s (getD order m 0) ≡ none)
-      refused-place = run-refused R
+      -- 11, "a choice isn't allowed where it comes", and its place: those before it are carried out, and it is not allowed in what they leave
+      pub refused-place : (order : List ℕ) (i : ℕ) → run S order ≡ refused i
+          → (m : ℕ) × (s : State) × (i ≡ suc m) × (m < length order) × (run S (take m order) ≡ carriedOut s) × (choose S s (getD order m 0) ≡ none)
+      refused-place = run-refused S
 
       -- an order that is carried out, complete or not
-      module _ (order : List ℕ) (s : State) (h : run (recorded t rule cut line) order ≡ carriedOut s) where
-        abbrev I : Inv (recorded t rule cut line) s
-        I = inv R (the-laws line) s (length order) (run-reaches R order s h)
+      module _ (order : List ℕ) (s : State) (h : run S order ≡ carriedOut s) where
+        abbrev I : Inv S s
+        I = inv S L s (length order) (run-reaches S order s h)
 
         -- demand 3 for any rule and any line
-        pub record-iff : Complete (recorded t rule cut line) s → SameRecord (recorded t rule cut line) s ↔ LossFree (recorded t rule cut line)
-        record-iff = order-iff R (the-laws line) order s h
+        pub record-iff : Complete S s → SameRecord S s ↔ LossFree S
+        record-iff = order-iff S L order s h
 
-        pub record-test : (sameRecord (recorded t rule cut line) s ≡ true) ↔ SameRecord (recorded t rule cut line) s
-        record-test = sameRecord-iff R (the-laws line) s I
+        -- "Equal is the same numbers and values in the same order on every channel.", as it can be tested
+        pub record-test : (sameRecord S s ≡ true) ↔ SameRecord S s
+        record-test = sameRecord-iff S L s I
 
         -- from a line that loses a message the record of its channel differs, whether the order is complete or not
-        pub lost-differs : (p q k : ℕ) → lost (recorded t rule cut line) p q k ≡ true
-            → delivered (recorded t rule cut line) s p q ≢ faultless (recorded t rule cut line) p q
-        lost-differs = order-differs R (the-laws line) order s h
+        pub lost-differs : (p q k : ℕ) → lost S p q k ≡ true → delivered S s p q ≢ faultless S p q
+        lost-differs = order-differs S L order s h
 
         -- "From a line without loss, an order carried out so far always has an allowed choice until each zone has done all its events"
-        pub always-goes-on : LossFree (recorded t rule cut line) → (z e : ℕ) (es : List ℕ) → s .todo z ≡ e ∷ es → (c : ℕ) × Allowed (recorded t rule cut line) s c
-        always-goes-on = order-progress R (the-laws line) order s h
+        pub always-goes-on : LossFree S → (z e : ℕ) (es : List ℕ) → s .todo z ≡ e ∷ es → (c : ℕ) × Allowed S s c
+        always-goes-on = order-progress S L order s h
 
         -- "so a complete one does them all"
-        pub does-all : LossFree (recorded t rule cut line) → Complete (recorded t rule cut line) s → (z : ℕ) → s .todo z ≡ []
-        does-all = order-done R (the-laws line) order s h
+        pub does-all : LossFree S → Complete S s → (z : ℕ) → s .todo z ≡ []
+        does-all = order-done S L order s h
 
         -- "Steps is the length of the order carried out, and is at most twice the number of events."
         pub steps-at-most : steps order ≤ size t + size t
-        steps-at-most = order-bound R (the-laws line) order s h
+        steps-at-most = order-bound S L order s h
 
         -- "Phase r is ready when every orphan of phase r or less has been sent again."
-        pub ready-means : (r : ℕ) → (ready (recorded t rule cut line) s r ≡ true)
-            ↔ ((p q k : ℕ) → orphan (recorded t rule cut line) p q k ≡ true → orphanPhase (recorded t rule cut line) p q k ≤ r → sentAgain (recorded t rule cut line) s p q k ≡ true)
-        ready-means = ready-iff R (the-laws line) s (I .cursors)
+        pub ready-means : (r : ℕ) → (ready S s r ≡ true) ↔ ((p q k : ℕ) → orphan S p q k ≡ true → orphanPhase S p q k ≤ r → sentAgain S s p q k ≡ true)
+        ready-means = ready-iff S L s (I .cursors)
 
-        -- "the order that always picks the lowest allowed choice": what `lowest` picks is allowed and no lower number is; it picks none exactly
-        -- when the order is complete
-        pub lowest-is : (r : ℕ × State) → lowest (recorded t rule cut line) s ≡ some r
-            → (choose (recorded t rule cut line) s (r .0) ≡ some (r .1)) × ((c : ℕ) → c < r .0 → choose (recorded t rule cut line) s c ≡ none)
-        lowest-is = lowest-some R (the-laws line) s I
+        -- "the order that always picks the lowest allowed choice": what it picks is allowed and no lower number is; it ends where it is complete
+        pub lowest-is : (r : ℕ × State) → lowest S s ≡ some r → (choose S s (r .0) ≡ some (r .1)) × ((c : ℕ) → c < r .0 → choose S s c ≡ none)
+        lowest-is = lowest-some S L s I
 
-        pub lowest-ends : (lowest (recorded t rule cut line) s ≡ none) ↔ Complete (recorded t rule cut line) s
-        lowest-ends = lowest-iff R (the-laws line) s I
+        pub lowest-ends : (lowest S s ≡ none) ↔ Complete S s
+        lowest-ends = lowest-iff S L s I
 
-      -- and it is complete: every line has a complete order
-      pub lowest-completes : (s : State) × (run (recorded t rule cut line) (lowestOrder (recorded t rule cut line)) ≡ carriedOut s) × Complete (recorded t rule cut line) s
-      lowest-completes = lowest-order R (the-laws line)
+      -- and it gets there, so that every line has a complete order
+      pub lowest-completes : (s : State) × (run S (lowestOrder S) ≡ carriedOut s) × Complete S s
+      lowest-completes = lowest-order S L
 
 -- ---- The floor, for document 01's rule: "No zone in it restarts in an epoch below the smallest current epoch of a failed zone."
 
