@@ -398,10 +398,6 @@ sum-lt (suc n) z f g l h k = by (eqb z n)
 
 -- ---- Bounded search
 
-pub no-one-nil : (f : ℕ → Bool) (l : List ℕ) → l ≡ [] → no-one f l ≡ true
-unfolding no-one
-no-one-nil f l e = rw e
-
 pub all-true : (n : ℕ) (f : ℕ → Bool) → ((z : ℕ) → z < n → f z ≡ true) → all-below n f ≡ true
 unfolding all-below
 all-true zero f h = refl

@@ -45,11 +45,11 @@ module _ (R : Run) where
   view-event s t z e es (recv p) h k d = view-recv s t z p e es (s .chan p z) h k refl d
   view-event s t z e es other h k d = subst (Did s (process z)) (Option·some-injective _ _ d) (did-other h k)
 
-  view-zone : (s t : State) (z : ℕ) (l : List ℕ) (b : Bool) → s .todo z ≡ l → processStep R s z l b ≡ some t → Did s (process z) t
+  view-process : (s t : State) (z : ℕ) (l : List ℕ) (b : Bool) → s .todo z ≡ l → processStep R s z l b ≡ some t → Did s (process z) t
   unfolding processStep
-  view-zone s t z [] b h d = absurd (Option·none-ne-some _ d)
-  view-zone s t z (e ∷ es) true h d = view-event s t z e es (kind (R .trace) e) h refl d
-  view-zone s t z (e ∷ es) false h d = absurd (Option·none-ne-some _ d)
+  view-process s t z [] b h d = absurd (Option·none-ne-some _ d)
+  view-process s t z (e ∷ es) true h d = view-event s t z e es (kind (R .trace) e) h refl d
+  view-process s t z (e ∷ es) false h d = absurd (Option·none-ne-some _ d)
 
   view-hand : (s t : State) (p q : ℕ) (l : List ℕ) → s .left p q ≡ l → handStep R s p q l ≡ some t → Did s (hand p q) t
   unfolding handStep
@@ -60,7 +60,7 @@ module _ (R : Run) where
 
   pub view : (s t : State) (c : Choice) → step R s c ≡ some t → Did s c t
   unfolding step
-  view s t (process z) d = view-zone s t z (s .todo z) (ready R s (gate R z)) refl d
+  view s t (process z) d = view-process s t z (s .todo z) (ready R s (gate R z)) refl d
   view s t (hand p q) d = view-hand s t p q (s .left p q) refl d
 
   -- the messages that a process has still to send on a channel and that will not be dropped

@@ -1,5 +1,7 @@
--- From a line without loss a choice is allowed until every process has done all its events: a phase that is not ready waits for an orphan, and
--- the events up to the cut of that phase or less make a choice allowed. From the laws on phases, by Progress.
+-- From a line without loss a choice is allowed until every process has done all its events. From the laws on phases, by Progress.
+-- How: a phase r that is not ready waits for an orphan whose send is up to the cut and of phase r or less. Among such events Progress meets only
+-- gates and kept messages of a phase below r (a process that goes back has its gate below its events, a kept message that a receive wants is logged): so
+-- by recursion on r a choice is allowed. With that, all events serve.
 use mathlib.Core.Path.{_≡_, refl, sym, _∙_, ap}
 use mathlib.Core.Logic.{_≢_}
 use mathlib.Core.Bool.{true, false}

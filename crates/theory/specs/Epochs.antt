@@ -73,8 +73,8 @@ module _ (t : Trace) (rule : Rule) where
   abbrev pub phaseAt : ℕ → ℕ → ℕ
   phaseAt z x = (notes x) .phases z
 
-  -- of message k from p to q: its epoch and its phase, and whether it is logged (a receive changes no epoch, so that the
-  -- receiver's epoch is the one after it)
+  -- of message k from p to q: its epoch and its phase, and, if it is received, whether it is logged (a receive changes no epoch, so
+  -- that the receiver's epoch is the one after it)
   abbrev pub epochOf : ℕ → ℕ → ℕ → ℕ
   epochOf p q k = ((notes (size t)) .carried p q k) .epoch
 
