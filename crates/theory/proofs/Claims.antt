@@ -27,7 +27,7 @@ use Rattle.theory.proofs.Classes.{undone-counts, lost-counts, orphan-co
 use Rattle.theory.proofs.Flow.{Inv}
 use Rattle.theory.proofs.Loss.{inv}
 use Rattle.theory.proofs.Epochs.{epoch-is, epochOf-at, phaseOf-send, logged-is, phase-recv, laws}
-use Rattle.theory.proofs.Lines.{now-is, now-few, usable-reached, restart-mono, number-of, lower-less}
+use Rattle.theory.proofs.Lines.{now-is, now-few, usable-reached, stays-at, restart-epoch, restart-mono, number-of, lower-less}
 use Rattle.theory.proofs.Greatest.{highest-above, below-above, greatest-is, greatest-unique, floor-below}
 use Rattle.theory.proofs.Orders.{run-reaches, run-refused, complete-iff, order-iff, order-differs, order-progress, order-done, order-bound}
 use Rattle.theory.proofs.Lowest.{lowest-some, lowest-iff, lowest-order}
@@ -83,6 +83,20 @@ module _ (t : Trace) (w : wellFormed t ≡ true) (rule : Rule) where
       -- the laws, from which all that follows is proved
       pub the-laws : Laws R
       the-laws = laws t rule A cut line cl
+
+      -- "A restart in an epoch is right after the save that raised the zone to it, in epoch 1 at the zone's start."; "or 32, which means the zone
+      -- stays as it was at the cut"
+      pub restart-back : (z : ℕ) → 1 ≤ line z → line z ≤ current t rule cut z
+          → (epochAt t rule z (restartIn t cut line z) ≡ line z) × ((restartIn t cut line z ≡ 0) ⊎ (saves t z (restartIn t cut line z) ≡ true))
+      restart-back = restart-epoch t rule A cut cl line
+
+      pub restart-stays : (z : ℕ) → line z ≡ 32 → restartIn t cut line z ≡ cut
+      restart-stays = stays-at t rule A cut cl line
+
+      -- "An orphan's phase is its sender's at the send"
+      pub orphan-phase : (p q d : ℕ) → sends t p q d ≡ true → 0 < d → d ≤ size t → orphanPhase R p q (sent t p q d) ≡ phaseAt t rule p d
+      unfolding orphanPhase
+      orphan-phase = phaseOf-send t rule
 
       -- undone, lost, orphan, kept, which document 01 words by events, are comparisons with three counts on the channel
       abbrev rBefore : ℕ → ℕ → ℕ

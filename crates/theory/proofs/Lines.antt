@@ -1,6 +1,6 @@
 -- Lines by epochs: when a permitted line loses a message, how far a line without loss lies below one that loses it, and the floor.
 -- For any rule and any set of usable checkpoints. From the laws of Epochs and the counting form of Classes.
-use mathlib.Core.Path.{_≡_, sym, _∙_, ap, subst}
+use mathlib.Core.Path.{_≡_, refl, sym, _∙_, ap, subst}
 use mathlib.Core.Logic.{_⊎_, inl, inr, _≢_}
 use mathlib.Core.Bool.{Bool, true, false}
 use Prim.Native.Nat.{ℕ, suc, _-_, _≤_, _<_}
@@ -18,6 +18,27 @@ use Rattle.theory.proofs.Events.{sends-is, send-no-save, recv-no-save, 
 use Rattle.theory.proofs.Classes.{lost-is, is-lost}
 use Rattle.theory.proofs.Epochs.{restart-cut, epoch-is, epochOf-at, logged-is, laws}
 
+module _ (t : Trace) (rule : Rule) (cut : ℕ) where
+  -- a number that a line may hold for a process: 32, or an epoch that it has reached
+  abbrev pub Number : ℕ → ℕ → Type 0
+  Number z n = (n ≡ 32) ⊎ ((1 ≤ n) × (n ≤ current t rule cut z))
+
+  -- a message that is lost, by the epochs of its send d and its receive e
+  pub record ByEpochs (l : ℕ → ℕ) (p q k : ℕ) : Type 0 where
+    pub d : ℕ
+    pub e : ℕ
+    pub d-pos : 0 < d
+    pub d-cut : d ≤ cut
+    pub d-send : sends t p q d ≡ true
+    pub d-is : sent t p q d ≡ k
+    pub e-pos : 0 < e
+    pub e-cut : e ≤ cut
+    pub e-recv : recvs t p q e ≡ true
+    pub e-is : rcvd t p q e ≡ k
+    pub unlogged : loggedBy t rule p q k ≡ false
+    pub below : epochAt t rule p d < l p
+    pub above : l q ≤ epochAt t rule q e
+
 module _ (t : Trace) (rule : Rule) (A : Valid t) (cut : ℕ) (cl : cut ≤ size t) where
   abbrev E : ℕ → ℕ → ℕ
   E z x = epochAt t rule z x
@@ -31,11 +52,7 @@ module _ (t : Trace) (rule : Rule) (A : Valid t) (cut : ℕ) (cl : cut ≤ size 
   pub epoch-le : (z x : ℕ) → x ≤ cut → E z x ≤ current t rule cut z
   epoch-le z x h = omega (arith, now-is z, epoch-is t rule x z, cnt-le (saves t z) x cut h)
 
-  -- a number that a line may hold for a process: 32, or an epoch that it has reached
-  abbrev pub Number : ℕ → ℕ → Type 0
-  Number z n = (n ≡ 32) ⊎ ((1 ≤ n) × (n ≤ current t rule cut z))
-
-  stays-at : (l : ℕ → ℕ) (z : ℕ) → l z ≡ 32 → restartIn t cut l z ≡ cut
+  pub stays-at : (l : ℕ → ℕ) (z : ℕ) → l z ≡ 32 → restartIn t cut l z ≡ cut
   unfolding restartIn
   stays-at l z h = let u : eqb (l z) 32 ≡ true = eq-eqb (l z) 32 h in rw u
 
@@ -43,8 +60,18 @@ module _ (t : Trace) (rule : Rule) (A : Valid t) (cut : ℕ) (cl : cut ≤ size 
   unfolding restartIn
   back-at l z h = let u : eqb (l z) 32 ≡ false = ne-eqb (l z) 32 (λ q. omega arith) in rw u
 
+  -- a restart in an epoch is the start or right after a checkpoint, in that epoch
+  pub restart-epoch : (l : ℕ → ℕ) (z : ℕ) → 1 ≤ l z → l z ≤ current t rule cut z
+      → (E z (restartIn t cut l z) ≡ l z) × ((restartIn t cut l z ≡ 0) ⊎ (saves t z (restartIn t cut l z) ≡ true))
+  restart-epoch l z a b = rw (back-at l z (omega (arith, now-few z))) (on (le? (l z) 1)
+      (λ o. let w : l z - 1 ≡ 0 = omega arith in
+      let i = place-zero (saves t z) cut in
+      rw (w, i) (omega (arith, epoch-is t rule 0 z, cnt-bound (saves t z) 0), inl refl))
+      (λ o. let c = place-cnt (saves t z) (l z - 1) cut (omega arith) (omega (arith, now-is z)) in
+      (omega (arith, epoch-is t rule (place (saves t z) (l z - 1) cut) z, c .1), inr (c .0))))
+
   -- a lower number restarts no later
-  pub restart-mono : (l m : ℕ → ℕ) (z : ℕ) → Number z (m z) → l z ≤ m z → restartIn t cut l z ≤ restartIn t cut m z
+  pub restart-mono : (l m : ℕ → ℕ) (z : ℕ) → Number t rule cut z (m z) → l z ≤ m z → restartIn t cut l z ≤ restartIn t cut m z
   restart-mono l m z n h = on n
       (λ u. rw (stays-at m z u) (restart-cut t cut l z))
       (λ u. let e : m z < 32 = omega (arith, u .1, now-few z) in
@@ -66,39 +93,23 @@ module _ (t : Trace) (rule : Rule) (A : Valid t) (cut : ℕ) (cl : cut ≤ size 
         omega (arith, cnt-le (saves t z) (place (saves t z) (n - 1) cut) x (omega arith), c .1, epoch-is t rule x z))
 
   -- so it is at or before the restart exactly if its epoch is below the line's number
-  before-restart : (l : ℕ → ℕ) (z x : ℕ) → Number z (l z) → 0 < x → saves t z x ≡ false → x ≤ restartIn t cut l z → E z x < l z
+  before-restart : (l : ℕ → ℕ) (z x : ℕ) → Number t rule cut z (l z) → 0 < x → saves t z x ≡ false → x ≤ restartIn t cut l z → E z x < l z
   before-restart l z x n a ns h = on n
       (λ u. omega (arith, epoch-le z x (omega (arith, restart-cut t cut l z)), now-few z))
       (λ u. let r : x ≤ place (saves t z) (l z - 1) cut = rw (back-at l z (omega (arith, u .1, now-few z))) at h in
       place-after z x (l z) a ns (u .0) (u .1) r)
 
-  after-restart : (l : ℕ → ℕ) (z x : ℕ) → Number z (l z) → 0 < x → x ≤ cut → saves t z x ≡ false → restartIn t cut l z < x → l z ≤ E z x
+  after-restart : (l : ℕ → ℕ) (z x : ℕ) → Number t rule cut z (l z) → 0 < x → x ≤ cut → saves t z x ≡ false → restartIn t cut l z < x → l z ≤ E z x
   after-restart l z x n a b ns h = on n
       (λ u. absurd (omega (arith, stays-at l z u)))
       (λ u. let r : place (saves t z) (l z - 1) cut < x = rw (back-at l z (omega (arith, u .1, now-few z))) at h in
       place-before z x (l z) a ns (u .0) (u .1) r)
 
-  -- a message that is lost, by the epochs of its send d and its receive e
-  pub record ByEpochs (l : ℕ → ℕ) (p q k : ℕ) : Type 0 where
-    pub d : ℕ
-    pub e : ℕ
-    pub d-pos : 0 < d
-    pub d-cut : d ≤ cut
-    pub d-send : sends t p q d ≡ true
-    pub d-is : sent t p q d ≡ k
-    pub e-pos : 0 < e
-    pub e-cut : e ≤ cut
-    pub e-recv : recvs t p q e ≡ true
-    pub e-is : rcvd t p q e ≡ k
-    pub unlogged : loggedBy t rule p q k ≡ false
-    pub below : E p d < l p
-    pub above : l q ≤ E q e
-
-  module _ (l : ℕ → ℕ) (p q k : ℕ) (np : Number p (l p)) (nq : Number q (l q)) where
+  module _ (l : ℕ → ℕ) (p q k : ℕ) (np : Number t rule cut p (l p)) (nq : Number t rule cut q (l q)) where
     L : Laws (recorded t rule cut l)
     L = laws t rule A cut l cl
 
-    pub lost-epochs : lost (recorded t rule cut l) p q k ≡ true → ByEpochs l p q k
+    pub lost-epochs : lost (recorded t rule cut l) p q k ≡ true → ByEpochs t rule cut l p q k
     lost-epochs h =
         let x = lost-is (recorded t rule cut l) L p q k h in
         let z : 0 < k = omega (arith, x .after) in
@@ -122,7 +133,7 @@ module _ (t : Trace) (rule : Rule) (A : Valid t) (cut : ℕ) (cl : cut ≤ size 
           above = after-restart l q (g .0) nq (g .1) (g .2) (recv-no-save t p q (g .0) (g .3)) u;
         }
 
-    pub epochs-lost : ByEpochs l p q k → lost (recorded t rule cut l) p q k ≡ true
+    pub epochs-lost : ByEpochs t rule cut l p q k → lost (recorded t rule cut l) p q k ≡ true
     epochs-lost x = is-lost (recorded t rule cut l) L p q k (record {
       after = on (le? (x .e) (restartIn t cut l q))
           (λ a. absurd (omega (arith, before-restart l q (x .e) nq (x .e-pos) (recv-no-save t p q (x .e) (x .e-recv)) a, x .above)))
@@ -134,7 +145,7 @@ module _ (t : Trace) (rule : Rule) (A : Valid t) (cut : ℕ) (cl : cut ≤ size 
       unlogged = x .unlogged;
     })
 
-  pub epoch-of : (l : ℕ → ℕ) (p q k : ℕ) (x : ByEpochs l p q k) → epochOf t rule p q k ≡ E p (x .d)
+  pub epoch-of : (l : ℕ → ℕ) (p q k : ℕ) (x : ByEpochs t rule cut l p q k) → epochOf t rule p q k ≡ E p (x .d)
   epoch-of l p q k x = ap (epochOf t rule p q) (sym (x .d-is)) ∙ epochOf-at t rule p q (x .d) (x .d-send) (x .d-pos) (omega (arith, x .d-cut))
 
   -- a lost message is one between processes of the trace, with a number of at most the events
@@ -158,13 +169,13 @@ module _ (t : Trace) (rule : Rule) (A : Valid t) (cut : ℕ) (cl : cut ≤ size 
   }
 
   module _ (usable : ℕ → ℕ → Bool) (U : Usable t rule cut usable) (failed : ℕ → Bool) where
-    pub number-of : (l : ℕ → ℕ) → Permitted t rule cut usable failed l → (z : ℕ) → z < t .procs → Number z (l z)
+    pub number-of : (l : ℕ → ℕ) → Permitted t rule cut usable failed l → (z : ℕ) → z < t .procs → Number t rule cut z (l z)
     number-of l b z h = on (b z h) (λ u. inr (U .within z (l z) u)) (λ u. inl (u .0))
 
     -- The step of lowering. A message lost under line m: a line without loss that is not above m has its sender at most in the last
     -- usable epoch that is not above the epoch of the send; and that is below m.
     module _ (m : ℕ → ℕ) (b : Permitted t rule cut usable failed m) (p q k : ℕ) (h : lost (recorded t rule cut m) p q k ≡ true) where
-      x : ByEpochs m p q k
+      x : ByEpochs t rule cut m p q k
       x = lost-epochs m p q k (number-of m b p ((lost-in m p q k h) .0)) (number-of m b q ((lost-in m p q k h) .1)) h
 
       e-is : epochOf t rule p q k ≡ E p (x .d)
@@ -190,7 +201,7 @@ module _ (t : Trace) (rule : Rule) (A : Valid t) (cut : ℕ) (cl : cut ≤ size 
           (λ u. (lastOf-top (usable p) (epochOf t rule p q k) (l p) u ((U .within p (l p) u) .0) (omega (arith, e-is))) .0)
           (λ u. absurd (omega (arith, u .0, epoch-le p (x .d) (x .d-cut), now-few p)))
         where
-          same : (l : ℕ → ℕ) → E p (x .d) < l p → l q ≤ E q (x .e) → ByEpochs l p q k
+          same : (l : ℕ → ℕ) → E p (x .d) < l p → l q ≤ E q (x .e) → ByEpochs t rule cut l p q k
           same l a c = record {
             d = x .d;
             e = x .e;
@@ -208,7 +219,7 @@ module _ (t : Trace) (rule : Rule) (A : Valid t) (cut : ℕ) (cl : cut ≤ size 
           }
 
 -- under document 01's rule a message that is not logged is received in no later epoch than it is sent in
-pub past-unlogged : (t : Trace) (A : Valid t) (cut : ℕ) (cl : cut ≤ size t) (l : ℕ → ℕ) (p q k : ℕ) (x : ByEpochs t past A cut cl l p q k)
+pub past-unlogged : (t : Trace) (A : Valid t) (cut : ℕ) (cl : cut ≤ size t) (l : ℕ → ℕ) (p q k : ℕ) (x : ByEpochs t past cut l p q k)
     → epochAt t past q (x .e) ≤ epochAt t past p (x .d)
 past-unlogged t A cut cl l p q k x =
     let n : (y : ℕ) → y ≤ cut → y ≤ size t = λ y h. omega arith in
