@@ -55,7 +55,7 @@ only-orphan [] r = false
 only-orphan (m ∷ []) r = eqb (m .from) 0 && (eqb (m .to) 1 && (eqb (m .number) 1 && eqb (m .phase) r))
 only-orphan (m ∷ n ∷ ms) r = false
 
--- ---- The traces: of rows 1, 2 and 3, 4, 6, 7, 8 and 9, 10
+-- ---- The traces: of rows 1, 2 and 3, 4, 6, 7, 8 and 9, 10, 12
 
 abbrev t1 : List Event
 t1 = Save 1 ∷ Send 0 1 0 ∷ Recv 1 0 ∷ []
@@ -78,11 +78,14 @@ t8 = Send 0 1 6 ∷ Send 0 1 6 ∷ Recv 1 0 ∷ []
 abbrev t10 : List Event
 t10 = Send 0 1 0 ∷ Recv 1 0 ∷ Send 0 1 0 ∷ Recv 1 0 ∷ []
 
+abbrev t12 : List Event
+t12 = Send 0 1 5 ∷ Send 0 1 6 ∷ Recv 1 0 ∷ Recv 1 0 ∷ []
+
 -- ---- The rows. Each has its own proof, so that a definition that is wrong names the row that it makes false.
 
 -- all these traces are well formed
 unfoldable fit : Bool
-fit = every (map (λ es. wellFormed (two es)) (t1 ∷ t2 ∷ t4 ∷ t6 ∷ t7 ∷ t8 ∷ t10 ∷ []))
+fit = every (map (λ es. wellFormed (two es)) (t1 ∷ t2 ∷ t4 ∷ t6 ∷ t7 ∷ t8 ∷ t10 ∷ t12 ∷ []))
 
 fit-holds : fit ≡ true
 unfolding opens fit every
@@ -168,9 +171,17 @@ d11-holds : d11 ≡ true
 unfolding opens d11 every
 d11-holds = refl
 
+-- a receive needs a message in the channel; kept messages go in oldest first
+unfoldable d12 : Bool
+d12 = stops (at-cut t12 2 (32 ∷ 1 ∷ [])) (1 ∷ []) 1 && completes (at-cut t12 2 (32 ∷ 1 ∷ [])) (65 ∷ 65 ∷ 1 ∷ 1 ∷ [])
+
+d12-holds : d12 ≡ true
+unfolding opens d12 every
+d12-holds = refl
+
 rows : List Bool
-rows = fit ∷ d1 ∷ d2 ∷ d3 ∷ d4 ∷ d6 ∷ d7 ∷ d8 ∷ d9 ∷ d10 ∷ d11 ∷ []
+rows = fit ∷ d1 ∷ d2 ∷ d3 ∷ d4 ∷ d6 ∷ d7 ∷ d8 ∷ d9 ∷ d10 ∷ d11 ∷ d12 ∷ []
 
 table : every rows ≡ true
 unfolding rows every
-table = rw (fit-holds, d1-holds, d2-holds, d3-holds, d4-holds, d6-holds, d7-holds, d8-holds, d9-holds, d10-holds, d11-holds)
+table = rw (fit-holds, d1-holds, d2-holds, d3-holds, d4-holds, d6-holds, d7-holds, d8-holds, d9-holds, d10-holds, d11-holds, d12-holds)
