@@ -1,0 +1,260 @@
+-- What document 01 promises of recovery, each claim under its sentence. Read this file first, with the definitions of specs/; the other files
+-- of proofs/ say why. `demand-3` is demand 3 whole. All claims hold for every well-formed trace (crate trace), every cut, and, where `rule` and
+-- `usable` are named, for every rule of logging and every set of usable checkpoints; document 01's own are `past` and `reached`.
+use mathlib.Core.Path.{_≡_, sym, _∙_}
+use mathlib.Core.Logic.{_⊎_, inl, inr, _↔_, _≢_}
+use mathlib.Core.Bool.{Bool, true, false, _&&_, _||_, not}
+use mathlib.Core.List.{List, [], _∷_}
+use mathlib.Core.Option.{none, some}
+use Prim.Native.Nat.{ℕ, suc, _+_, _≤_, _<_}
+use native.Mathlib.Omega.{arith}
+use lib.ListN.{length, getD, take}
+use lib.Dec.{leb, ltb}
+use borrow.Author.Tests.{le-leb, lt-ltb}
+use Rattle.trace.specs.Trace.{Trace}
+use Rattle.trace.specs.Fit.{wellFormed}
+use Rattle.theory.specs.Lists.{cnt, lastOf}
+use Rattle.theory.specs.Events.{size, sends, recvs, saves, sent, rcvd}
+use Rattle.theory.specs.Epochs.{Rule, past, joined, epochAt, phaseAt, epochOf, phaseOf, loggedBy}
+use Rattle.theory.specs.Line.{Run, undone, lost, orphan, kept, orphanPhase, LossFree, restartIn, recorded, current, reached, Usable, Permitted, Greatest, Above, lower, highest, greatestLine}
+use Rattle.theory.specs.Replay.{State, sentAgain, ready, delivered, faultless, SameRecord}
+use Rattle.theory.specs.Order.{carriedOut, refused, choose, Allowed, run, steps, Complete, complete, lowest, lowestOrder}
+use Rattle.theory.specs.Answers.{names, orphans, keptOnes, lostOnes, lossFree, sameRecord}
+use Rattle.theory.specs.Laws.{Laws}
+use Rattle.theory.proofs.Base.{on, by, le?}
+use Rattle.theory.proofs.Events.{Valid, valid, partner, sent-lt}
+use Rattle.theory.proofs.Classes.{undone-counts, lost-counts, orphan-counts, kept-counts}
+use Rattle.theory.proofs.Flow.{Inv}
+use Rattle.theory.proofs.Loss.{inv}
+use Rattle.theory.proofs.Epochs.{epoch-is, epochOf-at, phaseOf-send, logged-is, phase-recv, laws}
+use Rattle.theory.proofs.Lines.{now-is, now-few, usable-reached, stays-at, restart-epoch, restart-mono, number-of, lower-less}
+use Rattle.theory.proofs.Greatest.{highest-above, below-above, greatest-is, greatest-unique, floor-below}
+use Rattle.theory.proofs.Orders.{run-reaches, run-refused, complete-iff, order-iff, order-differs, order-progress, order-done, order-bound}
+use Rattle.theory.proofs.Lowest.{lowest-some, lowest-iff, lowest-order}
+use Rattle.theory.proofs.Answers.{orphans-name, kept-name, lost-name, lossFree-iff, sameRecord-iff, ready-iff}
+
+-- Demand 3. "Take any accepted trace, any step for the failure, any set of zones it takes together, any line that puts each failed zone at a save it
+-- has made, and any order of choices from there, each allowed where it comes, that ends only when no choice is allowed. The delivery record the
+-- replay leaves equals that of the run without failure exactly when the line loses no message."
+pub demand-3 : (t : Trace) → wellFormed t ≡ true → (cut : ℕ) → cut ≤ size t → (failed : ℕ → Bool) (line : ℕ → ℕ)
+    → Permitted t past cut (reached t past cut) failed line → (order : List ℕ) (s : State) → run (recorded t past cut line) order ≡ carriedOut s
+    → Complete (recorded t past cut line) s → SameRecord (recorded t past cut line) s ↔ LossFree (recorded t past cut line)
+demand-3 t w cut cl failed line b order s h c = order-iff (recorded t past cut line) (laws t past (valid t w) cut line cl) order s h c
+
+module _ (t : Trace) (w : wellFormed t ≡ true) (rule : Rule) where
+  abbrev A : Valid t
+  A = valid t w
+
+  -- ---- "A takes the oldest message in transit": the message that a receive takes was sent before
+  pub sent-first : (p q e : ℕ) → recvs t p q e ≡ true → 0 < e → e ≤ size t
+      → (d : ℕ) × (0 < d) × (d < e) × (sends t p q d ≡ true) × (sent t p q d ≡ rcvd t p q e)
+  sent-first = partner t (A .causal)
+
+  -- ---- Epochs, phases, kept messages
+
+  -- "A zone begins with epoch 1 .. A save raises both by one": the epoch is one more than the checkpoints made
+  pub epoch-counts : (z x : ℕ) → epochAt t rule z x ≡ suc (cnt (saves t z) x)
+  epoch-counts z x = epoch-is t rule x z
+
+  -- "A message carries its sender's epoch and phase at the send." (A send changes neither.)
+  pub carries-epoch : (p q d : ℕ) → sends t p q d ≡ true → 0 < d → d ≤ size t → epochOf t rule p q (sent t p q d) ≡ epochAt t rule p d
+  carries-epoch = epochOf-at t rule
+
+  pub carries-phase : (p q d : ℕ) → sends t p q d ≡ true → 0 < d → d ≤ size t → phaseOf t rule p q (sent t p q d) ≡ phaseAt t rule p d
+  carries-phase = phaseOf-send t rule
+
+  -- "It is logged when send epoch < receive epoch.": what the rule says of the epochs of its send d and its receive e
+  pub logged-by-epochs : (p q d e : ℕ) → sends t p q d ≡ true → recvs t p q e ≡ true → 0 < d → 0 < e → d ≤ size t → e ≤ size t
+      → sent t p q d ≡ rcvd t p q e → loggedBy t rule p q (sent t p q d) ≡ rule p q (sent t p q d) (epochAt t rule p d) (epochAt t rule q e)
+  logged-by-epochs = logged-is t rule
+
+  -- "At a receive the phase becomes the larger of the zone's own and the message's, or, if logged, of the zone's own and the message's plus 1."
+  pub receive-phase : (p q x : ℕ) → recvs t p q (suc x) ≡ true → suc x ≤ size t
+      → phaseAt t rule q (suc x) ≡ joined (loggedBy t rule p q (rcvd t p q (suc x))) (phaseAt t rule q x) (phaseOf t rule p q (rcvd t p q (suc x)))
+  receive-phase = phase-recv t rule A
+
+  module _ (cut : ℕ) (cl : cut ≤ size t) where
+    -- ---- A line, whatever its numbers
+
+    module _ (line : ℕ → ℕ) where
+      abbrev R : Run
+      R = recorded t rule cut line
+
+      -- the laws, from which all that follows is proved
+      pub the-laws : Laws R
+      the-laws = laws t rule A cut line cl
+
+      -- "A restart in an epoch is right after the save that raised the zone to it, in epoch 1 at the zone's start."; "or 32, which means the zone
+      -- stays as it was at the cut"
+      pub restart-back : (z : ℕ) → 1 ≤ line z → line z ≤ current t rule cut z
+          → (epochAt t rule z (restartIn t cut line z) ≡ line z) × ((restartIn t cut line z ≡ 0) ⊎ (saves t z (restartIn t cut line z) ≡ true))
+      restart-back = restart-epoch t rule A cut cl line
+
+      pub restart-stays : (z : ℕ) → line z ≡ 32 → restartIn t cut line z ≡ cut
+      restart-stays = stays-at t rule A cut cl line
+
+      -- "An orphan's phase is its sender's at the send"
+      pub orphan-phase : (p q d : ℕ) → sends t p q d ≡ true → 0 < d → d ≤ size t → orphanPhase R p q (sent t p q d) ≡ phaseAt t rule p d
+      unfolding orphanPhase
+      orphan-phase = phaseOf-send t rule
+
+      -- undone, lost, orphan, kept, which document 01 words by events, are comparisons with three counts on the channel
+      abbrev rBefore : ℕ → ℕ → ℕ
+      rBefore p q = rcvd t p q (restartIn t cut line q)
+
+      abbrev rCut : ℕ → ℕ → ℕ
+      rCut p q = rcvd t p q cut
+
+      abbrev sBefore : ℕ → ℕ → ℕ
+      sBefore p q = sent t p q (restartIn t cut line p)
+
+      pub undone-by-counts : (p q k : ℕ) → undone R p q k ≡ (ltb (rBefore p q) k && leb k (rCut p q))
+      undone-by-counts = undone-counts R the-laws
+
+      pub lost-by-counts : (p q k : ℕ) → lost R p q k ≡ (ltb (rBefore p q) k && (leb k (rCut p q) && (leb k (sBefore p q) && not (loggedBy t rule p q k))))
+      lost-by-counts = lost-counts R the-laws
+
+      pub orphan-by-counts : (p q k : ℕ) → orphan R p q k ≡ (ltb (sBefore p q) k && leb k (rBefore p q))
+      orphan-by-counts = orphan-counts R the-laws
+
+      pub kept-by-counts : (p q k : ℕ) → kept R p q k ≡ (leb k (sBefore p q) && (ltb (rBefore p q) k && (ltb (rCut p q) k || loggedBy t rule p q k)))
+      kept-by-counts = kept-counts R the-laws
+
+      -- "each counted if and only if its definition holds": the lists name a message exactly if it is of the class
+      pub orphans-listed : (p q k : ℕ) → names p q k (orphans R) ≡ orphan R p q k
+      orphans-listed = orphans-name R the-laws
+
+      pub kept-listed : (p q k : ℕ) → names p q k (keptOnes R) ≡ kept R p q k
+      kept-listed = kept-name R the-laws
+
+      pub lost-listed : (p q k : ℕ) → names p q k (lostOnes R) ≡ lost R p q k
+      lost-listed = lost-name R the-laws
+
+      pub loss-test : (lossFree R ≡ true) ↔ LossFree R
+      loss-test = lossFree-iff R the-laws
+
+    -- ---- The restart line, of any usable checkpoints
+
+    -- "an epoch from 1 to its current one" is a set of usable checkpoints that contains the start
+    pub reached-usable : Usable t rule cut (reached t rule cut)
+    reached-usable = usable-reached t rule A cut cl
+
+    module _ (usable : ℕ → ℕ → Bool) (U : Usable t rule cut usable) (failed : ℕ → Bool) where
+      -- "The engine's line is the greatest without a lost message.": there is one, lowering gives it, and there is no other
+      pub greatest-line : Greatest t rule cut usable failed (greatestLine t rule cut usable failed)
+      greatest-line = greatest-is t rule A cut cl usable U failed
+
+      pub greatest-only : (l m : ℕ → ℕ) → Greatest t rule cut usable failed l → Greatest t rule cut usable failed m → (z : ℕ) → z < t .procs → l z ≡ m z
+      greatest-only = greatest-unique t rule A cut cl usable U failed
+
+      -- "in no other such line does any zone keep more of its work"
+      pub greatest-work : (l m : ℕ → ℕ) → Greatest t rule cut usable failed l → Permitted t rule cut usable failed m → LossFree (recorded t rule cut m)
+          → (z : ℕ) → z < t .procs → restartIn t cut m z ≤ restartIn t cut l z
+      greatest-work l m g b f z h =
+          restart-mono t rule A cut cl m l z (number-of t rule A cut cl usable U failed l (g .permitted) z h) (g .top m b f z h)
+
+      -- Lowering, step by step. It begins with the highest permitted line. A message lost under a line sends its sender to the last usable epoch
+      -- that is not above the epoch of its send, which is lower, and still no permitted line without loss is above. It ends when nothing is lost.
+      pub lowering-begins : Above t rule cut usable failed (highest t rule cut usable failed)
+      lowering-begins = highest-above t rule A cut cl usable U failed
+
+      pub lowering-goes-on : (m : ℕ → ℕ) → Above t rule cut usable failed m → (p q k : ℕ) → lost (recorded t rule cut m) p q k ≡ true
+          → Above t rule cut usable failed (lower t rule cut usable m p q k) × (lastOf (usable p) (epochOf t rule p q k) < m p)
+      lowering-goes-on m a p q k h =
+          (below-above t rule A cut cl usable U failed m a p q k h, lower-less t rule A cut cl usable U failed m (a .permitted) p q k h)
+
+      pub lowering-ends : (m : ℕ → ℕ) → Above t rule cut usable failed m → LossFree (recorded t rule cut m) → Greatest t rule cut usable failed m
+      lowering-ends m a f = record { permitted = a .permitted; loss-free = f; top = a .top }
+
+    -- ---- Gates and steps
+
+    module _ (line : ℕ → ℕ) where
+      abbrev S : Run
+      S = recorded t rule cut line
+
+      abbrev L : Laws S
+      L = laws t rule A cut line cl
+
+      -- "a sent message whose number is at most how many the receiver had received on that channel before its restart is dropped": of the sends
+      -- after the restart those are the orphans'
+      pub dropped-orphans : (p q e : ℕ) → sends t p q e ≡ true → restartIn t cut line p < e
+          → leb (sent t p q e) (rcvd t p q (restartIn t cut line q)) ≡ orphan S p q (sent t p q e)
+      dropped-orphans p q e h l =
+          let a : ltb (sent t p q (restartIn t cut line p)) (sent t p q e) ≡ true = lt-ltb _ _ (sent-lt t p q (restartIn t cut line p) e h l) in
+          sym (orphan-counts S L p q (sent t p q e) ∙ rw a)
+
+      -- "An order is complete when no choice is allowed", as it can be tested: no number below 4,160 is
+      pub complete-test : (s : State) → (complete S s ≡ true) ↔ Complete S s
+      complete-test = complete-iff S
+
+      -- 11, "a choice isn't allowed where it comes", and its place: those before it are carried out, and it is not allowed in what they leave
+      pub refused-place : (order : List ℕ) (i : ℕ) → run S order ≡ refused i
+          → (m : ℕ) × (s : State) × (i ≡ suc m) × (m < length order) × (run S (take m order) ≡ carriedOut s) × (choose S s (getD order m 0) ≡ none)
+      refused-place = run-refused S
+
+      -- an order that is carried out, complete or not
+      module _ (order : List ℕ) (s : State) (h : run S order ≡ carriedOut s) where
+        abbrev I : Inv S s
+        I = inv S L s (length order) (run-reaches S order s h)
+
+        -- demand 3 for any rule and any line
+        pub record-iff : Complete S s → SameRecord S s ↔ LossFree S
+        record-iff = order-iff S L order s h
+
+        -- "Equal is the same numbers and values in the same order on every channel.", as it can be tested
+        pub record-test : (sameRecord S s ≡ true) ↔ SameRecord S s
+        record-test = sameRecord-iff S L s I
+
+        -- from a line that loses a message the record of its channel differs, whether the order is complete or not
+        pub lost-differs : (p q k : ℕ) → lost S p q k ≡ true → delivered S s p q ≢ faultless S p q
+        lost-differs = order-differs S L order s h
+
+        -- "From a line without loss, an order carried out so far always has an allowed choice until each zone has done all its events"
+        pub always-goes-on : LossFree S → (z e : ℕ) (es : List ℕ) → s .todo z ≡ e ∷ es → (c : ℕ) × Allowed S s c
+        always-goes-on = order-progress S L order s h
+
+        -- "so a complete one does them all"
+        pub does-all : LossFree S → Complete S s → (z : ℕ) → s .todo z ≡ []
+        does-all = order-done S L order s h
+
+        -- "Steps is the length of the order carried out, and is at most twice the number of events."
+        pub steps-at-most : steps order ≤ size t + size t
+        steps-at-most = order-bound S L order s h
+
+        -- "Phase r is ready when every orphan of phase r or less has been sent again."
+        pub ready-means : (r : ℕ) → (ready S s r ≡ true) ↔ ((p q k : ℕ) → orphan S p q k ≡ true → orphanPhase S p q k ≤ r → sentAgain S s p q k ≡ true)
+        ready-means = ready-iff S L s (I .cursors)
+
+        -- "the order that always picks the lowest allowed choice": what it picks is allowed and no lower number is; it ends where it is complete
+        pub lowest-is : (r : ℕ × State) → lowest S s ≡ some r → (choose S s (r .0) ≡ some (r .1)) × ((c : ℕ) → c < r .0 → choose S s c ≡ none)
+        lowest-is = lowest-some S L s I
+
+        pub lowest-ends : (lowest S s ≡ none) ↔ Complete S s
+        lowest-ends = lowest-iff S L s I
+
+      -- and it gets there, so that every line has a complete order
+      pub lowest-completes : (s : State) × (run S (lowestOrder S) ≡ carriedOut s) × Complete S s
+      lowest-completes = lowest-order S L
+
+-- ---- The floor, for document 01's rule: "No zone in it restarts in an epoch below the smallest current epoch of a failed zone."
+
+module _ (t : Trace) (w : wellFormed t ≡ true) (cut : ℕ) (cl : cut ≤ size t) (failed : ℕ → Bool) where
+  -- in general: below an epoch f that each process can restart in, or that lies above the current epoch of one that did not fail
+  pub floor : (usable : ℕ → ℕ → Bool) → Usable t past cut usable → (f : ℕ) → f ≤ 32
+      → ((z : ℕ) → z < t .procs → (usable z f ≡ true) ⊎ ((failed z ≡ false) × (current t past cut z < f)))
+      → (l : ℕ → ℕ) → Greatest t past cut usable failed l → (z : ℕ) → z < t .procs → f ≤ l z
+  floor usable U = floor-below t (valid t w) cut cl usable U failed
+
+  -- y is a failed process of the smallest current epoch
+  pub floor-failed : (y : ℕ) → y < t .procs → failed y ≡ true → ((z : ℕ) → z < t .procs → failed z ≡ true → current t past cut y ≤ current t past cut z)
+      → (l : ℕ → ℕ) → Greatest t past cut (reached t past cut) failed l → (z : ℕ) → z < t .procs → current t past cut y ≤ l z
+  floor-failed y a b c =
+      let A = valid t w in
+      let n : 1 ≤ current t past cut y = omega (arith, now-is t past A cut cl y) in
+      floor (reached t past cut) (usable-reached t past A cut cl) (current t past cut y) (omega (arith, now-few t past A cut cl y))
+      (λ z h. on (le? (current t past cut y) (current t past cut z))
+      (λ u. let i : leb 1 (current t past cut y) ≡ true = le-leb _ _ n in let j : leb (current t past cut y) (current t past cut z) ≡ true = le-leb _ _ u in inl (rw (i, j)))
+      (λ u. inr (by (failed z) (λ v. absurd (omega (arith, c z h v))) (λ v. v), u)))
+
+-- Not claims of document 01, but for code that is to meet them: Lines.lost-epochs and epochs-lost (a permitted line loses a message by epochs alone),
+-- Counters.counted (a channel is two numbers), Steps.reach-work (each step takes one from the work that is left), Classes (counts).

@@ -1,0 +1,187 @@
+-- Runs that tell the definitions from plausible mistakes (PROOF-PLAN, section 8), by computation from the definitions alone.
+use mathlib.Core.Path.{_≡_, refl}
+use mathlib.Core.Bool.{Bool, true, false, _&&_, not}
+use mathlib.Core.List.{List, [], _∷_, map}
+use mathlib.Core.Option.{bind}
+use Prim.Native.Nat.{ℕ}
+use lib.Dec.{eqb}
+use Rattle.trace.specs.declared.Event.{Event}
+use Rattle.trace.specs.declared.Event.the-variants.{Send, Recv, Save}
+use Rattle.trace.specs.Trace.{Trace, count}
+use Rattle.trace.specs.Fit.{wellFormed, allFit, faultOf}
+use Rattle.theory.specs.Lists.{iv, keep, cnt, place, lastOf, no-one, all-below, first}
+use Rattle.theory.specs.Events.{eventAt, at, kind, sends, recvs, saves, sent, rcvd, sendOf, recvOf, value}
+use Rattle.theory.specs.Epochs.{past, note, notes, loggedBy}
+use Rattle.theory.specs.Line.{inSet, Run, sentBefore, sentAfter, received, receivedBefore, undone, lost, orphan, kept, orphanPhase, restartIn, recorded, reached, highest, lowered, lowering, greatestLine}
+use Rattle.theory.specs.Replay.{listed, keptOn, takenBy, resends, ready, gate, sendStep, recvStep, eventStep, processStep, handStep, step, delivered, faultless}
+use Rattle.theory.specs.Order.{choiceOf, choose, carry, run, isNone, lowest, lowestFrom, complete}
+use Rattle.theory.specs.Answers.{lineOf, Listed, gather, messages, orphans, samePairs, sameRecord, placeOf, leaves}
+
+-- all that a row computes with
+unfoldable pub opens : ℕ
+unfolding bind iv keep cnt place lastOf no-one all-below first eventAt at kind sends recvs saves sent rcvd sendOf recvOf value note notes loggedBy sentBefore sentAfter received receivedBefore undone lost orphan kept orphanPhase restartIn highest lowered lowering greatestLine listed keptOn takenBy resends ready gate sendStep recvStep eventStep processStep handStep step delivered faultless choiceOf choose carry run lowest lowestFrom complete gather messages samePairs sameRecord count wellFormed allFit faultOf
+opens = 0
+
+-- do all rows of a table hold
+unfoldable pub every : List Bool → Bool
+every [] = true
+every (b ∷ bs) = b && every bs
+
+-- a trace of two processes, recovered under document 01's rule
+abbrev two : List Event → Trace
+two es = record { procs = 2; events = es }
+
+abbrev at-cut : List Event → ℕ → List ℕ → Run
+at-cut es cut l = recorded (two es) past cut (lineOf l)
+
+abbrev line-of : List Event → ℕ → ℕ → ℕ → ℕ
+line-of es cut set = greatestLine (two es) past cut (reached (two es) past cut) (inSet set)
+
+-- the order is refused at a place; it is complete and leaves the record of the run without failure; it is complete and does every event, but
+-- leaves another record
+abbrev pub stops : Run → List ℕ → ℕ → Bool
+stops R order i = eqb (placeOf (run R order)) i
+
+abbrev pub completes : Run → List ℕ → Bool
+completes R order = leaves (λ s. isNone (lowest R s) && sameRecord R s) (run R order)
+
+abbrev pub differs : Run → List ℕ → Bool
+differs R order =
+    leaves (λ s. isNone (lowest R s) && (all-below (R .trace .procs) (λ z. no-one (λ e. true) (s .todo z)) && not (sameRecord R s))) (run R order)
+
+-- exactly one orphan, from 0 to 1 with number 1, of a phase
+abbrev only-orphan : List Listed → ℕ → Bool
+only-orphan [] r = false
+only-orphan (m ∷ []) r = eqb (m .from) 0 && (eqb (m .to) 1 && (eqb (m .number) 1 && eqb (m .phase) r))
+only-orphan (m ∷ n ∷ ms) r = false
+
+-- ---- The traces: of rows 1, 2 and 3, 4, 6, 7, 8 and 9, 10, 12
+
+abbrev t1 : List Event
+t1 = Save 1 ∷ Send 0 1 0 ∷ Recv 1 0 ∷ []
+
+abbrev t2 : List Event
+t2 = Send 0 1 0 ∷ Recv 1 0 ∷ Send 1 0 0 ∷ []
+
+abbrev t4 : List Event
+t4 = Send 0 1 0 ∷ Recv 1 0 ∷ Save 1 ∷ Send 1 0 0 ∷ []
+
+abbrev t6 : List Event
+t6 = Save 0 ∷ Send 1 0 0 ∷ Recv 0 1 ∷ Send 0 1 0 ∷ Recv 1 0 ∷ []
+
+abbrev t7 : List Event
+t7 = Save 0 ∷ Send 0 1 0 ∷ Recv 1 0 ∷ Send 1 0 0 ∷ Recv 0 1 ∷ Send 0 1 0 ∷ Recv 1 0 ∷ []
+
+abbrev t8 : List Event
+t8 = Send 0 1 6 ∷ Send 0 1 6 ∷ Recv 1 0 ∷ []
+
+abbrev t10 : List Event
+t10 = Send 0 1 0 ∷ Recv 1 0 ∷ Send 0 1 0 ∷ Recv 1 0 ∷ []
+
+abbrev t12 : List Event
+t12 = Send 0 1 5 ∷ Send 0 1 6 ∷ Recv 1 0 ∷ Recv 1 0 ∷ []
+
+-- ---- The rows. Each has its own proof, so that a definition that is wrong names the row that it makes false.
+
+-- all these traces are well formed
+unfoldable fit : Bool
+fit = every (map (λ es. wellFormed (two es)) (t1 ∷ t2 ∷ t4 ∷ t6 ∷ t7 ∷ t8 ∷ t10 ∷ t12 ∷ []))
+
+fit-holds : fit ≡ true
+unfolding opens fit every
+fit-holds = refl
+
+-- an orphan's phase is its sender's at the send
+unfoldable d1 : Bool
+d1 = only-orphan (orphans (at-cut t1 3 (1 ∷ 32 ∷ []))) 1
+
+d1-holds : d1 ≡ true
+unfolding opens d1 every
+d1-holds = refl
+
+-- a staying process waits for its phase at the cut, one that goes back does not wait for the orphans that it sends first itself
+unfoldable d2 : Bool
+d2 = stops (at-cut t2 2 (1 ∷ 32 ∷ [])) (1 ∷ []) 1 && completes (at-cut t2 2 (1 ∷ 32 ∷ [])) (0 ∷ 1 ∷ [])
+
+d2-holds : d2 ≡ true
+unfolding opens d2 every
+d2-holds = refl
+
+-- a kept message waits for its own phase
+unfoldable d3 : Bool
+d3 = stops (at-cut t2 3 (1 ∷ 32 ∷ [])) (128 ∷ []) 1 && completes (at-cut t2 3 (1 ∷ 32 ∷ [])) (0 ∷ 128 ∷ [])
+
+d3-holds : d3 ≡ true
+unfolding opens d3 every
+d3-holds = refl
+
+-- a process that goes back waits for its phase at restart, less 1
+unfoldable d4 : Bool
+d4 = stops (at-cut t4 4 (1 ∷ 2 ∷ [])) (1 ∷ []) 1 && completes (at-cut t4 4 (1 ∷ 2 ∷ [])) (0 ∷ 1 ∷ [])
+
+d4-holds : d4 ≡ true
+unfolding opens d4 every
+d4-holds = refl
+
+-- a kept message waits for no more than its own phase
+unfoldable d6 : Bool
+d6 = completes (at-cut t6 5 (1 ∷ 32 ∷ [])) (0 ∷ 128 ∷ 0 ∷ 0 ∷ [])
+
+d6-holds : d6 ≡ true
+unfolding opens d6 every
+d6-holds = refl
+
+-- a logged receive raises the phase above the message's
+unfoldable d7 : Bool
+d7 = completes (at-cut t7 7 (2 ∷ 32 ∷ [])) (0 ∷ 128 ∷ 0 ∷ 0 ∷ [])
+
+d7-holds : d7 ≡ true
+unfolding opens d7 every
+d7-holds = refl
+
+-- a message in transit at the cut is kept, and a send on its channel waits for it
+unfoldable d8 : Bool
+d8 = stops (at-cut t8 1 (32 ∷ 1 ∷ [])) (0 ∷ []) 1 && completes (at-cut t8 1 (32 ∷ 1 ∷ [])) (65 ∷ 0 ∷ 1 ∷ [])
+
+d8-holds : d8 ≡ true
+unfolding opens d8 every
+d8-holds = refl
+
+-- a message of equal epochs is lost, and a record that has another in its place differs, though the value is the same
+unfoldable d9 : Bool
+d9 = differs (at-cut t8 3 (32 ∷ 1 ∷ [])) (65 ∷ 1 ∷ [])
+
+d9-holds : d9 ≡ true
+unfolding opens d9 every
+d9-holds = refl
+
+-- an orphan that is sent again is dropped
+unfoldable d10 : Bool
+d10 = completes (at-cut t10 2 (1 ∷ 32 ∷ [])) (0 ∷ 0 ∷ 1 ∷ [])
+
+d10-holds : d10 ≡ true
+unfolding opens d10 every
+d10-holds = refl
+
+-- the greatest line sends back the sender of a lost message, and not the receiver of an orphan
+unfoldable d11 : Bool
+d11 = eqb (line-of t8 3 2 0) 1 && (eqb (line-of t8 3 2 1) 1 && (eqb (line-of t10 2 1 0) 1 && eqb (line-of t10 2 1 1) 32))
+
+d11-holds : d11 ≡ true
+unfolding opens d11 every
+d11-holds = refl
+
+-- a receive needs a message in the channel; kept messages go in oldest first
+unfoldable d12 : Bool
+d12 = stops (at-cut t12 2 (32 ∷ 1 ∷ [])) (1 ∷ []) 1 && completes (at-cut t12 2 (32 ∷ 1 ∷ [])) (65 ∷ 65 ∷ 1 ∷ 1 ∷ [])
+
+d12-holds : d12 ≡ true
+unfolding opens d12 every
+d12-holds = refl
+
+rows : List Bool
+rows = fit ∷ d1 ∷ d2 ∷ d3 ∷ d4 ∷ d6 ∷ d7 ∷ d8 ∷ d9 ∷ d10 ∷ d11 ∷ d12 ∷ []
+
+table : every rows ≡ true
+unfolding rows every
+table = rw (fit-holds, d1-holds, d2-holds, d3-holds, d4-holds, d6-holds, d7-holds, d8-holds, d9-holds, d10-holds, d11-holds, d12-holds)
