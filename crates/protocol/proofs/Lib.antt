@@ -1,0 +1,5 @@
+pub mod Moves
+pub mod Bounds
+pub mod Storing
+pub mod Columns
+pub mod Work

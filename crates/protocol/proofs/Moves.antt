@@ -1,0 +1,139 @@
+-- How the theory's counts, epochs and phases move at one event, by its kind. From the definitions, and the claims of the theory on what a
+-- message carries.
+use Prim.Native.Nat.{ℕ, zero, suc, _+_, _<_, _≤_}
+use mathlib.Core.Path.{_≡_, refl, sym, ap, _∙_}
+use mathlib.Core.Logic.{_≢_}
+use mathlib.Core.Bool.{Bool, true, false, _&&_}
+use native.Mathlib.Omega.{arith}
+use lib.Dec.{eqb, ltb}
+use borrow.Author.Tests.{eq-eqb, ne-eqb}
+use Rattle.trace.specs.declared.Event.{Event}
+use Rattle.trace.specs.declared.Event.the-variants.{Send, Recv, Save}
+use Rattle.trace.specs.Trace.{Trace, isSend, isRecv, isSave}
+use Rattle.words.proofs.Cases.{by-eq}
+use Rattle.theory.specs.Lists.{pick, cnt, put}
+use Rattle.theory.specs.Events.{size, eventAt, at, kind, sends, recvs, saves, sent, rcvd, sendOf, recvOf}
+use Rattle.theory.specs.Epochs.{Notes, past, joined, note, notes, epochAt, phaseAt, phaseOf, loggedBy}
+use Rattle.theory.proofs.Base.{eqb-self, cnt-suc, cnt-skip}
+use Rattle.theory.proofs.Events.{Valid, partner, sendOf-at}
+use Rattle.theory.proofs.Epochs.{phase-recv, phaseOf-send, logged-is}
+
+-- is this the channel
+pub here : (p q a b : ℕ) → p ≡ a → q ≡ b → eqb p a && eqb q b ≡ true
+here p q a b e f = rw (eq-eqb p a e, eq-eqb q b f)
+
+pub elsewhere : (p q a b : ℕ) → ((p ≡ a) × (q ≡ b) → ⊥) → eqb p a && eqb q b ≡ false
+elsewhere p q a b n = by-eq p a (λ e. by-eq q b (λ f. absurd (n (e, f))) (λ g. rw (eq-eqb p a e, ne-eqb q b g))) (λ g. rw (ne-eqb p a g))
+
+module _ (t : Trace) (x : ℕ) where
+  pub sent-more : (p q : ℕ) → sends t p q (suc x) ≡ true → sent t p q (suc x) ≡ suc (sent t p q x)
+  unfolding sent
+  sent-more p q h = cnt-suc (sends t p q) x h
+
+  pub sent-same : (p q : ℕ) → sends t p q (suc x) ≡ false → sent t p q (suc x) ≡ sent t p q x
+  unfolding sent
+  sent-same p q h = cnt-skip (sends t p q) x h
+
+  pub rcvd-more : (p q : ℕ) → recvs t p q (suc x) ≡ true → rcvd t p q (suc x) ≡ suc (rcvd t p q x)
+  unfolding rcvd
+  rcvd-more p q h = cnt-suc (recvs t p q) x h
+
+  pub rcvd-same : (p q : ℕ) → recvs t p q (suc x) ≡ false → rcvd t p q (suc x) ≡ rcvd t p q x
+  unfolding rcvd
+  rcvd-same p q h = cnt-skip (recvs t p q) x h
+
+  noted : (v : Event) → eventAt t (suc x) ≡ v → notes t past (suc x) ≡ note t past (notes t past x) (suc x) v
+  unfolding notes
+  noted v e = ap (note t past (notes t past x) (suc x)) e
+
+  -- a send of a to b
+  module _ (a b v : ℕ) (e : eventAt t (suc x) ≡ Send a b v) where
+    pub send-at : at t (suc x) ≡ a
+    unfolding at
+    send-at = rw e
+
+    pub send-here : sends t a b (suc x) ≡ true
+    unfolding sends
+    send-here = rw e (here a b a b refl refl)
+
+    pub send-else : (p q : ℕ) → ((p ≡ a) × (q ≡ b) → ⊥) → sends t p q (suc x) ≡ false
+    unfolding sends
+    send-else p q n = rw e (elsewhere p q a b n)
+
+    pub send-recvs : (p q : ℕ) → recvs t p q (suc x) ≡ false
+    unfolding recvs
+    send-recvs p q = rw e
+
+    pub send-epoch : (z : ℕ) → epochAt t past z (suc x) ≡ epochAt t past z x
+    unfolding note
+    send-epoch z = ap (λ (n : Notes). n .epochs z) (noted (Send a b v) e)
+
+    pub send-phase : (z : ℕ) → phaseAt t past z (suc x) ≡ phaseAt t past z x
+    unfolding note
+    send-phase z = ap (λ (n : Notes). n .phases z) (noted (Send a b v) e)
+
+  -- a receive of a from b
+  module _ (a b : ℕ) (e : eventAt t (suc x) ≡ Recv a b) where
+    pub recv-at : at t (suc x) ≡ a
+    unfolding at
+    recv-at = rw e
+
+    pub recv-here : recvs t b a (suc x) ≡ true
+    unfolding recvs
+    recv-here = rw e (here b a b a refl refl)
+
+    pub recv-else : (p q : ℕ) → ((p ≡ b) × (q ≡ a) → ⊥) → recvs t p q (suc x) ≡ false
+    unfolding recvs
+    recv-else p q n = rw e (elsewhere p q b a n)
+
+    pub recv-sends : (p q : ℕ) → sends t p q (suc x) ≡ false
+    unfolding sends
+    recv-sends p q = rw e
+
+    pub recv-epoch : (z : ℕ) → epochAt t past z (suc x) ≡ epochAt t past z x
+    unfolding note
+    recv-epoch z = ap (λ (n : Notes). n .epochs z) (noted (Recv a b) e)
+
+    pub recv-phase-other : (z : ℕ) → z ≢ a → phaseAt t past z (suc x) ≡ phaseAt t past z x
+    unfolding note
+    recv-phase-other z n = ap (λ (n : Notes). n .phases z) (noted (Recv a b) e) ∙ rw (ne-eqb z a n)
+
+    -- the message was sent by event d, so that it carries what the columns of d say
+    pub recv-phase : Valid t → suc x ≤ size t → (d : ℕ) → sends t b a d ≡ true → 0 < d → d ≤ size t → sent t b a d ≡ rcvd t b a (suc x)
+        → phaseAt t past a (suc x) ≡ joined (ltb (epochAt t past b d) (epochAt t past a x)) (phaseAt t past a x) (phaseAt t past b d)
+    recv-phase A l d s p m n =
+        phase-recv t past A b a x recv-here l
+        ∙ ap (λ (k : ℕ). joined (loggedBy t past b a k) (phaseAt t past a x) (phaseOf t past b a k)) (sym n)
+        ∙ ap (λ (c : Bool). joined c (phaseAt t past a x) (phaseOf t past b a (sent t b a d)))
+        (logged-is t past b a d (suc x) s recv-here p (omega arith) m l n ∙ ap (λ (k : ℕ). ltb (epochAt t past b d) k) (recv-epoch a))
+        ∙ ap (λ (k : ℕ). joined (ltb (epochAt t past b d) (epochAt t past a x)) (phaseAt t past a x) k) (phaseOf-send t past b a d s p m)
+
+  -- a checkpoint of a
+  module _ (a : ℕ) (e : eventAt t (suc x) ≡ Save a) where
+    pub save-at : at t (suc x) ≡ a
+    unfolding at
+    save-at = rw e
+
+    pub save-sends : (p q : ℕ) → sends t p q (suc x) ≡ false
+    unfolding sends
+    save-sends p q = rw e
+
+    pub save-recvs : (p q : ℕ) → recvs t p q (suc x) ≡ false
+    unfolding recvs
+    save-recvs p q = rw e
+
+    pub save-epoch : epochAt t past a (suc x) ≡ suc (epochAt t past a x)
+    unfolding note
+    save-epoch = ap (λ (n : Notes). n .epochs a) (noted (Save a) e) ∙ rw (eqb-self a)
+
+    pub save-phase : phaseAt t past a (suc x) ≡ suc (phaseAt t past a x)
+    unfolding note
+    save-phase = ap (λ (n : Notes). n .phases a) (noted (Save a) e) ∙ rw (eqb-self a)
+
+    pub save-epoch-other : (z : ℕ) → z ≢ a → epochAt t past z (suc x) ≡ epochAt t past z x
+    unfolding note
+    save-epoch-other z n = ap (λ (n : Notes). n .epochs z) (noted (Save a) e) ∙ rw (ne-eqb z a n)
+
+    pub save-phase-other : (z : ℕ) → z ≢ a → phaseAt t past z (suc x) ≡ phaseAt t past z x
+    unfolding note
+    save-phase-other z n = ap (λ (n : Notes). n .phases z) (noted (Save a) e) ∙ rw (ne-eqb z a n)

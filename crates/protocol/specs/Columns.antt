@@ -1,0 +1,43 @@
+-- The full table: the words of a trace and what the protocol derives from it, a plane of words for each column (docs/LAYOUT.md).
+-- `Columns` says what each column means, by the theory's definitions; everything above cites it.
+use Prim.Native.Nat.{ℕ, _+_, _<_, _≤_}
+use mathlib.Core.Path.{_≡_}
+use mathlib.Core.Bool.{true}
+use mathlib.Core.List.{List}
+use lib.ListN.{length, getD}
+use Rattle.words.specs.Area.{areaWords}
+use Rattle.trace.specs.Trace.{Trace}
+use Rattle.trace.specs.Table.{tableWord}
+use Rattle.theory.specs.Events.{size, at, sends, recvs, sent, rcvd, sendOf, recvOf}
+use Rattle.theory.specs.Epochs.{past, epochAt, phaseAt}
+
+-- the words before event 1 of each column
+abbrev pub numberBase : ℕ
+numberBase = 6163
+
+abbrev pub epochBase : ℕ
+epochBase = 8212
+
+abbrev pub phaseBase : ℕ
+phaseBase = 10261
+
+abbrev pub matchBase : ℕ
+matchBase = 12310
+
+-- the words up to here are those of the trace
+abbrev pub traceWords : ℕ
+traceWords = 6163
+
+pub record Columns (t : Trace) (full : List ℕ) : Type 0 where
+  pub whole : length full ≡ areaWords
+  -- the trace's own words
+  pub words : (k : ℕ) → k < traceWords → getD full k 0 ≡ tableWord t k
+  -- the number of the message that an event sends or receives
+  pub number-send : (p q e : ℕ) → sends t p q e ≡ true → 0 < e → e ≤ size t → getD full (numberBase + e) 0 ≡ sent t p q e
+  pub number-recv : (p q e : ℕ) → recvs t p q e ≡ true → 0 < e → e ≤ size t → getD full (numberBase + e) 0 ≡ rcvd t p q e
+  -- the epoch and the phase of an event's process after the event
+  pub epoch : (e : ℕ) → 0 < e → e ≤ size t → getD full (epochBase + e) 0 ≡ epochAt t past (at t e) e
+  pub phase : (e : ℕ) → 0 < e → e ≤ size t → getD full (phaseBase + e) 0 ≡ phaseAt t past (at t e) e
+  -- the receive of the message that an event sends, 0 where there is none; the send of the message that it receives
+  pub match-send : (p q e : ℕ) → sends t p q e ≡ true → 0 < e → e ≤ size t → getD full (matchBase + e) 0 ≡ recvOf t p q (sent t p q e)
+  pub match-recv : (p q e : ℕ) → recvs t p q e ≡ true → 0 < e → e ≤ size t → getD full (matchBase + e) 0 ≡ sendOf t p q (rcvd t p q e)
