@@ -22,7 +22,8 @@ use Rattle.theory.specs.Order.{carriedOut, refused, choose, Allowed, run
 use Rattle.theory.specs.Answers.{names, orphans, keptOnes, lostOnes, lossFree, sameRecord}
 use Rattle.theory.specs.Laws.{Laws}
 use Rattle.theory.proofs.Base.{on, by, le?}
-use Rattle.theory.proofs.Events.{Valid, valid, partner, sent-lt}
+use Rattle.theory.proofs.Events.{partner, sent-lt}
+use Rattle.theory.proofs.WellFormed.{Valid, valid}
 use Rattle.theory.proofs.Classes.{undone-counts, lost-counts, orphan-counts, kept-counts}
 use Rattle.theory.proofs.Flow.{Inv}
 use Rattle.theory.proofs.Loss.{inv}

@@ -16,7 +16,8 @@ use Rattle.theory.specs.Epochs.{Rule, Carried, Notes, joined, note, note
 use Rattle.theory.specs.Line.{restartIn, recorded}
 use Rattle.theory.specs.Laws.{Laws}
 use Rattle.theory.proofs.Base.{by, clash, both, eqb-self, cnt-suc, cnt-skip, place-le, place-is}
-use Rattle.theory.proofs.Events.{send-not-recv, send-no-save, sent-le, recvOf-at, Valid}
+use Rattle.theory.proofs.Events.{send-not-recv, send-no-save, sent-le, recvOf-at}
+use Rattle.theory.proofs.WellFormed.{Valid}
 
 -- ---- An event
 

@@ -14,7 +14,7 @@ use Rattle.theory.specs.Events.{size}
 use Rattle.theory.specs.Epochs.{Rule, past, epochAt}
 use Rattle.theory.specs.Line.{lost, LossFree, recorded, current, Usable, Permitted, Greatest, Above, highest, lower, lowerIf, lowered, lowering, greatestLine}
 use Rattle.theory.proofs.Base.{by, on, clash, eqb-self, lastOf-top, first-none, first-some, sum, sum-lt}
-use Rattle.theory.proofs.Events.{Valid}
+use Rattle.theory.proofs.WellFormed.{Valid}
 use Rattle.theory.proofs.Lines.{now-is, now-few, number-of, lost-epochs, epoch-le, lost-in, lower-usable, lower-less, lower-over, past-unlogged}
 
 sum-32 : (n : ℕ) (f : ℕ → ℕ) → ((x : ℕ) → x < n → f x ≤ 32) → sum n f ≤ 32 * n

@@ -14,7 +14,8 @@ use Rattle.theory.specs.Epochs.{Rule, past, epochAt, epochOf, loggedBy}
 use Rattle.theory.specs.Line.{lost, LossFree, restartIn, recorded, current, reached, Usable, Permitted}
 use Rattle.theory.specs.Laws.{Laws}
 use Rattle.theory.proofs.Base.{on, clash, le?, both, cnt-le, cnt-lt, cnt-bound, place-zero, place-cnt, place-mono, lastOf-le, lastOf-top}
-use Rattle.theory.proofs.Events.{sends-is, send-no-save, recv-no-save, sent-le, rcvd-le, rcvd-lt, send-of, recv-of, Valid}
+use Rattle.theory.proofs.Events.{sends-is, send-no-save, recv-no-save, sent-le, rcvd-le, rcvd-lt, send-of, recv-of}
+use Rattle.theory.proofs.WellFormed.{Valid}
 use Rattle.theory.proofs.Classes.{lost-is, is-lost}
 use Rattle.theory.proofs.Epochs.{restart-cut, epoch-is, epochOf-at, logged-is, laws}
 

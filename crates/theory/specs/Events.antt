@@ -4,8 +4,7 @@ use Prim.Native.Nat.{ℕ, zero, suc}
 use lib.ListN.{length, getD}
 use Rattle.trace.specs.declared.Event.{Event}
 use Rattle.trace.specs.declared.Event.the-variants.{Send, Recv, Save}
-use Rattle.trace.specs.Trace.{Trace, isSend, isRecv, isSave}
-use Rattle.trace.specs.Table.{valueOf}
+use Rattle.trace.specs.Trace.{Trace, valueOf, isSend, isRecv, isSave}
 use Rattle.theory.specs.Lists.{cnt, place}
 
 -- what a replay sees of an event: a send to q, a receive from p, or any other

@@ -1,0 +1,35 @@
+-- What the reader promises of texts and traces, over its definitions alone: each claim under the sentence that it stands for.
+use Prim.Native.Nat.{ℕ}
+use mathlib.Core.Path.{_≡_, refl, sym, ap, subst, _∙_}
+use mathlib.Core.Logic.{_↔_}
+use mathlib.Core.List.{List}
+use mathlib.Core.Bool.{true}
+use Rattle.trace.specs.Trace.{Trace}
+use Rattle.trace.specs.Fit.{wellFormed}
+use Rattle.reader.specs.Render.{render}
+use Rattle.reader.specs.Verdict.{accepted, verdict}
+use Rattle.reader.proofs.Whole.{Taken, verdict-taken, render-taken}
+
+-- The canonical text theorem: a text is accepted as a trace exactly where the trace is well formed and the text is its rendering, byte for byte.
+pub canonical : (text : List ℕ) (t : Trace) → (verdict text ≡ accepted t) ↔ ((wellFormed t ≡ true) × (text ≡ render t))
+canonical text t = (λ e. subst (Taken text) e (verdict-taken text), λ h. ap verdict (h .1) ∙ render-taken t (h .0))
+
+-- Nothing unfit is accepted.
+pub accepted-fit : (text : List ℕ) (t : Trace) → verdict text ≡ accepted t → wellFormed t ≡ true
+accepted-fit text t e = canonical text t .0 e .0
+
+-- Nothing fit is refused.
+pub fit-accepted : (t : Trace) → wellFormed t ≡ true → verdict (render t) ≡ accepted t
+fit-accepted t w = canonical (render t) t .1 (w, refl)
+
+-- Each well-formed trace has exactly one text: the claim above gives one, and there is no other.
+pub one-text : (a b : List ℕ) (t : Trace) → verdict a ≡ accepted t → verdict b ≡ accepted t → a ≡ b
+one-text a b t e f = canonical a t .0 e .1 ∙ sym (canonical b t .0 f .1)
+
+-- Two traces with one text are equal.
+pub one-trace : (s t : Trace) → wellFormed s ≡ true → wellFormed t ≡ true → render s ≡ render t → s ≡ t
+one-trace s t v w e =
+    let a : verdict (render s) ≡ accepted s = fit-accepted s v in
+    let b : verdict (render t) ≡ accepted t = fit-accepted t w in
+    let c : verdict (render s) ≡ verdict (render t) = ap verdict e in
+    cc

@@ -1,0 +1,133 @@
+-- The lines after the first: what is read there is rendered events, all fit, and fit events rendered are read. From the laws of one line and of pieces.
+use Prim.Native.Nat.{ℕ, suc, _+_, _<_, _≤_}
+use mathlib.Core.Path.{_≡_, refl, sym, ap, _∙_}
+use mathlib.Core.List.{List, [], _∷_, _++_, append-assoc, append-nil}
+use mathlib.Core.Bool.{Bool, true, false}
+use native.Mathlib.Omega.{arith}
+use lib.Dec.{leb, eqb}
+use lib.ListN.{length, length-append}
+use borrow.Author.Tests.{leb-true, leb-false, le-leb, lt-leb, eqb-true, eq-eqb, ne-eqb}
+use Rattle.words.proofs.Cases.{by-eq, and-left, and-right, and-both}
+use Rattle.trace.specs.declared.Event.{Event}
+use Rattle.trace.specs.declared.Event.the-variants.{Send, Recv, Save}
+use Rattle.trace.specs.Trace.{Trace}
+use Rattle.trace.specs.Fit.{orElse, faultOf, valueFits, allFit}
+use Rattle.reader.specs.declared.Line.{Line}
+use Rattle.reader.specs.declared.Line as line
+use Rattle.reader.specs.declared.Judged.{Judged}
+use Rattle.reader.specs.declared.Judged.the-variants.{Fit, Fails, Unfit}
+use Rattle.reader.specs.Line.{lineOf, most}
+use Rattle.reader.specs.Render.{renderEvent, renderEvents}
+use Rattle.reader.specs.Verdict.{pieces, extended, faultHere, judgeEvent, judge, Scan, afterLine, linesFrom, Verdict, verdictOf}
+use Rattle.trace.proofs.Faults.{send-fit, recv-fit, save-fit}
+use Rattle.reader.proofs.Judging.{fit-few}
+use Rattle.reader.proofs.Turns.{with-lf}
+use Rattle.reader.proofs.OneLine.{Small, Says, line-says, lineFor, event-line}
+use Rattle.reader.proofs.Pieces.{joined, line-piece, plain-event}
+
+-- the trace with more events
+abbrev pub longer : Trace → List Event → Trace
+longer t es = record { procs = t .procs; events = t .events ++ es }
+
+longer-none : (t : Trace) → t ≡ longer t []
+longer-none t = ap (λ (x : List Event). record { procs = t .procs; events = x }) (sym (append-nil (t .events)))
+
+longer-more : (t : Trace) (e : Event) (es : List Event) → longer (extended t e) es ≡ longer t (e ∷ es)
+longer-more t e es = ap (λ (x : List Event). record { procs = t .procs; events = x }) (append-assoc (t .events) (e ∷ []) es)
+
+-- ---- from reading to text
+
+-- what a judgement says of the line's bytes and of the event
+abbrev Told : Trace → List ℕ → Judged → Type 0
+Told t l (Fit e) = (l ≡ renderEvent e) × (faultHere t e ≡ 0) × (valueFits e ≡ true)
+Told t l (Fails step set) = Unit
+Told t l (Unfit n) = Unit
+
+event-told : (t : Trace) (l : List ℕ) (e : Event) → l ≡ renderEvent e → valueFits e ≡ true → Told t l (judgeEvent t e)
+unfolding judgeEvent
+event-told t l e q v =
+    by-eq (faultHere t e) 0
+    (λ z. rw (eq-eqb (faultHere t e) 0 z) (q, z, v))
+    (λ n. rw (ne-eqb (faultHere t e) 0 n) tt)
+
+judge-told : (t : Trace) (l : List ℕ) (x : Line) → Says l x → Told t l (judge t x)
+unfolding judge
+judge-told t l (line.the-variants.Procs n) s = tt
+judge-told t l (line.the-variants.Send at to val) s = event-told t l (Send at to val) (s .0) (le-leb val most (s .1 .2))
+judge-told t l (line.the-variants.Recv at from) s = event-told t l (Recv at from) (s .0) refl
+judge-told t l (line.the-variants.Save at) s = event-told t l (Save at) (s .0) refl
+judge-told t l (line.the-variants.Failure step set) s = tt
+judge-told t l line.the-variants.Malformed s = tt
+
+-- what the reading of lines after a trace t says of their bytes
+abbrev pub Heard : Trace → List (List ℕ) → Scan → Type 0
+Heard t ps (Scan.refused n k) = Unit
+Heard t ps (Scan.ended u k) =
+    (es : List Event) × (joined ps ≡ renderEvents es) × (u ≡ longer t es) × (allFit (t .procs) (t .events) es ≡ true) × (length (t .events) + length es ≤ 2048)
+Heard t ps (Scan.stopped u step set k rest) = Unit
+
+more-heard : (t : Trace) (l m : List ℕ) (ms : List (List ℕ)) (e : Event) → l ≡ renderEvent e → faultOf (t .procs) (t .events) e ≡ 0 → valueFits e ≡ true
+    → (s : Scan) → Heard (extended t e) (m ∷ ms) s → Heard t (l ∷ (m ∷ ms)) s
+unfolding joined renderEvents allFit
+more-heard t l m ms e q z v (Scan.refused n k) h = tt
+more-heard t l m ms e q z v (Scan.ended u k) h = (
+  e ∷ h .0,
+  rw (q, h .1),
+  h .2 ∙ longer-more t e (h .0),
+  and-both _ _ (eq-eqb _ 0 z) (and-both _ _ v (h .3)),
+  omega (arith, h .4, length-append (t .events) (e ∷ [])),
+)
+more-heard t l m ms e q z v (Scan.stopped u step set k rest) h = tt
+
+after-heard : (t : Trace) (k : ℕ) (l m : List ℕ) (ms : List (List ℕ)) (next : Event → Scan)
+    → ((e : Event) → length (t .events) < 2048 → Heard (extended t e) (m ∷ ms) (next e))
+    → (j : Judged) → Told t l j → Heard t (l ∷ (m ∷ ms)) (afterLine j t k (m ∷ ms) next)
+after-heard t k l m ms next more (Fit e) d =
+    let (room, fit) = fit-few t e (d .1) in
+    more-heard t l m ms e (d .0) fit (d .2) (next e) (more e room)
+after-heard t k l m ms next more (Fails step set) d = tt
+after-heard t k l m ms next more (Unfit n) d = tt
+
+pub lines-heard : (t : Trace) (k : ℕ) (ps : List (List ℕ)) → length (t .events) ≤ 2048 → Heard t ps (linesFrom t k ps)
+unfolding linesFrom joined renderEvents allFit
+lines-heard t k [] h = tt
+lines-heard t k ([] ∷ []) h = ([], refl, longer-none t, refl, omega arith)
+lines-heard t k ((b ∷ l) ∷ []) h = tt
+lines-heard t k (l ∷ (m ∷ ms)) h =
+    after-heard t k l m ms (λ e. linesFrom (extended t e) (k + 1) (m ∷ ms))
+    (λ e room. lines-heard (extended t e) (k + 1) (m ∷ ms) (omega (arith, length-append (t .events) (e ∷ []))))
+    (judge t (lineOf l)) (judge-told t l (lineOf l) (line-says l))
+
+-- ---- from text to reading
+
+-- a fit event's processes are below 64
+fit-small : (n : ℕ) (before : List Event) (e : Event) → n ≤ 64 → faultOf n before e ≡ 0 → valueFits e ≡ true → Small e
+fit-small n before (Send at to val) r z v = let f = send-fit n before at to val z in (omega arith, omega arith, leb-true val most v)
+fit-small n before (Recv at from) r z v = let f = recv-fit n before at from z in (omega arith, omega arith)
+fit-small n before (Save at) r z v = let f = save-fit n before at z in omega arith
+
+judge-event : (t : Trace) (e : Event) → judge t (lineFor e) ≡ judgeEvent t e
+unfolding judge
+judge-event t (Send at to val) = refl
+judge-event t (Recv at from) = refl
+judge-event t (Save at) = refl
+
+event-judged : (t : Trace) (e : Event) → t .procs ≤ 64 → length (t .events) < 2048 → faultOf (t .procs) (t .events) e ≡ 0 → valueFits e ≡ true
+    → judge t (lineOf (renderEvent e)) ≡ Fit e
+unfolding judgeEvent faultHere
+event-judged t e r room fit v =
+    ap (judge t) (event-line e (fit-small (t .procs) (t .events) e r fit v)) ∙ judge-event t e ∙ rw (lt-leb 2048 (length (t .events)) room, fit)
+
+pub lines-read : (t : Trace) (k : ℕ) (es : List Event) → t .procs ≤ 64 → length (t .events) + length es ≤ 2048 → allFit (t .procs) (t .events) es ≡ true
+    → verdictOf (linesFrom t k (pieces (renderEvents es))) ≡ Verdict.accepted (longer t es)
+unfolding linesFrom pieces renderEvents allFit
+lines-read t k [] r h f = ap Verdict.accepted (longer-none t)
+lines-read t k (e ∷ es) r h f =
+    let fit : faultOf (t .procs) (t .events) e ≡ 0 = eqb-true (faultOf (t .procs) (t .events) e) 0 (and-left _ _ f) in
+    let values = and-right (eqb (faultOf (t .procs) (t .events) e) 0) _ f in
+    let judged = event-judged t e r (omega arith) fit (and-left (valueFits e) _ values) in
+    ap (λ (x : List (List ℕ)). verdictOf (linesFrom t k x)) (line-piece (renderEvent e) (renderEvents es) (plain-event e))
+    ∙ ap verdictOf (with-lf t k (renderEvent e) (renderEvents es))
+    ∙ ap (λ (j : Judged). verdictOf (afterLine j t k (pieces (renderEvents es)) (λ d. linesFrom (extended t d) (k + 1) (pieces (renderEvents es))))) judged
+    ∙ lines-read (extended t e) (k + 1) es r (omega (arith, length-append (t .events) (e ∷ []))) (and-right (valueFits e) _ values)
+    ∙ ap Verdict.accepted (longer-more t e es)

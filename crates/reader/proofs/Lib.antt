@@ -1,0 +1,12 @@
+pub mod Judging
+pub mod Cutting
+pub mod Storing
+pub mod Turns
+pub mod Verdicts
+pub mod Decimal
+pub mod Field
+pub mod OneLine
+pub mod Pieces
+pub mod Events
+pub mod Whole
+pub mod Claims

@@ -1,0 +1,117 @@
+-- Laws of reading: one for each way a turn of the loop over the lines goes, and each way out of `scan`.
+use Prim.Native.Nat.{ℕ, zero, suc, _+_, _-_, _<_, _≤_}
+use mathlib.Core.Path.{_≡_, refl, sym, ap, _∙_}
+use mathlib.Core.List.{List, [], _∷_, _++_}
+use mathlib.Core.Bool.{Bool, true, false}
+use native.Mathlib.Omega.{arith}
+use lib.ListN.{length, take, drop, drop-of-length-le, length-drop, length-append}
+use lib.Dec.{ltb}
+use borrow.Author.Tests.{lt-ltb, le-ltb}
+use types.Run.{OneOf, miss}
+use denote.Enum.Declared.{tagOf}
+use Rattle.text.specs.declared.LineEnd.the-variants.{At, Missing}
+use Rattle.text.specs.Line.{lineEnd}
+use Rattle.trace.specs.declared.Event.{Event}
+use Rattle.trace.specs.Trace.{Trace}
+use Rattle.reader.specs.declared.Line.{Line}
+use Rattle.reader.specs.declared.Line as line
+use Rattle.reader.specs.declared.Judged.{Judged}
+use Rattle.reader.proofs.Judged as judged
+use Rattle.reader.proofs.Line as lineType
+use Rattle.reader.specs.declared.Judged.the-variants.{Fit, Fails, Unfit}
+use Rattle.reader.specs.declared.Scanned.{Scanned}
+use Rattle.reader.specs.declared.Scanned.the-variants.{Refused, Ended, Stopped}
+use Rattle.reader.specs.Line.{lineOf}
+use Rattle.reader.specs.Verdict.{Scan, refused, ended, stopped, pieces, extended, judge, afterLine, atEnd, linesFrom, firstLine, scanPieces, scan}
+use Rattle.reader.specs.Reading.{Holds, stopOf, Outcome}
+use Rattle.reader.proofs.Pieces.{first-piece}
+use Rattle.reader.proofs.Cutting.{cut-none, line-cut, first-cut}
+
+-- a last piece that is something lacks its LF
+lacks : (l : List ℕ) (t : Trace) (k : ℕ) → 0 < length l → atEnd l t k ≡ refused 1 k
+lacks [] t k h = absurd (let z : ⊥ = omega arith in z)
+lacks (b ∷ bs) t k h = refl
+
+-- a line with its LF, whatever follows
+pub with-lf : (t : Trace) (k : ℕ) (l : List ℕ) (bs : List ℕ)
+    → linesFrom t k (l ∷ pieces bs) ≡ afterLine (judge t (lineOf l)) t k (pieces bs) (λ e. linesFrom (extended t e) (k + 1) (pieces bs))
+unfolding linesFrom
+with-lf t k l bs = let p = first-piece bs in rw (p .2)
+
+module _ (text : List ℕ) (t : Trace) (k at : ℕ) where
+  pub turn-end : length text ≤ at → linesFrom t k (pieces (drop at text)) ≡ ended t k
+  unfolding linesFrom pieces
+  turn-end h = rw (drop-of-length-le text {i = at} h)
+
+  pub turn-missing : at < length text → lineEnd text at ≡ Missing → linesFrom t k (pieces (drop at text)) ≡ refused 1 k
+  unfolding linesFrom
+  turn-missing h e = rw (cut-none at (drop at text) e) (lacks (drop at text) t k (rw (length-drop at text) (omega arith)))
+
+  module _ (i : ℕ) (e : lineEnd text at ≡ At i) (j : Judged) (h : j ≡ judge t (lineOf (take (i - at) (drop at text)))) where
+    turn-line : linesFrom t k (pieces (drop at text)) ≡ afterLine j t k (pieces (drop (i + 1) text)) (λ d. linesFrom (extended t d) (k + 1) (pieces (drop (i + 1) text)))
+    turn-line = ap (linesFrom t k) ((line-cut text at i e) .2) ∙ with-lf t k (take (i - at) (drop at text)) (drop (i + 1) text) ∙ rw (← h)
+
+    pub turn-fit : (d : Event) → j ≡ Fit d → linesFrom t k (pieces (drop at text)) ≡ linesFrom (extended t d) (k + 1) (pieces (drop (i + 1) text))
+    turn-fit d q = turn-line ∙ rw q
+
+    pub turn-stop : (table : List ℕ) → Holds table t → OneOf (1 ∷ 2 ∷ []) (tagOf judged.the-type j) → Outcome text (linesFrom t k (pieces (drop at text))) (stopOf j k (i + 1)) table
+    unfolding Outcome
+    turn-stop table w o = rw turn-line (by-case j o)
+      where
+        by-case : (x : Judged) → OneOf (1 ∷ 2 ∷ []) (tagOf judged.the-type x) → Outcome text (afterLine x t k (pieces (drop (i + 1) text)) (λ d. linesFrom (extended t d) (k + 1) (pieces (drop (i + 1) text)))) (stopOf x k (i + 1)) table
+        by-case (Fit d) o′ = absurd (miss (1 ∷ 2 ∷ []) 0 tt o′)
+        by-case (Fails step set) o′ = (i + 1, refl, refl, w)
+        by-case (Unfit n) o′ = (refl, w .size)
+
+-- an outcome that is known
+module _ (text : List ℕ) (s : Scan) (table : List ℕ) where
+  pub out-refused : (n k : ℕ) → s ≡ refused n k → length table ≡ 16384 → Outcome text s (Refused n k) table
+  unfolding Outcome
+  out-refused n k e l = rw e (refl, l)
+
+  pub out-ended : (t : Trace) (k : ℕ) → s ≡ ended t k → Holds table t → Outcome text s (Ended k) table
+  unfolding Outcome
+  out-ended t k e h = rw e (refl, h)
+
+  pub out-same : (z : Scan) (r : Scanned) → z ≡ s → Outcome text z r table → Outcome text s r table
+  out-same z r e o = rw (← e) o
+
+-- a first line with its LF, whatever follows
+first-lf : (l bs : List ℕ) → scanPieces (l ∷ pieces bs) ≡ firstLine (lineOf l) (λ n. linesFrom (record { procs = n; events = [] }) 2 (pieces bs))
+unfolding scanPieces
+first-lf l bs = let p = first-piece bs in rw (p .2)
+
+-- each way out of `scan_text`
+module _ (text : List ℕ) where
+  pub scan-missing : lineEnd text 0 ≡ Missing → scan text ≡ refused 1 1
+  unfolding scan scanPieces
+  scan-missing e = rw (cut-none 0 text e)
+
+  module _ (i : ℕ) (e : lineEnd text 0 ≡ At i) (l : Line) (h : l ≡ lineOf (take i text)) where
+    abbrev rest : ℕ → Scan
+    rest n = linesFrom (record { procs = n; events = [] }) 2 (pieces (drop (i + 1) text))
+
+    scan-line : scan text ≡ firstLine l rest
+    unfolding scan
+    scan-line = ap scanPieces ((first-cut text i e) .1) ∙ first-lf (take i text) (drop (i + 1) text) ∙ ap (λ (x : Line). firstLine x rest) (sym h)
+
+    pub scan-other : OneOf (1 ∷ 2 ∷ 3 ∷ 4 ∷ 5 ∷ []) (tagOf lineType.the-type l) → scan text ≡ refused 1 1
+    scan-other o = scan-line ∙ by-case l o
+      where
+        by-case : (x : Line) → OneOf (1 ∷ 2 ∷ 3 ∷ 4 ∷ 5 ∷ []) (tagOf lineType.the-type x) → firstLine x rest ≡ refused 1 1
+        by-case (line.the-variants.Procs n) o′ = absurd (miss (1 ∷ 2 ∷ 3 ∷ 4 ∷ 5 ∷ []) 0 tt o′)
+        by-case (line.the-variants.Send a b v) o′ = refl
+        by-case (line.the-variants.Recv a b) o′ = refl
+        by-case (line.the-variants.Save a) o′ = refl
+        by-case (line.the-variants.Failure k m) o′ = refl
+        by-case line.the-variants.Malformed o′ = refl
+
+    module _ (n : ℕ) (q : l ≡ line.the-variants.Procs n) where
+      pub scan-low : n < 2 → scan text ≡ refused 2 1
+      scan-low g = scan-line ∙ rw (q, lt-ltb n 2 g)
+
+      pub scan-high : 2 ≤ n → 64 < n → scan text ≡ refused 2 1
+      scan-high f g = scan-line ∙ rw (q, le-ltb n 2 f, lt-ltb 64 n g)
+
+      pub scan-next : 2 ≤ n → n ≤ 64 → rest n ≡ scan text
+      scan-next f g = sym (scan-line ∙ rw (q, le-ltb n 2 f, le-ltb 64 n g))

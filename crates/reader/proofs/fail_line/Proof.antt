@@ -1,0 +1,49 @@
+-- `reader::fail_line` meets its contract: each way out follows what was read up to there.
+use mathlib.Core.Path.{sym, _∙_}
+use borrow.Author.Tests.{eq-eqb, ne-eqb}
+use Rattle.reader.specs.Line.{failOf}
+use native.Mathlib.Omega.{arith}
+use borrow.Author.Needs.{needs}
+use Rattle.reader.proofs.fail_line.Statement.{statement}
+use Rattle.reader.proofs.fail_line.Tie as tie
+
+returns : tie.Need-returns
+unfolding failOf
+returns c =
+    let number = c .before .before .number in
+    let enum-told = c .enum-told in
+    rw (sym (number .ensures) ∙ (enum-told .given .1))
+
+returns-2 : tie.Need-returns-2
+unfolding failOf
+returns-2 c =
+    let number = c .before .before .before .before .before .before .before .number in
+    let k = c .before .before .before .before .before .k in
+    let field = c .before .before .field in
+    let enum-told2 = c .enum-told2 in
+    rw (sym (number .ensures) ∙ (k .given .1), sym (field .ensures) ∙ (enum-told2 .given .1))
+
+returns-3 : tie.Need-returns-3
+unfolding failOf
+returns-3 c =
+    let number = c .before .before .before .before .before .before .before .before .before .number in
+    let k = c .before .before .before .before .before .before .before .k in
+    let field = c .before .before .before .before .field in
+    let m = c .before .before .m in
+    let if1 = c .if1 in
+    rw (sym (number .ensures) ∙ (k .given .1), sym (field .ensures) ∙ (m .given .1), eq-eqb _ _ (if1 .taken))
+
+returns-4 : tie.Need-returns-4
+unfolding failOf
+returns-4 c =
+    let number = c .before .before .before .before .before .before .before .before .before .number in
+    let k = c .before .before .before .before .before .before .before .k in
+    let field = c .before .before .before .before .field in
+    let m = c .before .before .m in
+    let if1 = c .if1 in
+    rw (sym (number .ensures) ∙ (k .given .1), sym (field .ensures) ∙ (m .given .1), ne-eqb _ _ (if1 .left))
+
+pub fail-line-spec : {M : Type 1} → statement M
+fail-line-spec =
+    tie.close
+    (tie.spec (λ c κs. search needs) (λ c. search needs) (λ c. search needs) returns (λ c. search needs) (λ c κs. search needs) (λ c. search needs) (λ c. search needs) returns-2 returns-3 returns-4)

@@ -1,0 +1,22 @@
+-- `reader::fault` meets its contract: 7 first, then what else is wrong with the event.
+use Prim.Native.Nat.{_<_, _≤_}
+use mathlib.Core.Path.{_≡_, _∙_}
+use Rattle.reader.proofs.Judging.{fault-1, fault-2}
+use native.Mathlib.Omega.{arith}
+use borrow.Author.Needs.{needs}
+use Rattle.reader.proofs.fault.Statement.{statement}
+use Rattle.reader.proofs.fault.Tie as tie
+
+returns : tie.Need-returns
+returns c =
+    let if1 = c .if1 in
+    λ es t l. fault-1 _ es _ (rw l at (if1 .taken))
+
+returns-2 : tie.Need-returns-2
+returns-2 c =
+    let fault = c .fault in
+    let if1 = c .before .if1 in
+    λ es t l. (fault .ensures) es t ∙ fault-2 _ es _ (rw l at (if1 .left))
+
+pub fault-spec : {M : Type 1} → statement M
+fault-spec = tie.close (tie.spec returns (λ c κs. search needs) returns-2)

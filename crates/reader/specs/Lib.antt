@@ -1,0 +1,5 @@
+pub mod Line
+pub mod Verdict
+pub mod Render
+pub mod Answer
+pub mod Reading

@@ -1,0 +1,317 @@
+// The reader of trace texts. `read` gives the verdict on a text, the refusal with its number and place or the trace, and leaves
+// the trace's words in the table area. The definitions are in specs/: Line (what a line says), Verdict (the verdict on a text),
+// Render (the text of a trace) and Answer (answer and area). proofs/Claims states that a text is accepted exactly if it is the
+// text of a well-formed trace. No public function has a `requires`. Assumes nothing.
+ghost use mathlib.Core.Path.{_≡_};
+ghost use mathlib.Core.List.{List, []};
+ghost use Prim.Native.Nat.{_≤_, _<_};
+ghost use lib.ListN.{length, drop, replicate};
+ghost use Rattle.reader.specs.Line.{lineOf, procsOf, sendOf, recvOf, saveOf, failOf};
+ghost use Rattle.reader.specs.Answer.{answerOf, ruleOf, readAnswer, readArea};
+ghost use Rattle.words.specs.Area.{areaWords, wordsFrom};
+ghost use Rattle.trace.specs.Trace.{Trace};
+ghost use Rattle.trace.specs.Tally.{Tally};
+ghost use Rattle.trace.specs.declared.Event.{Event};
+ghost use Rattle.reader.specs.Verdict.{faultHere, judgeEvent, judge, linesFrom, pieces, scan, verdict};
+ghost use Rattle.reader.specs.Reading.{Holds, appended, stopOf, Outcome};
+use text::LineEnd;
+use text::Num;
+use trace::Event;
+use words::AREA_WORDS;
+
+// What a line says: a process count, a send, a receive, a checkpoint or a failure, each with its numbers; or none of these.
+pub enum Line {
+    Procs(u64),
+    Send(u64, u64, u64),
+    Recv(u64, u64),
+    Save(u64),
+    Failure(u64, u64),
+    Malformed,
+}
+
+// A line where an event or a failure is due: a fit event, a failure, or the number of what is wrong.
+pub enum Judged {
+    Fit(trace::Event),
+    Fails(u64, u64),
+    Unfit(u32),
+}
+
+// Where reading the lines ends: a refusal's number and line; the line after the last; or a failure line, its step, its set, its
+// own line and the place after it.
+pub enum Scanned {
+    Refused(u32, usize),
+    Ended(usize),
+    Stopped(u64, u64, usize, usize),
+}
+
+// The answer of a reading: the number of the refusal, 0 if accepted, and the line that it is for, from 1.
+pub struct Answer {
+    pub number: u32,
+    pub place: usize,
+}
+
+const MOST: u64 = 4294967295;
+
+const MOST_SET: u64 = 18446744073709551615;
+
+fn procs_line(line: &[u8]) -> Line
+    ensures { λ r. ⌜ r ≡ procsOf (now (line .entry)) ⌝ }
+{
+    let Num::Value(n, p) = text::number(line, 6, MOST) else {
+        return Line::Malformed;
+    };
+    if p == line.len() {
+        Line::Procs(n)
+    } else {
+        Line::Malformed
+    }
+}
+
+fn send_line(line: &[u8]) -> Line
+    ensures { λ r. ⌜ r ≡ sendOf (now (line .entry)) ⌝ }
+{
+    let Num::Value(a, p) = text::number(line, 11, MOST) else {
+        return Line::Malformed;
+    };
+    let Num::Value(b, q) = text::field(line, p, b" to=", MOST) else {
+        return Line::Malformed;
+    };
+    let Num::Value(v, r) = text::field(line, q, b" val=", MOST) else {
+        return Line::Malformed;
+    };
+    if r == line.len() {
+        Line::Send(a, b, v)
+    } else {
+        Line::Malformed
+    }
+}
+
+fn recv_line(line: &[u8]) -> Line
+    ensures { λ r. ⌜ r ≡ recvOf (now (line .entry)) ⌝ }
+{
+    let Num::Value(a, p) = text::number(line, 11, MOST) else {
+        return Line::Malformed;
+    };
+    let Num::Value(b, q) = text::field(line, p, b" from=", MOST) else {
+        return Line::Malformed;
+    };
+    if q == line.len() {
+        Line::Recv(a, b)
+    } else {
+        Line::Malformed
+    }
+}
+
+fn save_line(line: &[u8]) -> Line
+    ensures { λ r. ⌜ r ≡ saveOf (now (line .entry)) ⌝ }
+{
+    let Num::Value(a, p) = text::number(line, 11, MOST) else {
+        return Line::Malformed;
+    };
+    if p == line.len() {
+        Line::Save(a)
+    } else {
+        Line::Malformed
+    }
+}
+
+fn fail_line(line: &[u8]) -> Line
+    ensures { λ r. ⌜ r ≡ failOf (now (line .entry)) ⌝ }
+{
+    let Num::Value(k, p) = text::number(line, 5, MOST) else {
+        return Line::Malformed;
+    };
+    let Num::Value(m, q) = text::field(line, p, b" set=", MOST_SET) else {
+        return Line::Malformed;
+    };
+    if q == line.len() {
+        Line::Failure(k, m)
+    } else {
+        Line::Malformed
+    }
+}
+
+// What a line says, by the key at its start.
+pub fn read_line(line: &[u8]) -> Line
+    ensures { λ r. ⌜ r ≡ lineOf (now (line .entry)) ⌝ }
+{
+    if text::key(line, 0, b"ev=send at=") {
+        return send_line(line);
+    }
+    if text::key(line, 0, b"ev=recv at=") {
+        return recv_line(line);
+    }
+    if text::key(line, 0, b"ev=save at=") {
+        return save_line(line);
+    }
+    if text::key(line, 0, b"procs=") {
+        return procs_line(line);
+    }
+    if text::key(line, 0, b"fail=") {
+        return fail_line(line);
+    }
+    Line::Malformed
+}
+
+// What is wrong with an event after n others.
+fn fault(counts: &[u32], procs: u64, n: usize, e: Event) -> u32
+    requires { ⌜ (procs ≤ 64) × (length (now counts) ≡ 4160) ⌝ }
+    ensures { λ r. ⌜ ((es : List Event) → Tally (now (counts .entry)) es → n ≡ length es → r ≡ faultHere (record { procs = procs; events = es }) e) ⌝ }
+{
+    if n >= 2048 {
+        return 7;
+    }
+    trace::fault(counts, procs, e)
+}
+
+fn judge_event(counts: &[u32], procs: u64, n: usize, e: Event) -> Judged
+    requires { ⌜ (procs ≤ 64) × (length (now counts) ≡ 4160) ⌝ }
+    ensures { λ r. ⌜ ((es : List Event) → Tally (now (counts .entry)) es → n ≡ length es → r ≡ judgeEvent (record { procs = procs; events = es }) e) ⌝ }
+{
+    let f = fault(counts, procs, n, e);
+    if f == 0 {
+        Judged::Fit(e)
+    } else {
+        Judged::Unfit(f)
+    }
+}
+
+// A line after the first, where n events stand before it.
+fn judge_line(counts: &[u32], procs: u64, n: usize, line: Line) -> Judged
+    requires { ⌜ (procs ≤ 64) × (length (now counts) ≡ 4160) ⌝ }
+    ensures { λ r. ⌜ ((es : List Event) → Tally (now (counts .entry)) es → n ≡ length es → r ≡ judge (record { procs = procs; events = es }) line) ⌝ }
+{
+    match line {
+        Line::Procs(_) => Judged::Unfit(1),
+        Line::Send(a, b, v) => judge_event(
+            counts,
+            procs,
+            n,
+            Event::Send {
+                at: a,
+                to: b,
+                val: v,
+            },
+        ),
+        Line::Recv(a, b) => judge_event(counts, procs, n, Event::Recv { at: a, from: b }),
+        Line::Save(a) => judge_event(counts, procs, n, Event::Save { at: a }),
+        Line::Failure(k, m) => Judged::Fails(k, m),
+        Line::Malformed => Judged::Unfit(1),
+    }
+}
+
+// Stores event n + 1 in the table.
+fn append(table: &mut [u32], n: usize, e: Event)
+    requires { ⌜ (n < 2048) × (length (now table) ≡ areaWords) ⌝ }
+    ensures { λ _. ⌜ now (table .exit) ≡ appended (now (table .entry)) n e ⌝ }
+{
+    table[1] = (n + 1) as u32;
+    table[trace::EVENT_BASE + (n + 1)] = trace::word(e);
+    table[trace::VALUE_BASE + (n + 1)] = trace::value(e);
+}
+
+fn stop(j: Judged, k: usize, next: usize) -> Scanned
+    ensures { λ r. ⌜ r ≡ stopOf j k next ⌝ }
+{
+    match j {
+        Judged::Fit(_) => Scanned::Refused(0, k),
+        Judged::Fails(step, set) => Scanned::Stopped(step, set, k, next),
+        Judged::Unfit(number) => Scanned::Refused(number, k),
+    }
+}
+
+// The lines from a place on, where the table holds a trace of no events and the counters are those of none.
+fn read_events(
+    text: &[u8],
+    from: usize,
+    procs: u64,
+    table: &mut [u32],
+    counts: &mut [u32],
+) -> Scanned
+    requires { ⌜ (procs ≤ 64) × (from ≤ length (now text)) × Holds (now table) (record { procs = procs; events = [] }) × Tally (now counts) [] ⌝ }
+    ensures { λ r. ⌜ Outcome (now (text .entry)) (linesFrom (record { procs = procs; events = [] }) 2 (pieces (drop from (now (text .entry))))) r (now (table .exit)) ⌝ }
+{
+    let mut at = from;
+    let mut n: usize = 0;
+    while at < text.len() {
+        let LineEnd::At(end) = text::line_end(text, at) else {
+            return Scanned::Refused(1, n + 2);
+        };
+        let j = judge_line(counts, procs, n, read_line(&text[at..end]));
+        let Judged::Fit(e) = j else {
+            return stop(j, n + 2, end + 1);
+        };
+        append(table, n, e);
+        trace::tally(counts, e);
+        n += 1;
+        at = end + 1;
+    }
+    Scanned::Ended(n + 2)
+}
+
+// The lines of a text, where the table has 16,384 words.
+fn scan_text(text: &[u8], table: &mut [u32]) -> Scanned
+    requires { ⌜ length (now table) ≡ areaWords ⌝ }
+    ensures { λ r. ⌜ Outcome (now (text .entry)) (scan (now (text .entry))) r (now (table .exit)) ⌝ }
+{
+    let LineEnd::At(end) = text::line_end(text, 0) else {
+        return Scanned::Refused(1, 1);
+    };
+    let first = read_line(&text[..end]);
+    let Line::Procs(n) = first else {
+        return Scanned::Refused(1, 1);
+    };
+    if n < 2 {
+        return Scanned::Refused(2, 1);
+    }
+    if n > 64 {
+        return Scanned::Refused(2, 1);
+    }
+    words::zero(table);
+    table[0] = n as u32;
+    let mut counts = [0u32; trace::COUNTS];
+    read_events(text, end + 1, n, table, &mut counts)
+}
+
+// A refusal leaves zeros.
+fn refuse(table: &mut [u32], number: u32, place: usize) -> Answer
+    ensures answer { λ r. ⌜ r ≡ (record { number = number; place = place }) ⌝ }
+    ensures words { λ _. ⌜ now (table .exit) ≡ replicate (length (now (table .entry))) 0 ⌝ }
+{
+    words::zero(table);
+    Answer {
+        number: number,
+        place: place,
+    }
+}
+
+// Reads a text into a table of 16,384 words.
+fn read_in(text: &[u8], table: &mut [u32]) -> Answer
+    requires { ⌜ length (now table) ≡ areaWords ⌝ }
+    ensures answer { λ r. ⌜ r ≡ answerOf (verdict (now (text .entry))) ⌝ }
+    ensures words { λ _. ⌜ now (table .exit) ≡ wordsFrom (ruleOf (verdict (now (text .entry)))) 0 areaWords ⌝ }
+{
+    let s = scan_text(text, table);
+    match s {
+        Scanned::Refused(number, place) => refuse(table, number, place),
+        Scanned::Ended(_) => Answer {
+            number: 0,
+            place: 0,
+        },
+        Scanned::Stopped(_, _, place, _) => refuse(table, 1, place),
+    }
+}
+
+// Reads a trace text into the table area: the answer, and the area's first 16,384 words, by the verdict on the text.
+pub fn read(text: &[u8], table: &mut [u32]) -> Answer
+    ensures answer { λ r. ⌜ r ≡ readAnswer (now (text .entry)) (now (table .entry)) ⌝ }
+    ensures words { λ _. ⌜ now (table .exit) ≡ readArea (now (text .entry)) (now (table .entry)) ⌝ }
+{
+    if table.len() < AREA_WORDS {
+        return Answer {
+            number: 12,
+            place: 0,
+        };
+    }
+    read_in(text, &mut table[..AREA_WORDS])
+}

@@ -1,0 +1,73 @@
+-- Laws of keys: one for each way a turn of the comparison goes; that a key which is found lies within the text.
+use Prim.Native.Nat.{ℕ, suc, zero, _+_, _<_, _≤_, zero-le, suc-le-suc}
+use mathlib.Core.Path.{_≡_, refl, sym, ap, _∙_}
+use mathlib.Core.List.{List, [], _∷_}
+use mathlib.Core.Bool.{Bool, true, false}
+use native.Mathlib.Omega.{arith}
+use native.Mathlib.Numerals.{add-one}
+use native.Mathlib.Nat.{add-suc}
+use lib.Dec.{eqb}
+use lib.ListN.{length, getD, drop, drop-of-length-le, length-drop, List·getD-eq-default}
+use lib.Seq.{drop-cons}
+use borrow.Author.Tests.{eq-eqb, ne-eqb}
+use Rattle.words.proofs.Cases.{by-lt, and-right, clash}
+use Rattle.text.specs.declared.Num.{Num}
+use Rattle.text.specs.declared.Num.the-variants.{Value, Refused}
+use Rattle.text.specs.Number.{numberAt}
+use Rattle.text.specs.Key.{keyAt, startsWith, whenKey, fieldAt}
+use Rattle.text.proofs.Numbers.{number-within}
+
+-- past the end of the text only the empty key stands
+pub key-past : (text : List ℕ) (at : ℕ) (key : List ℕ) → length text < at → eqb (length key) 0 ≡ startsWith (drop at text) key
+unfolding startsWith
+key-past text at [] h = refl
+key-past text at (k ∷ key) h = rw (drop-of-length-le text {i = at} (omega arith), ne-eqb (suc (length key)) 0 (λ e. omega arith))
+
+-- a turn of the key's loop, over the byte b that the code has
+module _ (text : List ℕ) (at i : ℕ) (key : List ℕ) where
+  pub key-end : length key ≤ i → startsWith (drop (at + i) text) (drop i key) ≡ true
+  unfolding startsWith
+  key-end h = rw (drop-of-length-le key {i = i} h)
+
+  pub key-differs : (b : ℕ) → i < length key → getD key i 0 < 256 → b ≡ getD text (at + i) 256 → (b ≡ getD key i 0 → ⊥) → startsWith (drop (at + i) text) (drop i key) ≡ false
+  unfolding startsWith
+  key-differs b h k eb n =
+      by-lt (at + i) (length text)
+      (λ l. rw (drop-cons key i 0 h, drop-cons text (at + i) 256 l, ← eb, ne-eqb b (getD key i 0) n))
+      (λ g. rw (drop-cons key i 0 h, drop-of-length-le text {i = at + i} g))
+
+  pub key-next : (b : ℕ) → i < length key → getD key i 0 < 256 → b ≡ getD text (at + i) 256 → b ≡ getD key i 0
+      → startsWith (drop (at + i) text) (drop i key) ≡ startsWith (drop (at + (i + 1)) text) (drop (i + 1) key)
+  unfolding startsWith
+  key-next b h k eb e =
+      by-lt (at + i) (length text)
+      (λ l. rw (drop-cons key i 0 h, drop-cons text (at + i) 256 l, ← eb, eq-eqb b (getD key i 0) e, add-one i, add-suc))
+      (λ g. absurd (let z : ⊥ = omega (arith, List·getD-eq-default text 256 {n = at + i} g) in z))
+
+pub starts-within : (text key : List ℕ) → startsWith text key ≡ true → length key ≤ length text
+unfolding startsWith
+starts-within text [] e = zero-le
+starts-within [] (k ∷ key) e = absurd (let s : _≡_ {A = ℕ} 0 1 = cc in let z : ⊥ = omega arith in z)
+starts-within (t ∷ text) (k ∷ key) e = suc-le-suc (starts-within text key (and-right (eqb t k) _ e))
+
+pub key-within : (text : List ℕ) (at : ℕ) (key : List ℕ) → keyAt text at key ≡ true → at ≤ length text → at + length key ≤ length text
+key-within text at key e h = omega (arith, starts-within (drop at text) key e, length-drop at text)
+
+when-within : (text : List ℕ) (at v p : ℕ) (key : List ℕ) (bound : ℕ) → at ≤ length text → (b : Bool) → keyAt text at key ≡ b
+    → whenKey b (numberAt text (at + length key) bound) ≡ Value v p → p ≤ length text
+when-within text at v p key bound h true e q = number-within text (at + length key) bound v p q (key-within text at key e h)
+when-within text at v p key bound h false e q = let s : _≡_ {A = ℕ} 0 1 = cc in omega arith
+
+pub field-within : (text : List ℕ) (at : ℕ) (key : List ℕ) (bound v p : ℕ) → at ≤ length text → fieldAt text at key bound ≡ Value v p → p ≤ length text
+unfolding fieldAt
+field-within text at key bound v p h e = when-within text at v p key bound h (keyAt text at key) refl e
+
+-- each way out of `field`
+module _ (text : List ℕ) (at : ℕ) (key : List ℕ) (bound : ℕ) (b : Bool) (e : b ≡ keyAt text at key) where
+  pub field-1 : b ≡ true → numberAt text (at + length key) bound ≡ fieldAt text at key bound
+  unfolding fieldAt
+  field-1 t = rw (← e, t)
+
+  pub field-2 : b ≡ false → Refused ≡ fieldAt text at key bound
+  unfolding fieldAt
+  field-2 t = rw (← e, t)

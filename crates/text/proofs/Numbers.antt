@@ -1,0 +1,112 @@
+-- Laws of the number definitions: one for each way a turn of the loop goes, over the values that the code has; that a number
+-- which is read lies within the text and within its bound.
+use Prim.Native.Nat.{ℕ, suc, zero, _+_, _-_, _*_, _/_, _<_, _≤_}
+use mathlib.Core.Path.{_≡_, refl, sym, ap, _∙_}
+use mathlib.Core.List.{List, [], _∷_}
+use mathlib.Core.Bool.{Bool, true, false, not}
+use native.Mathlib.Omega.{arith}
+use native.Mathlib.Numerals.{add-one}
+use lib.Dec.{leb, eqb}
+use lib.ListN.{length, getD, drop, drop-of-length-le, length-drop, List·getD-eq-default}
+use lib.Seq.{drop-cons}
+use borrow.Author.Tests.{not-true, not-false, leb-true, le-leb, lt-leb, eq-eqb, ne-eqb}
+use Rattle.words.proofs.Cases.{by-lt, and-left, and-right}
+use Rattle.text.specs.declared.Num.{Num}
+use Rattle.text.specs.declared.Num.the-variants.{Value, Refused}
+use Rattle.text.specs.declared.Pushed.{Pushed}
+use Rattle.text.specs.declared.Pushed.the-variants.{Fits, Over}
+use Rattle.text.specs.Number.{isDigit, pushed, digitStep, digitsFrom, numberStep, numberAt}
+
+pub digit-low : (b : ℕ) → isDigit b ≡ true → 48 ≤ b
+unfolding isDigit
+digit-low b h = leb-true 48 b (and-left (leb 48 b) (leb b 57) h)
+
+pub digit-high : (b : ℕ) → isDigit b ≡ true → b ≤ 57
+unfolding isDigit
+digit-high b h = leb-true b 57 (and-right (leb 48 b) (leb b 57) h)
+
+pub pushed-fits : (v b bound : ℕ) → v * 10 + (b - 48) ≤ bound → pushed v b bound ≡ Fits (v * 10 + (b - 48))
+unfolding pushed
+pushed-fits v b bound h = rw (le-leb (v * 10 + (b - 48)) bound h)
+
+pub pushed-over : (v b bound : ℕ) → bound < v * 10 + (b - 48) → pushed v b bound ≡ Over
+unfolding pushed
+pushed-over v b bound h = rw (lt-leb (v * 10 + (b - 48)) bound h)
+
+-- a turn of the digits' loop, over the values that the code has: the byte b, its test d
+module _ (bound v at : ℕ) (text : List ℕ) where
+  pub digits-end : length text ≤ at → digitsFrom bound v at (drop at text) ≡ Value v at
+  unfolding digitsFrom
+  digits-end h = rw (drop-of-length-le text {i = at} h)
+
+  module _ (b : ℕ) (d : Bool) (h : at < length text) (eb : b ≡ getD text at 256) (ed : d ≡ isDigit b) where
+    pub digits-stop : not d ≡ true → digitsFrom bound v at (drop at text) ≡ Value v at
+    unfolding digitsFrom
+    digits-stop n = rw (drop-cons text at 256 h, ← eb, ← ed, not-true d n)
+
+    pub digits-over : not d ≡ false → (p : Pushed) → p ≡ pushed v b bound → p ≡ Over → digitsFrom bound v at (drop at text) ≡ Refused
+    unfolding digitsFrom
+    digits-over n p q e = rw (drop-cons text at 256 h, ← eb, ← ed, not-false d n, ← q, e)
+
+    pub digits-next : not d ≡ false → (p : Pushed) → p ≡ pushed v b bound → (w : ℕ) → p ≡ Fits w
+        → digitsFrom bound v at (drop at text) ≡ digitsFrom bound w (at + 1) (drop (at + 1) text)
+    unfolding digitsFrom
+    digits-next n p q w e = rw (drop-cons text at 256 h, ← eb, ← ed, not-false d n, ← q, e, add-one at)
+
+-- each way out of `number`, over the values that the code has
+module _ (text : List ℕ) (at bound b : ℕ) (d : Bool) (eb : b ≡ getD text at 256) (ed : d ≡ isDigit b) where
+  pub number-1 : not d ≡ true → Refused ≡ numberAt text at bound
+  unfolding numberAt
+  number-1 n = rw (← eb, ← ed, not-true d n)
+
+  pub number-2 : not d ≡ false → (b ≡ 48 → ⊥) → digitsFrom bound 0 at (drop at text) ≡ numberAt text at bound
+  unfolding numberAt
+  number-2 n z = rw (← eb, ← ed, not-false d n, ne-eqb b 48 z)
+
+module _ (text : List ℕ) (at bound b : ℕ) (d : Bool) (f : ℕ) (e : Bool) (eb : b ≡ getD text at 256) (ed : d ≡ isDigit b) (n : not d ≡ false) (z : b ≡ 48)
+    (ef : f ≡ getD text (at + 1) 256) (ee : e ≡ isDigit f) where
+  pub number-3 : e ≡ true → Refused ≡ numberAt text at bound
+  unfolding numberAt
+  number-3 t = rw (← eb, ← ed, not-false d n, eq-eqb b 48 z, ← ef, ← ee, t)
+
+  pub number-4 : e ≡ false → Value 0 (at + 1) ≡ numberAt text at bound
+  unfolding numberAt
+  number-4 t = rw (← eb, ← ed, not-false d n, eq-eqb b 48 z, ← ef, ← ee, t)
+
+-- what is read stands within the text
+step-within : (at n v w p : ℕ) (next : ℕ → Num) → ((u : ℕ) → next u ≡ Value w p → p ≤ at + suc n)
+    → (d : Bool) (q : Pushed) → digitStep d q (Value v at) next ≡ Value w p → p ≤ at + suc n
+step-within at n v w p next h false q e = let s : at ≡ p = cc in omega arith
+step-within at n v w p next h true (Fits u) e = h u e
+step-within at n v w p next h true Over e = let s : _≡_ {A = ℕ} 0 1 = cc in omega arith
+
+pub digits-within : (bound v at : ℕ) (l : List ℕ) (w p : ℕ) → digitsFrom bound v at l ≡ Value w p → p ≤ at + length l
+unfolding digitsFrom
+digits-within bound v at [] w p e = let s : at ≡ p = cc in omega arith
+digits-within bound v at (b ∷ l) w p e =
+    step-within at (length l) v w p (λ u. digitsFrom bound u (at + 1) l)
+    (λ u h. omega (arith, digits-within bound u (at + 1) l w p h))
+    (isDigit b) (pushed v b bound) e
+
+number-step-within : (text : List ℕ) (at w p : ℕ) (z d e : Bool) (n : Num) → (n ≡ Value w p → p ≤ length text) → (z ≡ true → at < length text)
+    → numberStep z d e at n ≡ Value w p → p ≤ length text
+number-step-within text at w p false d e n h l q = let s : _≡_ {A = ℕ} 0 1 = cc in omega arith
+number-step-within text at w p true false e n h l q = h q
+number-step-within text at w p true true true n h l q = let s : _≡_ {A = ℕ} 0 1 = cc in omega arith
+number-step-within text at w p true true false n h l q = let s : at + 1 ≡ p = cc in omega (arith, l refl)
+
+digit-within : (text : List ℕ) (at : ℕ) → isDigit (getD text at 256) ≡ true → at < length text
+digit-within text at h =
+    by-lt at (length text) (λ q. q)
+    (λ g. absurd (let z : ⊥ = omega (arith, digit-high (getD text at 256) h, List·getD-eq-default text 256 {n = at} g) in z))
+
+-- the same over the values that the code has
+pub digit-here : (text : List ℕ) (at b : ℕ) (d : Bool) → b ≡ getD text at 256 → d ≡ isDigit b → not d ≡ false → at < length text
+digit-here text at b d eb ed n = digit-within text at (sym (ed ∙ ap isDigit eb) ∙ not-false d n)
+
+pub number-within : (text : List ℕ) (at bound w p : ℕ) → numberAt text at bound ≡ Value w p → at ≤ length text → p ≤ length text
+unfolding numberAt
+number-within text at bound w p e l =
+    number-step-within text at w p (isDigit (getD text at 256)) (eqb (getD text at 256) 48) (isDigit (getD text (at + 1) 256)) (digitsFrom bound 0 at (drop at text))
+    (λ h. omega (arith, digits-within bound 0 at (drop at text) w p h, length-drop at text))
+    (digit-within text at) e

@@ -1,0 +1,19 @@
+// Lent areas of words: what an area holds is said by a rule for its first words, and later words stay as they were.
+// The definitions are in specs/Area; laws on them, and on cases and lists, in proofs/. No public function has a `requires`.
+// Assumes nothing.
+ghost use mathlib.Core.Path.{_≡_};
+ghost use lib.ListN.{length, replicate};
+
+// How many words of a lent area are used: an area with fewer is refused, and words past these are never touched.
+pub const AREA_WORDS: usize = 16384;
+
+// Makes every word of the area 0.
+pub fn zero(area: &mut [u32])
+    ensures { λ _. ⌜ now (area .exit) ≡ replicate (length (now (area .entry))) 0 ⌝ }
+{
+    let mut i = 0;
+    while i < area.len() {
+        area[i] = 0;
+        i += 1;
+    }
+}
