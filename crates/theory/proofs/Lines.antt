@@ -2,22 +2,34 @@
 -- For any rule and any set of usable checkpoints. From the laws of Epochs and the counting form of Classes.
 use mathlib.Core.Path.{_≡_, refl, sym, _∙_, ap, subst}
 use mathlib.Core.Logic.{_⊎_, inl, inr, _≢_}
-use mathlib.Core.Bool.{Bool, true, false}
+use mathlib.Core.Bool.{Bool, true, false, not}
 use Prim.Native.Nat.{ℕ, suc, _-_, _≤_, _<_}
 use native.Mathlib.Omega.{arith}
 use lib.Dec.{leb, eqb}
-use borrow.Author.Tests.{leb-true, ltb-false, le-leb, eq-eqb, ne-eqb}
+use borrow.Author.Tests.{leb-true, ltb-false, eqb-true, le-leb, eq-eqb, ne-eqb}
 use Rattle.trace.specs.Trace.{Trace}
 use Rattle.theory.specs.Lists.{cnt, place, lastOf}
 use Rattle.theory.specs.Events.{size, sends, recvs, saves, sent, rcvd}
 use Rattle.theory.specs.Epochs.{Rule, past, epochAt, epochOf, loggedBy}
-use Rattle.theory.specs.Line.{lost, LossFree, restartIn, recorded, current, reached, Usable, Permitted}
+use Rattle.theory.specs.Line.{may, lost, LossFree, restartIn, recorded, current, reached, Usable, Permitted}
 use Rattle.theory.specs.Laws.{Laws}
-use Rattle.theory.proofs.Base.{on, clash, le?, both, cnt-le, cnt-lt, cnt-bound, place-zero, place-cnt, place-mono, lastOf-le, lastOf-top}
+use Rattle.theory.proofs.Base.{by, on, clash, le?, both, cnt-le, cnt-lt, cnt-bound, place-zero, place-cnt, place-mono, lastOf-le, lastOf-top}
 use Rattle.theory.proofs.Events.{sends-is, send-no-save, recv-no-save, sent-le, rcvd-le, rcvd-lt, send-of, recv-of}
 use Rattle.theory.proofs.WellFormed.{Valid}
 use Rattle.theory.proofs.Classes.{lost-is, is-lost}
 use Rattle.theory.proofs.Epochs.{restart-cut, epoch-is, epochOf-at, logged-is, laws}
+
+module _ (usable : ℕ → ℕ → Bool) (failed : ℕ → Bool) (z n : ℕ) where
+  pub may-is : may usable failed z n ≡ true → (usable z n ≡ true) ⊎ ((n ≡ 32) × (failed z ≡ false))
+  may-is h = by (usable z n) (λ u. inl u)
+      (λ u. let b = both (eqb n 32) (not (failed z)) (rw u at h) in
+      inr (eqb-true n 32 (b .0), by (failed z) (λ v. clash {b = false} (rw v at (b .1)) refl) (λ v. v)))
+
+  pub may-restart : usable z n ≡ true → may usable failed z n ≡ true
+  may-restart h = rw h
+
+  pub may-stay : n ≡ 32 → failed z ≡ false → may usable failed z n ≡ true
+  may-stay h k = let e : eqb n 32 ≡ true = eq-eqb n 32 h in by (usable z n) (λ u. rw u) (λ u. rw (u, e, k))
 
 module _ (t : Trace) (rule : Rule) (cut : ℕ) where
   -- a number that a line may hold for a process: 32, or an epoch that it has reached
@@ -171,7 +183,7 @@ module _ (t : Trace) (rule : Rule) (A : Valid t) (cut : ℕ) (cl : cut ≤ size 
 
   module _ (usable : ℕ → ℕ → Bool) (U : Usable t rule cut usable) (failed : ℕ → Bool) where
     pub number-of : (l : ℕ → ℕ) → Permitted t rule cut usable failed l → (z : ℕ) → z < t .procs → Number t rule cut z (l z)
-    number-of l b z h = on (b z h) (λ u. inr (U .within z (l z) u)) (λ u. inl (u .0))
+    number-of l b z h = on (may-is usable failed z (l z) (b z h)) (λ u. inr (U .within z (l z) u)) (λ u. inl (u .0))
 
     -- The step of lowering. A message lost under line m: a line without loss that is not above m has its sender at most in the last
     -- usable epoch that is not above the epoch of the send; and that is below m.
@@ -198,7 +210,7 @@ module _ (t : Trace) (rule : Rule) (A : Valid t) (cut : ℕ) (cl : cut ≤ size 
           let qz = (lost-in m p q k h) .1 in
           let low : l p ≤ E p (x .d) = on (le? (l p) (E p (x .d))) (λ a. a)
           (λ a. clash (epochs-lost l p q k (number-of l c p pz) (number-of l c q qz) (same l a (omega (arith, o q qz, x .above)))) (f p q k)) in
-          on (c p pz)
+          on (may-is usable failed p (l p) (c p pz))
           (λ u. (lastOf-top (usable p) (epochOf t rule p q k) (l p) u ((U .within p (l p) u) .0) (omega (arith, e-is))) .0)
           (λ u. absurd (omega (arith, u .0, epoch-le p (x .d) (x .d-cut), now-few p)))
         where
