@@ -36,7 +36,7 @@ use Rattle.theory.proofs.Answers.{orphans-name, kept-name, lost-name, l
 
 -- Demand 3. "Take any accepted trace, any step for the failure, any set of zones it takes together, any line that puts each failed zone at a save it
 -- has made, and any order of choices from there, each allowed where it comes, that ends only when no choice is allowed. The delivery record the
--- replay leaves equals that of the run without failure exactly when the line loses no message."
+-- replay leaves equals that of the run without failure exactly when the line loses no message." An order is a list of choice numbers.
 pub demand-3 : (t : Trace) → wellFormed t ≡ true → (cut : ℕ) → cut ≤ size t → (failed : ℕ → Bool) (line : ℕ → ℕ)
     → Permitted t past cut (reached t past cut) failed line → (order : List ℕ) (s : State) → run (recorded t past cut line) order ≡ carriedOut s
     → Complete (recorded t past cut line) s → SameRecord (recorded t past cut line) s ↔ LossFree (recorded t past cut line)
@@ -81,7 +81,7 @@ module _ (t : Trace) (w : wellFormed t ≡ true) (rule : Rule) where
       abbrev R : Run
       R = recorded t rule cut line
 
-      -- the laws, from which all that follows is proved
+      -- the laws: from them alone all that is claimed here of classes and of replay is proved
       pub the-laws : Laws R
       the-laws = laws t rule A cut line cl
 
