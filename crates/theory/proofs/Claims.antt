@@ -14,7 +14,7 @@ use borrow.Author.Tests.{le-leb, lt-ltb}
 use Rattle.trace.specs.Trace.{Trace}
 use Rattle.trace.specs.Fit.{wellFormed}
 use Rattle.theory.specs.Lists.{cnt, lastOf}
-use Rattle.theory.specs.Events.{size, sends, recvs, saves, sent, rcvd}
+use Rattle.theory.specs.Events.{size, sends, recvs, checkpoints, sent, rcvd}
 use Rattle.theory.specs.Epochs.{Rule, past, joined, epochAt, phaseAt, epochOf, phaseOf, loggedBy}
 use Rattle.theory.specs.Line.{Run, undone, lost, orphan, kept, orphanPhase, LossFree, restartIn, recorded, current, reached, Usable, Permitted, Greatest, Above, lower, highest, greatestLine}
 use Rattle.theory.specs.Replay.{State, sentAgain, ready, delivered, faultless, SameRecord}
@@ -54,7 +54,7 @@ module _ (t : Trace) (w : wellFormed t ≡ true) (rule : Rule) where
   -- ---- Epochs, phases, kept messages
 
   -- "A zone begins with epoch 1 .. A save raises both by one": the epoch is one more than the checkpoints made
-  pub epoch-counts : (z x : ℕ) → epochAt t rule z x ≡ suc (cnt (saves t z) x)
+  pub epoch-counts : (z x : ℕ) → epochAt t rule z x ≡ suc (cnt (checkpoints t z) x)
   epoch-counts z x = epoch-is t rule x z
 
   -- "A message carries its sender's epoch and phase at the send." (A send changes neither.)
@@ -88,7 +88,7 @@ module _ (t : Trace) (w : wellFormed t ≡ true) (rule : Rule) where
       -- "A restart in an epoch is right after the save that raised the zone to it, in epoch 1 at the zone's start."; "or 32, which means the zone
       -- stays as it was at the cut"
       pub restart-back : (z : ℕ) → 1 ≤ line z → line z ≤ current t rule cut z
-          → (epochAt t rule z (restartIn t cut line z) ≡ line z) × ((restartIn t cut line z ≡ 0) ⊎ (saves t z (restartIn t cut line z) ≡ true))
+          → (epochAt t rule z (restartIn t cut line z) ≡ line z) × ((restartIn t cut line z ≡ 0) ⊎ (checkpoints t z (restartIn t cut line z) ≡ true))
       restart-back = restart-epoch t rule A cut cl line
 
       pub restart-stays : (z : ℕ) → line z ≡ 32 → restartIn t cut line z ≡ cut

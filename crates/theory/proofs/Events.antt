@@ -9,7 +9,7 @@ use borrow.Author.Tests.{eqb-true}
 use Rattle.trace.specs.declared.Event.{Event}
 use Rattle.trace.specs.declared.Event.the-variants.{Send, Recv, Save}
 use Rattle.trace.specs.Trace.{Trace, isSend, isRecv, isSave}
-use Rattle.theory.specs.Events.{Kind, send, recv, other, kindOf, processOf, size, eventAt, at, kind, sends, recvs, saves, sent, rcvd, sendOf, recvOf}
+use Rattle.theory.specs.Events.{Kind, send, recv, other, kindOf, processOf, size, eventAt, at, kind, sends, recvs, checkpoints, sent, rcvd, sendOf, recvOf}
 use Rattle.theory.proofs.Base.{by, clash, both, eqb-self, cnt-le, cnt-lt, cnt-find, place-at}
 
 -- ---- The kinds of events
@@ -35,10 +35,10 @@ recv-split p q (Send a b v) = by (eqb q a) (λ t. rw t) (λ t. rw t)
 recv-split p q (Recv a b) = by (eqb q a) (λ t. by (eqb p b) (λ u. rw (t, u)) (λ u. rw (t, u))) (λ t. by (eqb p b) (λ u. rw (t, u)) (λ u. rw (t, u)))
 recv-split p q (Save a) = by (eqb q a) (λ t. rw t) (λ t. rw t)
 
-save-split : (z : ℕ) (e : Event) → isSave z e ≡ true → (processOf e ≡ z) × (kindOf e ≡ other)
-save-split z (Send a b v) h = clash {b = false} h refl
-save-split z (Recv a b) h = clash {b = false} h refl
-save-split z (Save a) h = (sym (eqb-true z a h), refl)
+checkpoint-split : (z : ℕ) (e : Event) → isSave z e ≡ true → (processOf e ≡ z) × (kindOf e ≡ other)
+checkpoint-split z (Send a b v) h = clash {b = false} h refl
+checkpoint-split z (Recv a b) h = clash {b = false} h refl
+checkpoint-split z (Save a) h = (sym (eqb-true z a h), refl)
 
 sendTo-is : (q : ℕ) (k : Kind) → sendTo q k ≡ true → k ≡ send q
 sendTo-is q (send r) h = ap send (sym (eqb-true q r h))
@@ -69,9 +69,9 @@ module _ (t : Trace) where
       let b = both (eqb q (at t e)) (recvFrom p (kind t e)) (sym (recvs-split p q e) ∙ h) in
       (sym (eqb-true q (at t e) (b .0)), recvFrom-is p (kind t e) (b .1))
 
-  pub saves-is : (z e : ℕ) → saves t z e ≡ true → (at t e ≡ z) × (kind t e ≡ other)
-  unfolding saves at kind
-  saves-is z e h = save-split z (eventAt t e) h
+  pub checkpoints-is : (z e : ℕ) → checkpoints t z e ≡ true → (at t e ≡ z) × (kind t e ≡ other)
+  unfolding checkpoints at kind
+  checkpoints-is z e h = checkpoint-split z (eventAt t e) h
 
   pub sends-of : (p q e : ℕ) → at t e ≡ p → kind t e ≡ send q → sends t p q e ≡ true
   sends-of p q e a k = sends-split p q e ∙ rw (a, k, eqb-self p, eqb-self q)
@@ -86,25 +86,25 @@ module _ (t : Trace) where
       let c : kind t d ≡ kind t e = ap (kind t) i in
       let z : _≡_ {A = ℕ} 0 1 = cc in omega arith
 
-  pub send-not-save : (p q z d e : ℕ) → sends t p q d ≡ true → saves t z e ≡ true → d ≢ e
-  send-not-save p q z d e a b i =
+  pub send-not-checkpoint : (p q z d e : ℕ) → sends t p q d ≡ true → checkpoints t z e ≡ true → d ≢ e
+  send-not-checkpoint p q z d e a b i =
       let x = (sends-is p q d a) .1 in
-      let y = (saves-is z e b) .1 in
+      let y = (checkpoints-is z e b) .1 in
       let c : kind t d ≡ kind t e = ap (kind t) i in
       let z : _≡_ {A = ℕ} 0 1 = cc in omega arith
 
-  pub recv-not-save : (p q z d e : ℕ) → recvs t p q d ≡ true → saves t z e ≡ true → d ≢ e
-  recv-not-save p q z d e a b i =
+  pub recv-not-checkpoint : (p q z d e : ℕ) → recvs t p q d ≡ true → checkpoints t z e ≡ true → d ≢ e
+  recv-not-checkpoint p q z d e a b i =
       let x = (recvs-is p q d a) .1 in
-      let y = (saves-is z e b) .1 in
+      let y = (checkpoints-is z e b) .1 in
       let c : kind t d ≡ kind t e = ap (kind t) i in
       let z : _≡_ {A = ℕ} 0 1 = cc in omega arith
 
-  pub send-no-save : (p q d : ℕ) → sends t p q d ≡ true → saves t p d ≡ false
-  send-no-save p q d h = by (saves t p d) (λ u. absurd (send-not-save p q p d d h u refl)) (λ u. u)
+  pub send-no-checkpoint : (p q d : ℕ) → sends t p q d ≡ true → checkpoints t p d ≡ false
+  send-no-checkpoint p q d h = by (checkpoints t p d) (λ u. absurd (send-not-checkpoint p q p d d h u refl)) (λ u. u)
 
-  pub recv-no-save : (p q e : ℕ) → recvs t p q e ≡ true → saves t q e ≡ false
-  recv-no-save p q e h = by (saves t q e) (λ u. absurd (recv-not-save p q q e e h u refl)) (λ u. u)
+  pub recv-no-checkpoint : (p q e : ℕ) → recvs t p q e ≡ true → checkpoints t q e ≡ false
+  recv-no-checkpoint p q e h = by (checkpoints t q e) (λ u. absurd (recv-not-checkpoint p q q e e h u refl)) (λ u. u)
 
   -- ---- Messages by number
 

@@ -14,7 +14,7 @@ use Rattle.trace.specs.Trace.{Trace, isSend, isRecv, isSave, oneIf, count}
 use Rattle.trace.specs.Fit.{faultOf, valueFits, allFit, wellFormed}
 use Rattle.trace.proofs.Faults.{send-fit, recv-fit, save-fit}
 use Rattle.theory.specs.Lists.{pick, cnt}
-use Rattle.theory.specs.Events.{send, kindOf, processOf, size, eventAt, at, kind, sends, recvs, saves, sent, rcvd}
+use Rattle.theory.specs.Events.{send, kindOf, processOf, size, eventAt, at, kind, sends, recvs, checkpoints, sent, rcvd}
 use Rattle.theory.proofs.Base.{by, clash, both, same2, cnt-suc, cnt-skip}
 use Rattle.theory.proofs.Events.{sent-le}
 
@@ -24,7 +24,7 @@ pub record Valid (t : Trace) : Type 0 where
   pub process-lt : (e : ℕ) → 0 < e → e ≤ size t → at t e < t .procs
   pub peer-lt : (e q : ℕ) → 0 < e → e ≤ size t → kind t e ≡ send q → q < t .procs
   pub causal : (p q x : ℕ) → x ≤ size t → rcvd t p q x ≤ sent t p q x
-  pub saves-few : (z x : ℕ) → x ≤ size t → cnt (saves t z) x ≤ 30
+  pub checkpoints-few : (z x : ℕ) → x ≤ size t → cnt (checkpoints t z) x ≤ 30
 
 fit-at : (n : ℕ) (d : Event) (before es : List Event) → allFit n before es ≡ true → (i : ℕ) → i < length es
     → faultOf n (before ++ take i es) (getD es i d) ≡ 0
@@ -63,10 +63,10 @@ fit-transit n b (Send z r v) p q h k = clash {b = false} k refl
 fit-transit n b (Recv z r) p q h k = let c = same2 p r q z k in rw (c .0, c .1) ((recv-fit n b z r h) .3)
 fit-transit n b (Save z) p q h k = clash {b = false} k refl
 
-fit-save : (n : ℕ) (b : List Event) (e : Event) (z : ℕ) → faultOf n b e ≡ 0 → isSave z e ≡ true → count (isSave z) b < 30
-fit-save n b (Send y r v) z h k = clash {b = false} k refl
-fit-save n b (Recv y r) z h k = clash {b = false} k refl
-fit-save n b (Save y) z h k = let i : z ≡ y = eqb-true z y k in rw i ((save-fit n b y h) .1)
+fit-checkpoint : (n : ℕ) (b : List Event) (e : Event) (z : ℕ) → faultOf n b e ≡ 0 → isSave z e ≡ true → count (isSave z) b < 30
+fit-checkpoint n b (Send y r v) z h k = clash {b = false} k refl
+fit-checkpoint n b (Recv y r) z h k = clash {b = false} k refl
+fit-checkpoint n b (Save y) z h k = let i : z ≡ y = eqb-true z y k in rw i ((save-fit n b y h) .1)
 
 module _ (t : Trace) where
   -- counting the first x events of the list is counting event numbers 1 .. x
@@ -107,10 +107,10 @@ module _ (t : Trace) where
         skip : (p q x : ℕ) → recvs t p q (suc x) ≡ false → rcvd t p q (suc x) ≡ rcvd t p q x
         skip p q x r = unfold rcvd in cnt-skip (recvs t p q) x r
 
-    save-room : (z x : ℕ) → x < size t → saves t z (suc x) ≡ true → cnt (saves t z) x < 30
-    unfolding saves
-    save-room z x h r =
-        let a = fit-save (t .procs) (take x (t .events)) (eventAt t (suc x)) z (fault x h) r in
+    checkpoint-room : (z x : ℕ) → x < size t → checkpoints t z (suc x) ≡ true → cnt (checkpoints t z) x < 30
+    unfolding checkpoints
+    checkpoint-room z x h r =
+        let a = fit-checkpoint (t .procs) (take x (t .events)) (eventAt t (suc x)) z (fault x h) r in
         omega (arith, count-cnt (isSave z) x (omega arith))
 
     pub valid : Valid t
@@ -119,7 +119,7 @@ module _ (t : Trace) where
       process-lt = λ e a b. in-range e a b;
       peer-lt = λ e q a b k. peer e q a b k;
       causal = valid-causal;
-      saves-few = few-saves;
+      checkpoints-few = few-checkpoints;
     }
       where
         in-range : (e : ℕ) → 0 < e → e ≤ size t → at t e < t .procs
@@ -130,8 +130,8 @@ module _ (t : Trace) where
         peer zero q a b k = absurd (omega arith)
         peer (suc x) q a b k = fit-peer (t .procs) (take x (t .events)) (eventAt t (suc x)) q (fault x b) (unfold kind in k)
 
-        few-saves : (z x : ℕ) → x ≤ size t → cnt (saves t z) x ≤ 30
-        few-saves z zero h = unfold cnt in omega arith
-        few-saves z (suc x) h = by (saves t z (suc x))
-            (λ r. omega (arith, cnt-suc (saves t z) x r, save-room z x h r))
-            (λ r. omega (arith, cnt-skip (saves t z) x r, few-saves z x (omega arith)))
+        few-checkpoints : (z x : ℕ) → x ≤ size t → cnt (checkpoints t z) x ≤ 30
+        few-checkpoints z zero h = unfold cnt in omega arith
+        few-checkpoints z (suc x) h = by (checkpoints t z (suc x))
+            (λ r. omega (arith, cnt-suc (checkpoints t z) x r, checkpoint-room z x h r))
+            (λ r. omega (arith, cnt-skip (checkpoints t z) x r, few-checkpoints z x (omega arith)))

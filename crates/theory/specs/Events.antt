@@ -47,8 +47,8 @@ module _ (t : Trace) where
   unfoldable pub recvs : ℕ → ℕ → ℕ → Bool
   recvs p q e = isRecv p q (eventAt e)
 
-  unfoldable pub saves : ℕ → ℕ → Bool
-  saves z e = isSave z (eventAt e)
+  unfoldable pub checkpoints : ℕ → ℕ → Bool
+  checkpoints z e = isSave z (eventAt e)
 
   -- "A message is named by sender, receiver and its number on that channel, from 1." How many are sent, how many received on the
   -- channel up to event x: a send e has number `sent p q e`. "A takes the oldest message in transit": a receive e takes number `rcvd p q e`.

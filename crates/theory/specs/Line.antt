@@ -6,7 +6,7 @@ use Prim.Native.Nat.{ℕ, zero, suc, _-_, _*_, _/_, _%_, _^_, _≤_, _<_}
 use lib.Dec.{leb, ltb, eqb}
 use Rattle.trace.specs.Trace.{Trace}
 use Rattle.theory.specs.Lists.{pick, place, lastOf, ifSome, first, put}
-use Rattle.theory.specs.Events.{size, saves, sendOf, recvOf}
+use Rattle.theory.specs.Events.{size, checkpoints, sendOf, recvOf}
 use Rattle.theory.specs.Epochs.{Rule, epochAt, phaseAt, epochOf, phaseOf, loggedBy}
 
 -- ---- The failure: the cut, "right after event K", and who failed: "M a 64-bit number in decimal whose bit z says that zone z failed"
@@ -20,7 +20,7 @@ staysIn line z = eqb (line z) 32
 -- "A restart in an epoch is right after the save that raised the zone to it, in epoch 1 at the zone's start. For a zone that
 -- stays, the cut takes the place of its restart in every rule." Checkpoint number e - 1 of the process raised it to epoch e.
 unfoldable pub restartIn : Trace → ℕ → (ℕ → ℕ) → ℕ → ℕ
-restartIn t cut line z = pick (staysIn line z) cut (place (saves t z) (line z - 1) cut)
+restartIn t cut line z = pick (staysIn line z) cut (place (checkpoints t z) (line z - 1) cut)
 
 -- What a line may hold for process z, where `usable z e` says that it can restart in epoch e: such an epoch, or 32. "Failed zones may not stay."
 abbrev pub may : (ℕ → ℕ → Bool) → (ℕ → Bool) → ℕ → ℕ → Bool
