@@ -14,7 +14,7 @@ use borrow.Author.Tests.{le-leb, lt-ltb}
 use Rattle.trace.specs.Trace.{Trace}
 use Rattle.trace.specs.Fit.{wellFormed}
 use Rattle.theory.specs.Lists.{cnt, lastOf}
-use Rattle.theory.specs.Events.{size, sends, recvs, saves, sent, rcvd}
+use Rattle.theory.specs.Events.{size, sends, recvs, checkpoints, sent, rcvd}
 use Rattle.theory.specs.Epochs.{Rule, past, joined, epochAt, phaseAt, epochOf, phaseOf, loggedBy}
 use Rattle.theory.specs.Line.{Run, undone, lost, orphan, kept, orphanPhase, LossFree, restartIn, recorded, current, reached, Usable, Permitted, Greatest, Above, lower, highest, greatestLine}
 use Rattle.theory.specs.Replay.{State, sentAgain, ready, delivered, faultless, SameRecord}
@@ -22,7 +22,8 @@ use Rattle.theory.specs.Order.{carriedOut, refused, choose, Allowed, run
 use Rattle.theory.specs.Answers.{names, orphans, keptOnes, lostOnes, lossFree, sameRecord}
 use Rattle.theory.specs.Laws.{Laws}
 use Rattle.theory.proofs.Base.{on, by, le?}
-use Rattle.theory.proofs.Events.{Valid, valid, partner, sent-lt}
+use Rattle.theory.proofs.Events.{partner, sent-lt}
+use Rattle.theory.proofs.WellFormed.{Valid, valid}
 use Rattle.theory.proofs.Classes.{undone-counts, lost-counts, orphan-counts, kept-counts}
 use Rattle.theory.proofs.Flow.{Inv}
 use Rattle.theory.proofs.Loss.{inv}
@@ -35,7 +36,7 @@ use Rattle.theory.proofs.Answers.{orphans-name, kept-name, lost-name, l
 
 -- Demand 3. "Take any accepted trace, any step for the failure, any set of zones it takes together, any line that puts each failed zone at a save it
 -- has made, and any order of choices from there, each allowed where it comes, that ends only when no choice is allowed. The delivery record the
--- replay leaves equals that of the run without failure exactly when the line loses no message."
+-- replay leaves equals that of the run without failure exactly when the line loses no message." An order is a list of choice numbers.
 pub demand-3 : (t : Trace) → wellFormed t ≡ true → (cut : ℕ) → cut ≤ size t → (failed : ℕ → Bool) (line : ℕ → ℕ)
     → Permitted t past cut (reached t past cut) failed line → (order : List ℕ) (s : State) → run (recorded t past cut line) order ≡ carriedOut s
     → Complete (recorded t past cut line) s → SameRecord (recorded t past cut line) s ↔ LossFree (recorded t past cut line)
@@ -53,7 +54,7 @@ module _ (t : Trace) (w : wellFormed t ≡ true) (rule : Rule) where
   -- ---- Epochs, phases, kept messages
 
   -- "A zone begins with epoch 1 .. A save raises both by one": the epoch is one more than the checkpoints made
-  pub epoch-counts : (z x : ℕ) → epochAt t rule z x ≡ suc (cnt (saves t z) x)
+  pub epoch-counts : (z x : ℕ) → epochAt t rule z x ≡ suc (cnt (checkpoints t z) x)
   epoch-counts z x = epoch-is t rule x z
 
   -- "A message carries its sender's epoch and phase at the send." (A send changes neither.)
@@ -80,14 +81,14 @@ module _ (t : Trace) (w : wellFormed t ≡ true) (rule : Rule) where
       abbrev R : Run
       R = recorded t rule cut line
 
-      -- the laws, from which all that follows is proved
+      -- the laws: from them alone all that is claimed here of classes and of replay is proved
       pub the-laws : Laws R
       the-laws = laws t rule A cut line cl
 
       -- "A restart in an epoch is right after the save that raised the zone to it, in epoch 1 at the zone's start."; "or 32, which means the zone
       -- stays as it was at the cut"
       pub restart-back : (z : ℕ) → 1 ≤ line z → line z ≤ current t rule cut z
-          → (epochAt t rule z (restartIn t cut line z) ≡ line z) × ((restartIn t cut line z ≡ 0) ⊎ (saves t z (restartIn t cut line z) ≡ true))
+          → (epochAt t rule z (restartIn t cut line z) ≡ line z) × ((restartIn t cut line z ≡ 0) ⊎ (checkpoints t z (restartIn t cut line z) ≡ true))
       restart-back = restart-epoch t rule A cut cl line
 
       pub restart-stays : (z : ℕ) → line z ≡ 32 → restartIn t cut line z ≡ cut

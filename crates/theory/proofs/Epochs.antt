@@ -11,12 +11,13 @@ use Rattle.trace.specs.declared.Event.{Event}
 use Rattle.trace.specs.declared.Event.the-variants.{Send, Recv, Save}
 use Rattle.trace.specs.Trace.{Trace, isSend, isRecv, isSave}
 use Rattle.theory.specs.Lists.{pick, cnt, put}
-use Rattle.theory.specs.Events.{size, eventAt, sends, recvs, saves, sent, rcvd, recvOf}
+use Rattle.theory.specs.Events.{size, eventAt, sends, recvs, checkpoints, sent, rcvd, recvOf}
 use Rattle.theory.specs.Epochs.{Rule, Carried, Notes, joined, note, notes, epochAt, phaseAt, epochOf, phaseOf, loggedBy}
 use Rattle.theory.specs.Line.{restartIn, recorded}
 use Rattle.theory.specs.Laws.{Laws}
 use Rattle.theory.proofs.Base.{by, clash, both, eqb-self, cnt-suc, cnt-skip, place-le, place-is}
-use Rattle.theory.proofs.Events.{send-not-recv, send-no-save, sent-le, recvOf-at, Valid}
+use Rattle.theory.proofs.Events.{send-not-recv, send-no-checkpoint, sent-le, recvOf-at}
+use Rattle.theory.proofs.WellFormed.{Valid}
 
 -- ---- An event
 
@@ -38,10 +39,10 @@ recv-event p q (Recv a b) h =
     rw (i, j)
 recv-event p q (Save a) h = clash {b = false} h refl
 
-save-event : (z : ℕ) (e : Event) → isSave z e ≡ true → e ≡ Save z
-save-event z (Send a b v) h = clash {b = false} h refl
-save-event z (Recv a b) h = clash {b = false} h refl
-save-event z (Save a) h = let i : z ≡ a = eqb-true z a h in rw i
+checkpoint-event : (z : ℕ) (e : Event) → isSave z e ≡ true → e ≡ Save z
+checkpoint-event z (Send a b v) h = clash {b = false} h refl
+checkpoint-event z (Recv a b) h = clash {b = false} h refl
+checkpoint-event z (Save a) h = let i : z ≡ a = eqb-true z a h in rw i
 
 joined-own : (b : Bool) (f m : ℕ) → f ≤ joined b f m
 joined-own true f m = omega arith
@@ -58,7 +59,7 @@ put-le f z v h y = by (eqb y z)
 
 pub restart-cut : (t : Trace) (cut : ℕ) (line : ℕ → ℕ) (z : ℕ) → restartIn t cut line z ≤ cut
 unfolding restartIn
-restart-cut t cut line z = by (eqb (line z) 32) (λ u. rw u (omega arith)) (λ u. rw u (place-le (saves t z) (line z - 1) cut))
+restart-cut t cut line z = by (eqb (line z) 32) (λ u. rw u (omega arith)) (λ u. rw u (place-le (checkpoints t z) (line z - 1) cut))
 
 module _ (t : Trace) (rule : Rule) where
   note-phase : (n : Notes) (e : ℕ) (v : Event) (z : ℕ) → n .phases z ≤ (note t rule n e v) .phases z
@@ -77,9 +78,9 @@ module _ (t : Trace) (rule : Rule) where
   note-epoch n e (Recv a b) z = refl
   note-epoch n e (Save a) z = by (eqb z a) (λ u. let i : a ≡ z = sym (eqb-true z a u) in rw (u, i)) (λ u. rw u)
 
-  note-save : (n : Notes) (e z : ℕ) → (note t rule n e (Save z)) .phases z ≡ suc (n .phases z)
+  note-checkpoint : (n : Notes) (e z : ℕ) → (note t rule n e (Save z)) .phases z ≡ suc (n .phases z)
   unfolding note
-  note-save n e z = rw (eqb-self z)
+  note-checkpoint n e z = rw (eqb-self z)
 
   note-recv : (n : Notes) (e z p : ℕ) → let k = rcvd t p z e in let m = n .carried p z k in
       (note t rule n e (Recv z p)) .phases z ≡ joined (rule p z k (m .epoch) (n .epochs z)) (n .phases z) (m .phase)
@@ -114,15 +115,15 @@ module _ (t : Trace) (rule : Rule) where
   unfolding notes
   noted x v e = ap (note t rule (notes t rule x) (suc x)) e
 
-  phase-save : (z x : ℕ) → saves t z (suc x) ≡ true → phaseAt t rule z x < phaseAt t rule z (suc x)
-  unfolding saves
-  phase-save z x h =
-      let e = ap (λ n. n .phases z) (noted x (Save z) (save-event z (eventAt t (suc x)) h)) in
-      omega (arith, e, note-save (notes t rule x) (suc x) z)
+  phase-checkpoint : (z x : ℕ) → checkpoints t z (suc x) ≡ true → phaseAt t rule z x < phaseAt t rule z (suc x)
+  unfolding checkpoints
+  phase-checkpoint z x h =
+      let e = ap (λ n. n .phases z) (noted x (Save z) (checkpoint-event z (eventAt t (suc x)) h)) in
+      omega (arith, e, note-checkpoint (notes t rule x) (suc x) z)
 
   -- the epoch is one more than the number of checkpoints
-  pub epoch-is : (x z : ℕ) → epochAt t rule z x ≡ suc (cnt (saves t z) x)
-  unfolding notes cnt saves
+  pub epoch-is : (x z : ℕ) → epochAt t rule z x ≡ suc (cnt (checkpoints t z) x)
+  unfolding notes cnt checkpoints
   epoch-is zero z = refl
   epoch-is (suc x) z = note-epoch (notes t rule x) (suc x) (eventAt t (suc x)) z ∙ by (isSave z (eventAt t (suc x)))
       (λ u. rw (u, epoch-is x z)) (λ u. rw (u, epoch-is x z))
@@ -167,7 +168,7 @@ module _ (t : Trace) (rule : Rule) where
     epochOf-send p q x h (omega arith),
     epoch-is x p,
     epoch-is (suc x) p,
-    cnt-skip (saves t p) x (send-no-save t p q (suc x) h),
+    cnt-skip (checkpoints t p) x (send-no-checkpoint t p q (suc x) h),
   )
 
   send-same : (p q x : ℕ) → sends t p q (suc x) ≡ true → phaseAt t rule p (suc x) ≡ phaseAt t rule p x
@@ -249,12 +250,12 @@ module _ (t : Trace) (rule : Rule) where
       causal = A .causal;
       phase-pos = λ z. unfold notes in omega arith;
       phase-up = phase-up;
-      phase-save = phase-save;
+      phase-checkpoint = phase-checkpoint;
       carries-send = phaseOf-send;
       carries-recv = law-recv;
       carries-logged = law-logged;
       cut-le = cl;
       restart-le = restart-cut t cut line;
       stay = λ z h. unfold restartIn in rw h;
-      back = λ z h. unfold restartIn in rw h (place-is (saves t z) (line z - 1) cut);
+      back = λ z h. unfold restartIn in rw h (place-is (checkpoints t z) (line z - 1) cut);
     }

@@ -1,7 +1,7 @@
 -- Lowering gives the greatest line without loss, and it is the only one; and the floor. For any usable checkpoints, and any rule (the floor: `past`).
 -- From the step of lowering (Lines).
 use mathlib.Core.Path.{_≡_, refl, sym, subst}
-use mathlib.Core.Logic.{_⊎_, inl, inr}
+use mathlib.Core.Logic.{_⊎_}
 use mathlib.Core.Bool.{Bool, true, false}
 use mathlib.Core.Option.{Option, none, some, Option·some-injective, Option·none-ne-some}
 use Prim.Native.Nat.{ℕ, zero, suc, _*_, _≤_, _<_}
@@ -14,8 +14,8 @@ use Rattle.theory.specs.Events.{size}
 use Rattle.theory.specs.Epochs.{Rule, past, epochAt}
 use Rattle.theory.specs.Line.{lost, LossFree, recorded, current, Usable, Permitted, Greatest, Above, highest, lower, lowerIf, lowered, lowering, greatestLine}
 use Rattle.theory.proofs.Base.{by, on, clash, eqb-self, lastOf-top, first-none, first-some, sum, sum-lt}
-use Rattle.theory.proofs.Events.{Valid}
-use Rattle.theory.proofs.Lines.{now-is, now-few, number-of, lost-epochs, epoch-le, lost-in, lower-usable, lower-less, lower-over, past-unlogged}
+use Rattle.theory.proofs.WellFormed.{Valid}
+use Rattle.theory.proofs.Lines.{may-is, may-restart, may-stay, now-is, now-few, number-of, lost-epochs, epoch-le, lost-in, lower-usable, lower-less, lower-over, past-unlogged}
 
 sum-32 : (n : ℕ) (f : ℕ → ℕ) → ((x : ℕ) → x < n → f x ≤ 32) → sum n f ≤ 32 * n
 unfolding sum
@@ -27,9 +27,9 @@ module _ (t : Trace) (rule : Rule) (A : Valid t) (cut : ℕ) (cl : cut ≤ size 
   unfolding highest
   highest-above = record {
     permitted = λ z h. by (failed z)
-        (λ u. inl (rw u ((lastOf-top (usable z) (current t rule cut z) 1 (U .start z) (omega arith) (omega (arith, now-is t rule A cut cl z))) .1)))
-        (λ u. inr (rw u, u));
-    top = λ l b n z h. on (b z h)
+        (λ u. may-restart usable failed z _ (rw u ((lastOf-top (usable z) (current t rule cut z) 1 (U .start z) (omega arith) (omega (arith, now-is t rule A cut cl z))) .1)))
+        (λ u. may-stay usable failed z _ (rw u) u);
+    top = λ l b n z h. on (may-is usable failed z (l z) (b z h))
         (λ u. let w = U .within z (l z) u in
         by (failed z) (λ v. rw v ((lastOf-top (usable z) (current t rule cut z) (l z) u (w .0) (w .1)) .0)) (λ v. rw v (omega (arith, w .1, now-few t rule A cut cl z))))
         (λ u. rw (u .1) (omega (arith, u .0)));
@@ -40,7 +40,7 @@ module _ (t : Trace) (rule : Rule) (A : Valid t) (cut : ℕ) (cl : cut ≤ size 
     pub below-above : Above t rule cut usable failed (lower t rule cut usable m p q k)
     below-above = record {
       permitted = λ z l. by (eqb z p)
-          (λ u. let i : z ≡ p = eqb-true z p u in inl (rw (u, i) (lower-usable t rule A cut cl usable U failed m (a .permitted) p q k h)))
+          (λ u. let i : z ≡ p = eqb-true z p u in may-restart usable failed z _ (rw (u, i) (lower-usable t rule A cut cl usable U failed m (a .permitted) p q k h)))
           (λ u. rw u (a .permitted z l));
       top = λ l b n z o. by (eqb z p)
           (λ u. let i : z ≡ p = eqb-true z p u in rw (u, i) (lower-over t rule A cut cl usable U failed m (a .permitted) p q k h l b n (a .top l b n)))
@@ -101,7 +101,7 @@ module _ (t : Trace) (rule : Rule) (A : Valid t) (cut : ℕ) (cl : cut ≤ size 
   pub greatest-is : Greatest t rule cut usable failed (greatestLine t rule cut usable failed)
   unfolding greatestLine
   greatest-is = lowering-greatest (32 * t .procs) (highest t rule cut usable failed) highest-above
-      (sum-32 (t .procs) (highest t rule cut usable failed) (λ z h. on (highest-above .permitted z h)
+      (sum-32 (t .procs) (highest t rule cut usable failed) (λ z h. on (may-is usable failed z _ (highest-above .permitted z h))
       (λ u. omega (arith, (U .within z _ u) .1, now-few t rule A cut cl z)) (λ u. omega (arith, u .0))))
 
   pub greatest-unique : (l m : ℕ → ℕ) → Greatest t rule cut usable failed l → Greatest t rule cut usable failed m → (z : ℕ) → z < t .procs → l z ≡ m z
@@ -119,8 +119,8 @@ module _ (t : Trace) (A : Valid t) (cut : ℕ) (cl : cut ≤ size t) (usable : �
     floor-permitted : Permitted t past cut usable failed floorLine
     unfolding floorLine
     floor-permitted z h = by (usable z f)
-        (λ u. inl (rw (u, u)))
-        (λ u. on (at-f z h) (λ v. clash v u) (λ v. inr (rw u, v .0)))
+        (λ u. may-restart usable failed z _ (rw (u, u)))
+        (λ u. on (at-f z h) (λ v. clash v u) (λ v. may-stay usable failed z _ (rw u) (v .0)))
 
     floor-in : (z : ℕ) → usable z f ≡ true → floorLine z ≡ f
     unfolding floorLine

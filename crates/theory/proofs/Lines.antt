@@ -2,21 +2,34 @@
 -- For any rule and any set of usable checkpoints. From the laws of Epochs and the counting form of Classes.
 use mathlib.Core.Path.{_≡_, refl, sym, _∙_, ap, subst}
 use mathlib.Core.Logic.{_⊎_, inl, inr, _≢_}
-use mathlib.Core.Bool.{Bool, true, false}
+use mathlib.Core.Bool.{Bool, true, false, not}
 use Prim.Native.Nat.{ℕ, suc, _-_, _≤_, _<_}
 use native.Mathlib.Omega.{arith}
 use lib.Dec.{leb, eqb}
-use borrow.Author.Tests.{leb-true, ltb-false, le-leb, eq-eqb, ne-eqb}
+use borrow.Author.Tests.{leb-true, ltb-false, eqb-true, le-leb, eq-eqb, ne-eqb}
 use Rattle.trace.specs.Trace.{Trace}
 use Rattle.theory.specs.Lists.{cnt, place, lastOf}
-use Rattle.theory.specs.Events.{size, sends, recvs, saves, sent, rcvd}
+use Rattle.theory.specs.Events.{size, sends, recvs, checkpoints, sent, rcvd}
 use Rattle.theory.specs.Epochs.{Rule, past, epochAt, epochOf, loggedBy}
-use Rattle.theory.specs.Line.{lost, LossFree, restartIn, recorded, current, reached, Usable, Permitted}
+use Rattle.theory.specs.Line.{may, lost, LossFree, restartIn, recorded, current, reached, Usable, Permitted}
 use Rattle.theory.specs.Laws.{Laws}
-use Rattle.theory.proofs.Base.{on, clash, le?, both, cnt-le, cnt-lt, cnt-bound, place-zero, place-cnt, place-mono, lastOf-le, lastOf-top}
-use Rattle.theory.proofs.Events.{sends-is, send-no-save, recv-no-save, sent-le, rcvd-le, rcvd-lt, send-of, recv-of, Valid}
+use Rattle.theory.proofs.Base.{by, on, clash, le?, both, cnt-le, cnt-lt, cnt-bound, place-zero, place-cnt, place-mono, lastOf-le, lastOf-top}
+use Rattle.theory.proofs.Events.{sends-is, send-no-checkpoint, recv-no-checkpoint, sent-le, rcvd-le, rcvd-lt, send-of, recv-of}
+use Rattle.theory.proofs.WellFormed.{Valid}
 use Rattle.theory.proofs.Classes.{lost-is, is-lost}
 use Rattle.theory.proofs.Epochs.{restart-cut, epoch-is, epochOf-at, logged-is, laws}
+
+module _ (usable : ℕ → ℕ → Bool) (failed : ℕ → Bool) (z n : ℕ) where
+  pub may-is : may usable failed z n ≡ true → (usable z n ≡ true) ⊎ ((n ≡ 32) × (failed z ≡ false))
+  may-is h = by (usable z n) (λ u. inl u)
+      (λ u. let b = both (eqb n 32) (not (failed z)) (rw u at h) in
+      inr (eqb-true n 32 (b .0), by (failed z) (λ v. clash {b = false} (rw v at (b .1)) refl) (λ v. v)))
+
+  pub may-restart : usable z n ≡ true → may usable failed z n ≡ true
+  may-restart h = rw h
+
+  pub may-stay : n ≡ 32 → failed z ≡ false → may usable failed z n ≡ true
+  may-stay h k = let e : eqb n 32 ≡ true = eq-eqb n 32 h in by (usable z n) (λ u. rw u) (λ u. rw (u, e, k))
 
 module _ (t : Trace) (rule : Rule) (cut : ℕ) where
   -- a number that a line may hold for a process: 32, or an epoch that it has reached
@@ -43,32 +56,32 @@ module _ (t : Trace) (rule : Rule) (A : Valid t) (cut : ℕ) (cl : cut ≤ size 
   abbrev E : ℕ → ℕ → ℕ
   E z x = epochAt t rule z x
 
-  pub now-is : (z : ℕ) → current t rule cut z ≡ suc (cnt (saves t z) cut)
+  pub now-is : (z : ℕ) → current t rule cut z ≡ suc (cnt (checkpoints t z) cut)
   now-is z = epoch-is t rule cut z
 
   pub now-few : (z : ℕ) → current t rule cut z < 32
-  now-few z = omega (arith, now-is z, A .saves-few z cut cl)
+  now-few z = omega (arith, now-is z, A .checkpoints-few z cut cl)
 
   pub epoch-le : (z x : ℕ) → x ≤ cut → E z x ≤ current t rule cut z
-  epoch-le z x h = omega (arith, now-is z, epoch-is t rule x z, cnt-le (saves t z) x cut h)
+  epoch-le z x h = omega (arith, now-is z, epoch-is t rule x z, cnt-le (checkpoints t z) x cut h)
 
   pub stays-at : (l : ℕ → ℕ) (z : ℕ) → l z ≡ 32 → restartIn t cut l z ≡ cut
   unfolding restartIn
   stays-at l z h = let u : eqb (l z) 32 ≡ true = eq-eqb (l z) 32 h in rw u
 
-  back-at : (l : ℕ → ℕ) (z : ℕ) → l z < 32 → restartIn t cut l z ≡ place (saves t z) (l z - 1) cut
+  back-at : (l : ℕ → ℕ) (z : ℕ) → l z < 32 → restartIn t cut l z ≡ place (checkpoints t z) (l z - 1) cut
   unfolding restartIn
   back-at l z h = let u : eqb (l z) 32 ≡ false = ne-eqb (l z) 32 (λ q. omega arith) in rw u
 
   -- a restart in an epoch is the start or right after a checkpoint, in that epoch
   pub restart-epoch : (l : ℕ → ℕ) (z : ℕ) → 1 ≤ l z → l z ≤ current t rule cut z
-      → (E z (restartIn t cut l z) ≡ l z) × ((restartIn t cut l z ≡ 0) ⊎ (saves t z (restartIn t cut l z) ≡ true))
+      → (E z (restartIn t cut l z) ≡ l z) × ((restartIn t cut l z ≡ 0) ⊎ (checkpoints t z (restartIn t cut l z) ≡ true))
   restart-epoch l z a b = rw (back-at l z (omega (arith, now-few z))) (on (le? (l z) 1)
       (λ o. let w : l z - 1 ≡ 0 = omega arith in
-      let i = place-zero (saves t z) cut in
-      rw (w, i) (omega (arith, epoch-is t rule 0 z, cnt-bound (saves t z) 0), inl refl))
-      (λ o. let c = place-cnt (saves t z) (l z - 1) cut (omega arith) (omega (arith, now-is z)) in
-      (omega (arith, epoch-is t rule (place (saves t z) (l z - 1) cut) z, c .1), inr (c .0))))
+      let i = place-zero (checkpoints t z) cut in
+      rw (w, i) (omega (arith, epoch-is t rule 0 z, cnt-bound (checkpoints t z) 0), inl refl))
+      (λ o. let c = place-cnt (checkpoints t z) (l z - 1) cut (omega arith) (omega (arith, now-is z)) in
+      (omega (arith, epoch-is t rule (place (checkpoints t z) (l z - 1) cut) z, c .1), inr (c .0))))
 
   -- a lower number restarts no later
   pub restart-mono : (l m : ℕ → ℕ) (z : ℕ) → Number t rule cut z (m z) → l z ≤ m z → restartIn t cut l z ≤ restartIn t cut m z
@@ -76,33 +89,33 @@ module _ (t : Trace) (rule : Rule) (A : Valid t) (cut : ℕ) (cl : cut ≤ size 
       (λ u. rw (stays-at m z u) (restart-cut t cut l z))
       (λ u. let e : m z < 32 = omega (arith, u .1, now-few z) in
       rw (back-at l z (omega arith), back-at m z e)
-      (place-mono (saves t z) (l z - 1) (m z - 1) cut (omega arith) (omega (arith, u .1, now-is z))))
+      (place-mono (checkpoints t z) (l z - 1) (m z - 1) cut (omega arith) (omega (arith, u .1, now-is z))))
 
   -- an event that is no checkpoint is before the checkpoint that raises to epoch n exactly if its own epoch is below n
-  module _ (z x n : ℕ) (a : 0 < x) (ns : saves t z x ≡ false) (one : 1 ≤ n) (up : n ≤ current t rule cut z) where
-    place-after : x ≤ place (saves t z) (n - 1) cut → E z x < n
+  module _ (z x n : ℕ) (a : 0 < x) (ns : checkpoints t z x ≡ false) (one : 1 ≤ n) (up : n ≤ current t rule cut z) where
+    place-after : x ≤ place (checkpoints t z) (n - 1) cut → E z x < n
     place-after h = on (le? n 1)
-        (λ o. let w : n - 1 ≡ 0 = omega arith in absurd (omega (arith, rw (w, place-zero (saves t z) cut) at h)))
-        (λ o. let c = place-cnt (saves t z) (n - 1) cut (omega arith) (omega (arith, now-is z)) in
-        let d : x ≢ place (saves t z) (n - 1) cut = λ i. clash (subst (λ y. saves t z y ≡ true) (sym i) (c .0)) ns in
-        omega (arith, cnt-lt (saves t z) x (place (saves t z) (n - 1) cut) (c .0) (omega arith), c .1, epoch-is t rule x z))
+        (λ o. let w : n - 1 ≡ 0 = omega arith in absurd (omega (arith, rw (w, place-zero (checkpoints t z) cut) at h)))
+        (λ o. let c = place-cnt (checkpoints t z) (n - 1) cut (omega arith) (omega (arith, now-is z)) in
+        let d : x ≢ place (checkpoints t z) (n - 1) cut = λ i. clash (subst (λ y. checkpoints t z y ≡ true) (sym i) (c .0)) ns in
+        omega (arith, cnt-lt (checkpoints t z) x (place (checkpoints t z) (n - 1) cut) (c .0) (omega arith), c .1, epoch-is t rule x z))
 
-    place-before : place (saves t z) (n - 1) cut < x → n ≤ E z x
+    place-before : place (checkpoints t z) (n - 1) cut < x → n ≤ E z x
     place-before h = on (le? n 1) (λ o. omega (arith, epoch-is t rule x z))
-        (λ o. let c = place-cnt (saves t z) (n - 1) cut (omega arith) (omega (arith, now-is z)) in
-        omega (arith, cnt-le (saves t z) (place (saves t z) (n - 1) cut) x (omega arith), c .1, epoch-is t rule x z))
+        (λ o. let c = place-cnt (checkpoints t z) (n - 1) cut (omega arith) (omega (arith, now-is z)) in
+        omega (arith, cnt-le (checkpoints t z) (place (checkpoints t z) (n - 1) cut) x (omega arith), c .1, epoch-is t rule x z))
 
   -- so it is at or before the restart exactly if its epoch is below the line's number
-  before-restart : (l : ℕ → ℕ) (z x : ℕ) → Number t rule cut z (l z) → 0 < x → saves t z x ≡ false → x ≤ restartIn t cut l z → E z x < l z
+  before-restart : (l : ℕ → ℕ) (z x : ℕ) → Number t rule cut z (l z) → 0 < x → checkpoints t z x ≡ false → x ≤ restartIn t cut l z → E z x < l z
   before-restart l z x n a ns h = on n
       (λ u. omega (arith, epoch-le z x (omega (arith, restart-cut t cut l z)), now-few z))
-      (λ u. let r : x ≤ place (saves t z) (l z - 1) cut = rw (back-at l z (omega (arith, u .1, now-few z))) at h in
+      (λ u. let r : x ≤ place (checkpoints t z) (l z - 1) cut = rw (back-at l z (omega (arith, u .1, now-few z))) at h in
       place-after z x (l z) a ns (u .0) (u .1) r)
 
-  after-restart : (l : ℕ → ℕ) (z x : ℕ) → Number t rule cut z (l z) → 0 < x → x ≤ cut → saves t z x ≡ false → restartIn t cut l z < x → l z ≤ E z x
+  after-restart : (l : ℕ → ℕ) (z x : ℕ) → Number t rule cut z (l z) → 0 < x → x ≤ cut → checkpoints t z x ≡ false → restartIn t cut l z < x → l z ≤ E z x
   after-restart l z x n a b ns h = on n
       (λ u. absurd (omega (arith, stays-at l z u)))
-      (λ u. let r : place (saves t z) (l z - 1) cut < x = rw (back-at l z (omega (arith, u .1, now-few z))) at h in
+      (λ u. let r : place (checkpoints t z) (l z - 1) cut < x = rw (back-at l z (omega (arith, u .1, now-few z))) at h in
       place-before z x (l z) a ns (u .0) (u .1) r)
 
   module _ (l : ℕ → ℕ) (p q k : ℕ) (np : Number t rule cut p (l p)) (nq : Number t rule cut q (l q)) where
@@ -129,19 +142,19 @@ module _ (t : Trace) (rule : Rule) (A : Valid t) (cut : ℕ) (cl : cut ≤ size 
           e-recv = g .3;
           e-is = g .4;
           unlogged = x .unlogged;
-          below = before-restart l p (f .0) np (f .1) (send-no-save t p q (f .0) (f .3)) (f .2);
-          above = after-restart l q (g .0) nq (g .1) (g .2) (recv-no-save t p q (g .0) (g .3)) u;
+          below = before-restart l p (f .0) np (f .1) (send-no-checkpoint t p q (f .0) (f .3)) (f .2);
+          above = after-restart l q (g .0) nq (g .1) (g .2) (recv-no-checkpoint t p q (g .0) (g .3)) u;
         }
 
     pub epochs-lost : ByEpochs t rule cut l p q k → lost (recorded t rule cut l) p q k ≡ true
     epochs-lost x = is-lost (recorded t rule cut l) L p q k (record {
       after = on (le? (x .e) (restartIn t cut l q))
-          (λ a. absurd (omega (arith, before-restart l q (x .e) nq (x .e-pos) (recv-no-save t p q (x .e) (x .e-recv)) a, x .above)))
+          (λ a. absurd (omega (arith, before-restart l q (x .e) nq (x .e-pos) (recv-no-checkpoint t p q (x .e) (x .e-recv)) a, x .above)))
           (λ a. omega (arith, rcvd-lt t p q (restartIn t cut l q) (x .e) (x .e-recv) a, x .e-is));
       by-cut = omega (arith, rcvd-le t p q (x .e) cut (x .e-cut), x .e-is);
       before = on (le? (x .d) (restartIn t cut l p))
           (λ a. omega (arith, sent-le t p q (x .d) (restartIn t cut l p) a, x .d-is))
-          (λ a. absurd (omega (arith, after-restart l p (x .d) np (x .d-pos) (x .d-cut) (send-no-save t p q (x .d) (x .d-send)) a, x .below)));
+          (λ a. absurd (omega (arith, after-restart l p (x .d) np (x .d-pos) (x .d-cut) (send-no-checkpoint t p q (x .d) (x .d-send)) a, x .below)));
       unlogged = x .unlogged;
     })
 
@@ -170,7 +183,7 @@ module _ (t : Trace) (rule : Rule) (A : Valid t) (cut : ℕ) (cl : cut ≤ size 
 
   module _ (usable : ℕ → ℕ → Bool) (U : Usable t rule cut usable) (failed : ℕ → Bool) where
     pub number-of : (l : ℕ → ℕ) → Permitted t rule cut usable failed l → (z : ℕ) → z < t .procs → Number t rule cut z (l z)
-    number-of l b z h = on (b z h) (λ u. inr (U .within z (l z) u)) (λ u. inl (u .0))
+    number-of l b z h = on (may-is usable failed z (l z) (b z h)) (λ u. inr (U .within z (l z) u)) (λ u. inl (u .0))
 
     -- The step of lowering. A message lost under line m: a line without loss that is not above m has its sender at most in the last
     -- usable epoch that is not above the epoch of the send; and that is below m.
@@ -197,7 +210,7 @@ module _ (t : Trace) (rule : Rule) (A : Valid t) (cut : ℕ) (cl : cut ≤ size 
           let qz = (lost-in m p q k h) .1 in
           let low : l p ≤ E p (x .d) = on (le? (l p) (E p (x .d))) (λ a. a)
           (λ a. clash (epochs-lost l p q k (number-of l c p pz) (number-of l c q qz) (same l a (omega (arith, o q qz, x .above)))) (f p q k)) in
-          on (c p pz)
+          on (may-is usable failed p (l p) (c p pz))
           (λ u. (lastOf-top (usable p) (epochOf t rule p q k) (l p) u ((U .within p (l p) u) .0) (omega (arith, e-is))) .0)
           (λ u. absurd (omega (arith, u .0, epoch-le p (x .d) (x .d-cut), now-few p)))
         where

@@ -12,12 +12,12 @@ use native.Mathlib.Omega.{arith}
 use lib.Dec.{leb, ltb}
 use borrow.Author.Tests.{leb-true, lt-ltb, le-ltb}
 use Rattle.theory.specs.Lists.{no-one}
-use Rattle.theory.specs.Events.{size, at, kind, sends, recvs, saves, sent, rcvd, sendOf}
+use Rattle.theory.specs.Events.{size, at, kind, sends, recvs, checkpoints, sent, rcvd, sendOf}
 use Rattle.theory.specs.Line.{Run, sentAfter, receivedBefore, orphan, orphanPhase}
 use Rattle.theory.specs.Replay.{Choice, State, resends, ready, gate, step}
 use Rattle.theory.specs.Laws.{Laws}
 use Rattle.theory.proofs.Base.{by, on, both, find-has, find-below}
-use Rattle.theory.proofs.Events.{sends-is, recvs-is, sends-of, send-not-save, rcvd-le, rcvd-lt, send-of, sendOf-at}
+use Rattle.theory.proofs.Events.{sends-is, recvs-is, sends-of, send-not-checkpoint, rcvd-le, rcvd-lt, send-of, sendOf-at}
 use Rattle.theory.proofs.Classes.{rBefore, rCut, NoLoss, keptb, Kept}
 use Rattle.theory.proofs.Flow.{todo-at, resends-of, Inv}
 use Rattle.theory.proofs.Progress.{CanStep, Pass, Go, go, go-head}
@@ -45,11 +45,11 @@ module _ (R : Run) where
     back-before : (z q e : ℕ) → R .stays z ≡ false → sends (R .trace) z q e ≡ true → 0 < e → e ≤ R .restart z → R .phase z e < R .phase z (R .restart z)
     back-before z q e t u a b = on (L .back z t) (λ r. absurd (omega arith)) (λ r. below (R .restart z) r b)
       where
-        below : (x : ℕ) → saves (R .trace) z x ≡ true → e ≤ x → R .phase z e < R .phase z x
+        below : (x : ℕ) → checkpoints (R .trace) z x ≡ true → e ≤ x → R .phase z e < R .phase z x
         below zero r l = absurd (omega arith)
         below (suc x) r l =
-            let n : e ≢ suc x = send-not-save (R .trace) z q z e (suc x) u r in
-            omega (arith, phase-le z e x (omega arith), L .phase-save z x r)
+            let n : e ≢ suc x = send-not-checkpoint (R .trace) z q z e (suc x) u r in
+            omega (arith, phase-le z e x (omega arith), L .phase-checkpoint z x r)
 
   module _ (L : Laws R) (N : NoLoss R) (s : State) (i : Inv R s) where
     abbrev Waits : ℕ → ℕ → ℕ → Type 0

@@ -10,7 +10,7 @@ use Rattle.trace.specs.declared.Event.the-variants.{Send, Recv, Save}
 use Rattle.trace.specs.Trace.{Trace, count}
 use Rattle.trace.specs.Fit.{wellFormed, allFit, faultOf}
 use Rattle.theory.specs.Lists.{iv, keep, cnt, place, lastOf, no-one, all-below, first}
-use Rattle.theory.specs.Events.{eventAt, at, kind, sends, recvs, saves, sent, rcvd, sendOf, recvOf, value}
+use Rattle.theory.specs.Events.{eventAt, at, kind, sends, recvs, checkpoints, sent, rcvd, sendOf, recvOf, value}
 use Rattle.theory.specs.Epochs.{past, note, notes, loggedBy}
 use Rattle.theory.specs.Line.{inSet, Run, sentBefore, sentAfter, received, receivedBefore, undone, lost, orphan, kept, orphanPhase, restartIn, recorded, reached, highest, lowered, lowering, greatestLine}
 use Rattle.theory.specs.Replay.{listed, keptOn, takenBy, resends, ready, gate, sendStep, recvStep, eventStep, processStep, handStep, step, delivered, faultless}
@@ -19,7 +19,7 @@ use Rattle.theory.specs.Answers.{lineOf, Listed, gather, messages, orpha
 
 -- all that a row computes with
 unfoldable pub opens : ℕ
-unfolding bind iv keep cnt place lastOf no-one all-below first eventAt at kind sends recvs saves sent rcvd sendOf recvOf value note notes loggedBy sentBefore sentAfter received receivedBefore undone lost orphan kept orphanPhase restartIn highest lowered lowering greatestLine listed keptOn takenBy resends ready gate sendStep recvStep eventStep processStep handStep step delivered faultless choiceOf choose carry run lowest lowestFrom complete gather messages samePairs sameRecord count wellFormed allFit faultOf
+unfolding bind iv keep cnt place lastOf no-one all-below first eventAt at kind sends recvs checkpoints sent rcvd sendOf recvOf value note notes loggedBy sentBefore sentAfter received receivedBefore undone lost orphan kept orphanPhase restartIn highest lowered lowering greatestLine listed keptOn takenBy resends ready gate sendStep recvStep eventStep processStep handStep step delivered faultless choiceOf choose carry run lowest lowestFrom complete gather messages samePairs sameRecord count wellFormed allFit faultOf
 opens = 0
 
 -- do all rows of a table hold

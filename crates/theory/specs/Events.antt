@@ -4,7 +4,7 @@ use Prim.Native.Nat.{ℕ, zero, suc}
 use lib.ListN.{length, getD}
 use Rattle.trace.specs.declared.Event.{Event}
 use Rattle.trace.specs.declared.Event.the-variants.{Send, Recv, Save}
-use Rattle.trace.specs.Trace.{Trace, isSend, isRecv, isSave, valueOf}
+use Rattle.trace.specs.Trace.{Trace, valueOf, isSend, isRecv, isSave}
 use Rattle.theory.specs.Lists.{cnt, place}
 
 -- what a replay sees of an event: a send to q, a receive from p, or any other
@@ -47,8 +47,8 @@ module _ (t : Trace) where
   unfoldable pub recvs : ℕ → ℕ → ℕ → Bool
   recvs p q e = isRecv p q (eventAt e)
 
-  unfoldable pub saves : ℕ → ℕ → Bool
-  saves z e = isSave z (eventAt e)
+  unfoldable pub checkpoints : ℕ → ℕ → Bool
+  checkpoints z e = isSave z (eventAt e)
 
   -- "A message is named by sender, receiver and its number on that channel, from 1." How many are sent, how many received on the
   -- channel up to event x: a send e has number `sent p q e`. "A takes the oldest message in transit": a receive e takes number `rcvd p q e`.

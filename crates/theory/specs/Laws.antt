@@ -3,7 +3,7 @@ use mathlib.Core.Path.{_≡_}
 use mathlib.Core.Logic.{_⊎_}
 use mathlib.Core.Bool.{true, false}
 use Prim.Native.Nat.{ℕ, suc, _≤_, _<_}
-use Rattle.theory.specs.Events.{send, size, at, kind, sends, recvs, saves, sent, rcvd}
+use Rattle.theory.specs.Events.{send, size, at, kind, sends, recvs, checkpoints, sent, rcvd}
 use Rattle.theory.specs.Line.{Run}
 
 pub record Laws (R : Run) : Type 0 where
@@ -16,7 +16,7 @@ pub record Laws (R : Run) : Type 0 where
   -- a process begins in phase 1 or above; its phase never falls; a checkpoint raises it
   pub phase-pos : (z : ℕ) → 0 < R .phase z 0
   pub phase-up : (z x : ℕ) → R .phase z x ≤ R .phase z (suc x)
-  pub phase-save : (z x : ℕ) → saves (R .trace) z (suc x) ≡ true → R .phase z x < R .phase z (suc x)
+  pub phase-checkpoint : (z x : ℕ) → checkpoints (R .trace) z (suc x) ≡ true → R .phase z x < R .phase z (suc x)
   -- a message carries its sender's phase at the send; its receiver's phase after the receive is not below it, and above it if it is logged
   pub carries-send : (p q e : ℕ) → sends (R .trace) p q e ≡ true → 0 < e → e ≤ size (R .trace)
       → R .carries p q (sent (R .trace) p q e) ≡ R .phase p e
@@ -28,4 +28,4 @@ pub record Laws (R : Run) : Type 0 where
   pub cut-le : R .cut ≤ size (R .trace)
   pub restart-le : (z : ℕ) → R .restart z ≤ R .cut
   pub stay : (z : ℕ) → R .stays z ≡ true → R .restart z ≡ R .cut
-  pub back : (z : ℕ) → R .stays z ≡ false → (R .restart z ≡ 0) ⊎ (saves (R .trace) z (R .restart z) ≡ true)
+  pub back : (z : ℕ) → R .stays z ≡ false → (R .restart z ≡ 0) ⊎ (checkpoints (R .trace) z (R .restart z) ≡ true)

@@ -1,14 +1,17 @@
 -- The recovery line (document 01, "The restart line"): what a line may hold, where it restarts each process, and what becomes of each message.
 use mathlib.Core.Path.{_≡_}
-use mathlib.Core.Logic.{_⊎_}
 use mathlib.Core.Bool.{Bool, true, false, _&&_, _||_, not}
 use mathlib.Core.Option.{Option, none, some}
 use Prim.Native.Nat.{ℕ, zero, suc, _-_, _*_, _/_, _%_, _^_, _≤_, _<_}
 use lib.Dec.{leb, ltb, eqb}
 use Rattle.trace.specs.Trace.{Trace}
 use Rattle.theory.specs.Lists.{pick, place, lastOf, ifSome, first, put}
-use Rattle.theory.specs.Events.{size, saves, sendOf, recvOf}
+use Rattle.theory.specs.Events.{size, checkpoints, sendOf, recvOf}
 use Rattle.theory.specs.Epochs.{Rule, epochAt, phaseAt, epochOf, phaseOf, loggedBy}
+
+-- ---- The failure: the cut, "right after event K", and who failed: "M a 64-bit number in decimal whose bit z says that zone z failed"
+abbrev pub inSet : ℕ → ℕ → Bool
+inSet m z = eqb (m / 2 ^ z % 2) 1
 
 -- ---- A line: "an epoch from 1 to its current one, or 32, which means the zone stays as it was at the cut"
 abbrev pub staysIn : (ℕ → ℕ) → ℕ → Bool
@@ -17,9 +20,13 @@ staysIn line z = eqb (line z) 32
 -- "A restart in an epoch is right after the save that raised the zone to it, in epoch 1 at the zone's start. For a zone that
 -- stays, the cut takes the place of its restart in every rule." Checkpoint number e - 1 of the process raised it to epoch e.
 unfoldable pub restartIn : Trace → ℕ → (ℕ → ℕ) → ℕ → ℕ
-restartIn t cut line z = pick (staysIn line z) cut (place (saves t z) (line z - 1) cut)
+restartIn t cut line z = pick (staysIn line z) cut (place (checkpoints t z) (line z - 1) cut)
 
--- A recorded run with a failure and a recovery line: all that recovery knows. What holds of it is said by `Laws`.
+-- What a line may hold for process z, where `usable z e` says that it can restart in epoch e: such an epoch, or 32. "Failed zones may not stay."
+abbrev pub may : (ℕ → ℕ → Bool) → (ℕ → Bool) → ℕ → ℕ → Bool
+may usable failed z n = usable z n || (eqb n 32 && not (failed z))
+
+-- ---- A recorded run with a failure and a recovery line: all that recovery knows. What holds of it is said by `Laws`.
 pub record Run : Type 0 where
   pub trace : Trace
   -- the phase of process z after event x
@@ -32,10 +39,6 @@ pub record Run : Type 0 where
   -- does process z stay as it was at the cut; and right after which event it restarts, the cut if it stays
   pub stays : ℕ → Bool
   pub restart : ℕ → ℕ
-
--- "M a 64-bit number in decimal whose bit z says that zone z failed"
-abbrev pub inSet : ℕ → ℕ → Bool
-inSet m z = eqb (m / 2 ^ z % 2) 1
 
 -- ---- What becomes of message k from p to q. "Only events up to K count here."
 module _ (R : Run) where
@@ -94,8 +97,9 @@ module _ (t : Trace) (rule : Rule) (cut : ℕ) where
   abbrev pub current : ℕ → ℕ
   current z = epochAt t rule z cut
 
-  -- ---- Which lines are permitted. `usable z e`: may process z restart in epoch e
-  -- "an epoch from 1 to its current one"
+  -- ---- Which lines are permitted, and which is the greatest
+
+  -- document 01's usable checkpoints: "an epoch from 1 to its current one"
   abbrev pub reached : ℕ → ℕ → Bool
   reached z e = leb 1 e && leb e (current z)
 
@@ -104,11 +108,9 @@ module _ (t : Trace) (rule : Rule) (cut : ℕ) where
     pub start : (z : ℕ) → usable z 1 ≡ true
     pub within : (z e : ℕ) → usable z e ≡ true → (1 ≤ e) × (e ≤ current z)
 
-  -- `failed z`: is process z one that failed
   module _ (usable : ℕ → ℕ → Bool) (failed : ℕ → Bool) where
-    -- "Failed zones may not stay."
     abbrev pub Permitted : (ℕ → ℕ) → Type 0
-    Permitted l = (z : ℕ) → z < t .procs → (usable z (l z) ≡ true) ⊎ ((l z ≡ 32) × (failed z ≡ false))
+    Permitted l = (z : ℕ) → z < t .procs → may usable failed z (l z) ≡ true
 
     -- "Lines are compared zone by zone. The engine's line is the greatest without a lost message."
     pub record Greatest (l : ℕ → ℕ) : Type 0 where
