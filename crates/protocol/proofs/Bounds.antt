@@ -11,7 +11,8 @@ use Rattle.trace.specs.Trace.{Trace}
 use Rattle.theory.specs.Events.{size, eventAt, sent, rcvd, sendOf}
 use Rattle.theory.specs.Epochs.{past, joined, notes, epochAt, phaseAt}
 use Rattle.theory.proofs.Base.{place-le}
-use Rattle.theory.proofs.Events.{Valid, partner}
+use Rattle.theory.proofs.WellFormed.{Valid}
+use Rattle.theory.proofs.Events.{partner}
 use Rattle.theory.proofs.Epochs.{epoch-is}
 use Rattle.protocol.proofs.Moves.{send-phase, recv-here, recv-phase, recv-phase-other, save-phase, save-phase-other}
 
@@ -54,4 +55,4 @@ module _ (t : Trace) (A : Valid t) where
   phase-most z x l = phases-most x l x (omega arith) z
 
   pub epoch-most : (z x : ℕ) → x ≤ size t → epochAt t past z x ≤ 31
-  epoch-most z x l = omega (arith, epoch-is t past x z, A .saves-few z x l)
+  epoch-most z x l = omega (arith, epoch-is t past x z, A .checkpoints-few z x l)

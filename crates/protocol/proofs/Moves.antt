@@ -12,10 +12,11 @@ use Rattle.trace.specs.declared.Event.the-variants.{Send, Recv, Save}
 use Rattle.trace.specs.Trace.{Trace, isSend, isRecv, isSave}
 use Rattle.words.proofs.Cases.{by-eq}
 use Rattle.theory.specs.Lists.{pick, cnt, put}
-use Rattle.theory.specs.Events.{size, eventAt, at, kind, sends, recvs, saves, sent, rcvd, sendOf, recvOf}
+use Rattle.theory.specs.Events.{size, eventAt, at, kind, sends, recvs, sent, rcvd, sendOf, recvOf}
 use Rattle.theory.specs.Epochs.{Notes, past, joined, note, notes, epochAt, phaseAt, phaseOf, loggedBy}
 use Rattle.theory.proofs.Base.{eqb-self, cnt-suc, cnt-skip}
-use Rattle.theory.proofs.Events.{Valid, partner, sendOf-at}
+use Rattle.theory.proofs.WellFormed.{Valid}
+use Rattle.theory.proofs.Events.{partner, sendOf-at}
 use Rattle.theory.proofs.Epochs.{phase-recv, phaseOf-send, logged-is}
 
 -- is this the channel

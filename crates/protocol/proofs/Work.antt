@@ -16,7 +16,8 @@ use Rattle.trace.specs.Trace.{Trace}
 use Rattle.theory.specs.Lists.{pick}
 use Rattle.theory.specs.Events.{size, eventAt, at, sends, recvs, sent, rcvd, sendOf, recvOf}
 use Rattle.theory.specs.Epochs.{past, joined, epochAt, phaseAt}
-use Rattle.theory.proofs.Events.{Valid, sendOf-at, sent-le}
+use Rattle.theory.proofs.WellFormed.{Valid}
+use Rattle.theory.proofs.Events.{sendOf-at, sent-le}
 use Rattle.protocol.specs.Filling.{orNew, sendWork, recvPhase, recvWork, saveWork, Filled, Working}
 use Rattle.protocol.proofs.Moves.{sent-more, sent-same, rcvd-more, rcvd-same, send-here, send-else, send-recvs, send-epoch, send-phase, recv-here, recv-else, recv-sends, recv-epoch, recv-phase-other, save-sends, save-recvs, save-epoch, save-epoch-other, save-phase, save-phase-other}
 use Rattle.protocol.proofs.Columns.{one-channel, no-message, Found, found, oldest-found, phase-is}
