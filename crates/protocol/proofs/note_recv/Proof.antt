@@ -1,0 +1,28 @@
+-- `protocol::note_recv` meets its contract: the stores themselves.
+use mathlib.Core.Path.{_≡_}
+use lib.ListN.{length-set}
+use native.Mathlib.Omega.{arith}
+use borrow.Author.Needs.{needs}
+use Rattle.protocol.proofs.note_recv.Statement.{statement}
+use Rattle.protocol.proofs.note_recv.Tie as tie
+
+joined-phase-requires : tie.Need-joined-phase-requires
+joined-phase-requires c κs =
+    let event-no = c .before .before .before .before .before .event-no in
+    let pre = c .before .before .before .before .before .before .before .before .before .pre in
+    rw (event-no .ensures .0) (pre .1 .3)
+
+slice-write-work-2 : tie.Need-slice-write-work-2
+slice-write-work-2 c = simp length-set (omega arith)
+
+returns : tie.Need-returns
+returns c =
+    let store = c .before .before .store in
+    let joined-phase = c .before .before .before .before .before .before .joined-phase in
+    let event-no = c .before .before .before .before .before .before .before .before .before .before .before .before .event-no in
+    (rw ((store .ensures), (joined-phase .ensures), (event-no .ensures .0)), rw ((joined-phase .ensures), (event-no .ensures .0)))
+
+pub note-recv-spec : {M : Type 1} → statement M
+note-recv-spec =
+    tie.close
+    (tie.spec (λ c. search needs) (λ c. search needs) (λ c. search needs) (λ c κs. search needs) (λ c. search needs) (λ c. search needs) (λ c. search needs) (λ c. search needs) (λ c. search needs) (λ c. search needs) (λ c. search needs) (λ c. search needs) (λ c. search needs) (λ c. search needs) (λ c. search needs) (λ c. search needs) (λ c. search needs) (λ c. search needs) joined-phase-requires (λ c. search needs) (λ c. search needs) (λ c. search needs) (λ c. search needs) (λ c. search needs) (λ c. search needs) (λ c κs. search needs) (λ c. search needs) (λ c. search needs) (λ c. search needs) (λ c. search needs) (λ c. search needs) (λ c. search needs) (λ c. search needs) (λ c. search needs) (λ c. search needs) slice-write-work-2 (λ c. search needs) (λ c. search needs) returns)
