@@ -71,7 +71,7 @@ module _ (p : ℕ) (es : List Event) (a : List ℕ) (i n : ℕ) where
             let r : n + 1 - (i + 1) ≡ n - i = omega arith in
             rw (q, r, add-one i, ← said, eq-eqb _ _ word, eq-eqb _ _ value, eq-eqb _ _ x)
 
--- each way out of `words_fit`
+-- each way out of `words_fit`, for p processes and n events: what each test said, and what it stands for
 module _ (a : List ℕ) (n : ℕ) where
   pub words-many : 2048 < n → false ≡ wordsTested a n
   unfolding wordsTested
@@ -82,19 +82,19 @@ module _ (a : List ℕ) (n : ℕ) where
     unfolding wordsTested
     words-head h = rw (le-leb n 2048 few, ← is-head, h)
 
-    module _ (heads : head ≡ true) (events : Bool) (is-events : events ≡ fitFrom (getD a 0 0) [] a 1 n) where
+    module _ (zeros : head ≡ true) (p : ℕ) (is-p : p ≡ getD a 0 0) (events : Bool) (is-events : events ≡ fitFrom p [] a 1 n) where
       pub words-events : events ≡ false → false ≡ wordsTested a n
       unfolding wordsTested
-      words-events h = rw (le-leb n 2048 few, ← is-head, heads, ← is-events, h)
+      words-events h = rw (le-leb n 2048 few, ← is-head, zeros, ← is-p, ← is-events, h)
 
-      module _ (fits : events ≡ true) (gap : Bool) (is-gap : gap ≡ zerosFrom a (17 + n) (2066 - (17 + n))) where
+      module _ (fit : events ≡ true) (gap : Bool) (is-gap : gap ≡ zerosFrom a (17 + n) (2066 - (17 + n))) where
         pub words-gap : gap ≡ false → false ≡ wordsTested a n
         unfolding wordsTested
-        words-gap h = rw (le-leb n 2048 few, ← is-head, heads, ← is-events, fits, ← is-gap, h)
+        words-gap h = rw (le-leb n 2048 few, ← is-head, zeros, ← is-p, ← is-events, fit, ← is-gap, h)
 
         pub words-tail : gap ≡ true → (tail : Bool) → tail ≡ zerosFrom a (2066 + n) (16384 - (2066 + n)) → tail ≡ wordsTested a n
         unfolding wordsTested
-        words-tail h tail is-tail = rw (le-leb n 2048 few, ← is-head, heads, ← is-events, fits, ← is-gap, h, ← is-tail)
+        words-tail h tail is-tail = rw (le-leb n 2048 few, ← is-head, zeros, ← is-p, ← is-events, fit, ← is-gap, h, ← is-tail)
 
 -- each way out of `holds_trace`
 module _ (a : List ℕ) where

@@ -8,6 +8,7 @@ use lib.ListN.{length, length-append}
 use Rattle.table.proofs.Turns.{events-end, events-word, events-value, events-fault, events-next}
 use Rattle.table.specs.Tested.{fitFrom}
 use Rattle.trace.specs.declared.Event.{Event}
+use Rattle.trace.specs.Fit.{faultOf}
 use Rattle.trace.specs.Tally.{Tally, Next}
 use Rattle.trace.proofs.Counting.{next-tally, none-tally}
 use borrow.Author.Needs.{needs}
@@ -15,7 +16,9 @@ use Rattle.table.proofs.events_fit.Statement.{statement}
 use Rattle.table.proofs.events_fit.Tie as tie
 
 abbrev Inv-loop : tie.InvT-loop
-Inv-loop area procs n counts₀ i₀ counts i = (es : List Event) × (length es + 1 ≡ i) × (i ≤ n + 1) × Tally counts es × (fitFrom procs es area i (n + 1 - i) ≡ fitFrom procs [] area 1 n)
+Inv-loop area procs n counts₀ i₀ counts i =
+    (es : List Event) × (length es + 1 ≡ i) × (i ≤ n + 1) × Tally counts es
+    × (fitFrom procs es area i (n + 1 - i) ≡ fitFrom procs [] area 1 n)
 
 abbrev μ-loop : tie.MeasureT-loop
 μ-loop area procs n counts₀ i₀ counts i = n + 1 - i
@@ -29,10 +32,10 @@ returns : tie.Need-returns Inv-loop μ-loop
 returns c =
     let loop-test = c .before .before .before .before .before .loop-test in
     let event = c .before .before .event in
-    let if1 = c .if1 in
     let word = c .before .word in
+    let if1 = c .if1 in
     let loop = c .before .before .before .before .before .before .loop in
-    sym (events-word _ _ _ _ _ _ (loop-test .taken) (event .ensures) (λ q. (if1 .taken) ((word .ensures) ∙ q))) ∙ (loop .inv .4)
+    sym (events-word _ _ _ _ _ _ (loop-test .taken) (event .ensures) (λ q. omega (arith, (word .ensures), (if1 .taken)))) ∙ (loop .inv .4)
 
 returns-2 : tie.Need-returns-2 Inv-loop μ-loop
 returns-2 c =
@@ -40,10 +43,10 @@ returns-2 c =
     let event = c .before .before .before .before .event in
     let word = c .before .before .before .word in
     let if1 = c .before .before .if1 in
-    let if2 = c .if2 in
     let value = c .before .value in
+    let if2 = c .if2 in
     let loop = c .before .before .before .before .before .before .before .before .loop in
-    sym (events-value _ _ _ _ _ _ (loop-test .taken) (event .ensures) (sym (word .ensures) ∙ (if1 .left)) (λ q. (if2 .taken) ((value .ensures) ∙ q))) ∙ (loop .inv .4)
+    sym (events-value _ _ _ _ _ _ (loop-test .taken) (event .ensures) (omega (arith, (word .ensures), (if1 .left))) (λ q. omega (arith, (value .ensures), (if2 .taken)))) ∙ (loop .inv .4)
 
 fault-requires : tie.Need-fault-requires Inv-loop μ-loop
 fault-requires c κs =
@@ -59,10 +62,10 @@ returns-3 c =
     let if1 = c .before .before .before .before .before .if1 in
     let value = c .before .before .before .before .value in
     let if2 = c .before .before .before .if2 in
-    let if3 = c .if3 in
     let fault = c .before .fault in
     let loop = c .before .before .before .before .before .before .before .before .before .before .before .loop in
-    sym (events-fault _ _ _ _ _ _ (loop-test .taken) (event .ensures) (sym (word .ensures) ∙ (if1 .left)) (sym (value .ensures) ∙ (if2 .left)) (λ q. (if3 .taken) ((fault .ensures) (loop .inv .0) (loop .inv .3) ∙ q))) ∙ (loop .inv .4)
+    let if3 = c .if3 in
+    sym (events-fault _ _ _ _ _ _ (loop-test .taken) (event .ensures) (omega (arith, (word .ensures), (if1 .left))) (omega (arith, (value .ensures), (if2 .left))) (λ q. omega (arith, (fault .ensures) (loop .inv .0) (loop .inv .3), (if3 .taken)))) ∙ (loop .inv .4)
 
 slice-aggregate-tally : tie.Need-slice-aggregate-tally Inv-loop μ-loop
 slice-aggregate-tally c =
@@ -77,7 +80,14 @@ tally-requires c κs =
     let loop-test = c .before .before .before .before .before .before .before .before .before .before .before .loop-test in
     let fault = c .before .before .fault in
     let if3 = c .before .if3 in
-    record { procs = (args .procs); events = (loop .inv .0); procs-most = (pre .0); events-few = omega (arith, pre, (loop .inv .1), (loop-test .taken)); tally = (loop .inv .3); fit = sym ((fault .ensures) (loop .inv .0) (loop .inv .3)) ∙ (if3 .left) }
+    record {
+      procs = args .procs;
+      events = loop .inv .0;
+      procs-most = pre .0;
+      events-few = omega (arith, pre, (loop .inv .1), (loop-test .taken));
+      tally = loop .inv .3;
+      fit = omega (arith, (fault .ensures) (loop .inv .0) (loop .inv .3), (if3 .left));
+    }
 
 loop-again : tie.Need-loop-again Inv-loop μ-loop
 loop-again c =
@@ -93,7 +103,13 @@ loop-again c =
     let if1 = c .before .before .before .before .before .before .before .before .if1 in
     let value = c .before .before .before .before .before .before .before .value in
     let if2 = c .before .before .before .before .before .before .if2 in
-    let f = sym ((fault .ensures) (loop .inv .0) (loop .inv .3)) ∙ (if3 .left) in ((loop .inv .0) ++ (event .result) ∷ [], rw (length-append, (loop .inv .1)), omega arith, rw (tally .ensures) (next-tally (args .procs) (loop .inv .0) _ (pre .0) (loop .inv .3) _ f), sym (events-next _ _ _ _ _ _ (loop-test .taken) (event .ensures) (sym (word .ensures) ∙ (if1 .left)) (sym (value .ensures) ∙ (if2 .left)) f) ∙ (loop .inv .4))
+    let f : faultOf (args .procs) (loop .inv .0) (event .result) ≡ 0 = omega (arith, (fault .ensures) (loop .inv .0) (loop .inv .3), (if3 .left)) in (
+      (loop .inv .0) ++ (event .result) ∷ [],
+      rw (length-append, (loop .inv .1)),
+      omega arith,
+      rw (tally .ensures) (next-tally (args .procs) (loop .inv .0) _ (pre .0) (loop .inv .3) _ f),
+      sym (events-next _ _ _ _ _ _ (loop-test .taken) (event .ensures) (omega (arith, (word .ensures), (if1 .left))) (omega (arith, (value .ensures), (if2 .left))) f) ∙ (loop .inv .4),
+    )
 
 returns-4 : tie.Need-returns-4 Inv-loop μ-loop
 returns-4 c =

@@ -25,23 +25,18 @@ cast-n c =
 returns-2 : tie.Need-returns-2
 returns-2 c =
     let if1 = c .before .before .before .if1 in
-    let if2 = c .if2 in
-    area-low _ (if1 .left) (if2 .taken) ∙ tested-holds _
+    area-low _ (if1 .left) (omega arith) ∙ tested-holds _
 
 returns-3 : tie.Need-returns-3
 returns-3 c =
     let if1 = c .before .before .before .before .if1 in
-    let if2 = c .before .if2 in
-    let if3 = c .if3 in
-    area-high _ (if1 .left) (if2 .left) (if3 .taken) ∙ tested-holds _
+    area-high _ (if1 .left) (omega arith) (omega arith) ∙ tested-holds _
 
 returns-4 : tie.Need-returns-4
 returns-4 c =
     let if1 = c .before .before .before .before .before .if1 in
-    let if2 = c .before .before .if2 in
-    let if3 = c .before .if3 in
     let words-fit = c .words-fit in
-    area-words _ (if1 .left) (if2 .left) (if3 .left) _ (words-fit .ensures) ∙ tested-holds _
+    area-words _ (if1 .left) (omega arith) (omega arith) _ (words-fit .ensures) ∙ tested-holds _
 
 pub holds-trace-spec : {M : Type 1} → statement M
 holds-trace-spec =
