@@ -90,7 +90,7 @@ module _ (t : Trace) (x : ℕ) (full : List ℕ) (F : Filled t x full) (A : Vali
 
   module _ (work : List ℕ) (W : Working t x work) where
     -- the channel's latest send has the number of messages sent so far
-    latest-number : (a b : ℕ) → getD full (6163 + sendOf t a b (sent t a b x)) 0 ≡ sent t a b x
+    pub latest-number : (a b : ℕ) → getD full (6163 + sendOf t a b (sent t a b x)) 0 ≡ sent t a b x
     latest-number a b =
         by-eq (sent t a b x) 0
         (λ z. rw (z, no-message t a b) (F .number-none))

@@ -1,5 +1,9 @@
+-- to be read first
+pub mod Claims
+-- how the columns are filled
 pub mod Moves
 pub mod Bounds
 pub mod Storing
 pub mod Columns
 pub mod Work
+pub mod Passes

@@ -2,7 +2,7 @@
 // that it is matched with, computed in one pass over the events. specs/Columns says what each column means; proofs/Claims that the
 // laws of a recorded run follow. No public function has a `requires`. Assumes nothing.
 ghost use mathlib.Core.Path.{_≡_};
-ghost use mathlib.Core.Bool.{true};
+ghost use mathlib.Core.Bool.{true, _&&_};
 ghost use Prim.Native.Nat.{ℕ, max, _+_, _*_, _≤_, _<_};
 ghost use lib.Dec.{ltb, eqb};
 ghost use lib.ListN.{length, getD, set};
@@ -10,7 +10,13 @@ ghost use Rattle.words.specs.Area.{areaWords};
 ghost use Rattle.trace.specs.declared.Event.the-variants.{Send, Recv, Save};
 ghost use Rattle.theory.specs.Epochs.{joined};
 ghost use Rattle.protocol.specs.Filling.{stored, orNew, sendFull, sendWork, recvPhase, recvFull, recvWork, saveFull, saveWork, noteFull, noteWork, oldestOf, Notable, Sized};
+ghost use Rattle.table.specs.Held.{held, holdsTrace};
+ghost use Rattle.protocol.specs.Columns.{Columns};
+ghost use Rattle.protocol.specs.Filling.{Filled, Working};
+use trace::EVENT_BASE;
 use trace::Event;
+use trace::VALUE_BASE;
+use words::AREA_WORDS;
 
 // Where the columns of the full table begin: the word of event e is at the base + e.
 pub const NUMBER_BASE: usize = 6163;
@@ -137,5 +143,69 @@ fn note(full: &mut [u32], work: &mut [u32], e: usize, event: Event)
         Event::Send { at, to, val: _ } => note_send(full, work, e, at as usize, to as usize),
         Event::Recv { at, from } => note_recv(full, work, e, at as usize, from as usize),
         Event::Save { at } => note_save(full, work, e, at as usize),
+    }
+}
+
+// Copies the first n words of an area.
+fn copy(area: &[u32], full: &mut [u32], n: usize)
+    requires { ⌜ (n ≤ length (now area)) × (n ≤ length (now full)) ⌝ }
+    ensures { λ _. ⌜ ((k : ℕ) → k < n → getD (now (full .exit)) k 0 ≡ getD (now (area .entry)) k 0) ⌝ }
+{
+    let mut i = 0;
+    while i < n {
+        full[i] = area[i];
+        i += 1;
+    }
+}
+
+// Every process begins with epoch 1 and phase 1.
+fn begin(work: &mut [u32])
+    requires { ⌜ 128 ≤ length (now work) ⌝ }
+    ensures first { λ _. ⌜ ((k : ℕ) → k < 128 → getD (now (work .exit)) k 0 ≡ 1) ⌝ }
+    ensures others { λ _. ⌜ ((k : ℕ) → 128 ≤ k → getD (now (work .exit)) k 0 ≡ getD (now (work .entry)) k 0) ⌝ }
+{
+    let mut i = 0;
+    while i < 128 {
+        work[i] = 1;
+        i += 1;
+    }
+}
+
+// Notes every event of the trace that an area holds.
+fn fill(area: &[u32], full: &mut [u32], work: &mut [u32])
+    requires { ⌜ (holdsTrace (now area) ≡ true) × Filled (held (now area)) 0 (now full) × Working (held (now area)) 0 (now work) ⌝ }
+    ensures { λ _. ⌜ Columns (held (now (area .entry))) (now (full .exit)) ⌝ }
+{
+    let n = area[1] as usize;
+    let mut e: usize = 0;
+    while e < n {
+        e += 1;
+        note(
+            full,
+            work,
+            e,
+            table::event(area[EVENT_BASE + e], area[VALUE_BASE + e]),
+        );
+    }
+}
+
+// The full table of the trace that an area holds, in a lent area of exactly 16,384 words; false where the area holds no trace, or
+// the lent one has another size.
+pub fn tabulate(area: &[u32], full: &mut [u32]) -> bool
+    ensures answer { λ r. ⌜ r ≡ (eqb (length (now (full .entry))) areaWords && holdsTrace (now (area .entry))) ⌝ }
+    ensures columns { λ r. ⌜ (r ≡ true → Columns (held (now (area .entry))) (now (full .exit))) ⌝ }
+{
+    if full.len() != AREA_WORDS {
+        return false;
+    }
+    if table::holds_trace(area) {
+        copy(area, full, NUMBER_BASE);
+        full[NUMBER_BASE] = 0;
+        let mut work = [0u32; WORK_WORDS];
+        begin(&mut work);
+        fill(area, full, &mut work);
+        true
+    } else {
+        false
     }
 }

@@ -1,0 +1,228 @@
+-- The pass over the events: where it begins, that each event keeps the tables right, and that they end as the full table's columns.
+use Prim.Native.Nat.{ℕ, zero, suc, _+_, _-_, _*_, _<_, _≤_}
+use mathlib.Core.Path.{_≡_, refl, sym, ap, _∙_}
+use mathlib.Core.Logic.{_≢_}
+use mathlib.Core.Bool.{Bool, true, false, _&&_}
+use mathlib.Core.List.{List, [], _∷_}
+use native.Mathlib.Omega.{arith}
+use lib.Dec.{ltb, leb, eqb}
+use lib.ListN.{length, getD, set, take, replicate, length-set, length-replicate, getD-replicate, List·getD-eq-default}
+use lib.Seq.{getD-take, getD-set-same, getD-set-other}
+use borrow.Author.Tests.{leb-true, le-leb, lt-leb, le-ltb}
+use Rattle.words.specs.Area.{areaWords, wordsFrom}
+use Rattle.words.proofs.Area.{getD-words}
+use Rattle.words.proofs.Cases.{by-eq, by-lt, and-left, and-right}
+use Rattle.trace.specs.declared.Event.{Event}
+use Rattle.trace.specs.declared.Event.the-variants.{Send, Recv, Save}
+use Rattle.trace.specs.Trace.{Trace}
+use Rattle.trace.specs.Fit.{allFit, wellFormed}
+use Rattle.trace.specs.Table.{tableWord}
+use Rattle.table.specs.Held.{heldEvent, heldEvents, held, holdsTrace}
+use Rattle.table.proofs.Places.{length-held}
+use Rattle.table.proofs.Holding.{trace-words, words-of}
+use Rattle.theory.specs.Lists.{pick, cnt, place}
+use Rattle.theory.specs.Events.{size, eventAt, at, kind, sends, recvs, sent, rcvd, sendOf, recvOf}
+use Rattle.theory.specs.Epochs.{past, notes, epochAt, phaseAt}
+use Rattle.theory.proofs.Base.{place-le, place-there, cnt-le, cnt-bound}
+use Rattle.theory.proofs.Events.{sends-is, partner}
+use Rattle.theory.proofs.WellFormed.{Valid, valid}
+use Rattle.protocol.specs.Columns.{Columns}
+use Rattle.protocol.specs.Filling.{noteFull, noteWork, Notable, Filled, Working, oldestOf}
+use Rattle.protocol.proofs.Moves.{send-here, send-at, recv-here, recv-at, save-at}
+use Rattle.protocol.proofs.Bounds.{sendOf-most, phase-most, epoch-most}
+use Rattle.protocol.proofs.Columns.{no-message, Found, found, oldest-is, oldest-found, send-filled, recv-filled, save-filled, latest-number}
+use Rattle.protocol.proofs.Work.{send-working, recv-working, save-working}
+
+-- ---- The trace that an area holds
+
+held-get : (a : List ℕ) (i n j : ℕ) (d : Event) → j < n → getD (heldEvents a i n) j d ≡ heldEvent a (i + j)
+unfolding heldEvents
+held-get a i zero j d h = absurd (let z : ⊥ = omega arith in z)
+held-get a i (suc n) zero d h = ap (heldEvent a) (omega arith)
+held-get a i (suc n) (suc j) d h = held-get a (suc i) n j d (omega arith) ∙ ap (heldEvent a) (omega arith)
+
+pub well-few : (t : Trace) → wellFormed t ≡ true → size t ≤ 2048
+unfolding wellFormed
+well-few t w =
+    let fits = allFit (t .procs) [] (t .events) in
+    let b = and-right (leb 2 (t .procs)) (leb (t .procs) 64 && (leb (size t) 2048 && fits)) w in
+    let c = and-right (leb (t .procs) 64) (leb (size t) 2048 && fits) b in
+    leb-true (size t) 2048 (and-left (leb (size t) 2048) fits c)
+
+module _ (a : List ℕ) (h : holdsTrace a ≡ true) where
+  facts : (16384 ≤ length a) × (wellFormed (held a) ≡ true) × (take 16384 a ≡ wordsFrom (tableWord (held a)) 0 16384)
+  facts = words-of a (held a) (trace-words a h)
+
+  pub held-long : 16384 ≤ length a
+  held-long = facts .0
+
+  pub held-formed : wellFormed (held a) ≡ true
+  held-formed = facts .1
+
+  pub held-valid : Valid (held a)
+  held-valid = valid (held a) (facts .1)
+
+  pub held-size : size (held a) ≡ getD a 1 0
+  unfolding held
+  held-size = length-held a 1 (getD a 1 0)
+
+  pub held-few : size (held a) ≤ 2048
+  held-few = well-few (held a) (facts .1)
+
+  pub held-word : (k : ℕ) → k < 16384 → getD a k 0 ≡ tableWord (held a) k
+  held-word k l =
+      sym (getD-take 16384 a k 0 l) ∙ ap (λ (w : List ℕ). getD w k 0) (facts .2) ∙ getD-words (tableWord (held a)) 0 16384 k l ∙ ap (tableWord (held a)) (omega arith)
+
+  -- event e + 1 is the one that its words say
+  pub held-event : (e : ℕ) → e < getD a 1 0 → eventAt (held a) (suc e) ≡ heldEvent a (suc e)
+  unfolding eventAt held
+  held-event e l = held-get a 1 (getD a 1 0) e _ l ∙ ap (heldEvent a) (omega arith)
+
+-- ---- Before the first event
+
+module _ (t : Trace) where
+  pub begin-filled : (full : List ℕ) → length full ≡ areaWords → ((k : ℕ) → k < 6163 → getD full k 0 ≡ tableWord t k) → getD full 6163 0 ≡ 0 → Filled t 0 full
+  begin-filled full l w z = record {
+    whole = l;
+    words = w;
+    number-none = z;
+    number-send = λ p q e s u h. absurd (let y : ⊥ = omega arith in y);
+    number-recv = λ p q e s u h. absurd (let y : ⊥ = omega arith in y);
+    epoch = λ e u h. absurd (let y : ⊥ = omega arith in y);
+    phase = λ e u h. absurd (let y : ⊥ = omega arith in y);
+    match-send = λ p q e s u h. absurd (let y : ⊥ = omega arith in y);
+    match-recv = λ p q e s u h. absurd (let y : ⊥ = omega arith in y);
+  }
+
+  no-sent : (p q : ℕ) → sent t p q 0 ≡ 0
+  unfolding sent cnt
+  no-sent p q = refl
+
+  no-rcvd : (p q : ℕ) → rcvd t p q 0 ≡ 0
+  unfolding rcvd cnt
+  no-rcvd p q = refl
+
+  first-epoch : (z : ℕ) → epochAt t past z 0 ≡ 1
+  unfolding notes
+  first-epoch z = refl
+
+  first-phase : (z : ℕ) → phaseAt t past z 0 ≡ 1
+  unfolding notes
+  first-phase z = refl
+
+  pub begin-working : (work : List ℕ) → length work ≡ 10369 → ((k : ℕ) → k < 128 → getD work k 0 ≡ 1) → ((k : ℕ) → 128 ≤ k → getD work k 0 ≡ 0) → Working t 0 work
+  begin-working work l one none = record {
+    whole = l;
+    epochs = λ z h. one z (omega arith) ∙ sym (first-epoch z);
+    phases = λ z h. one (64 + z) (omega arith) ∙ sym (first-phase z);
+    oldest = λ p q lp lq. none (128 + (64 * p + q)) (omega arith) ∙ rw (le-ltb (rcvd t p q 0) (sent t p q 0) (omega (arith, no-sent p q, no-rcvd p q)));
+    latest = λ p q lp lq. none (4224 + (64 * p + q)) (omega arith) ∙ rw (no-sent p q) (sym (no-message t p q));
+    next = λ p q d s u h. absurd (let y : ⊥ = omega arith in y);
+  }
+
+-- ---- One event
+
+module _ (t : Trace) (A : Valid t) (few : size t ≤ 2048) (x : ℕ) (l : suc x ≤ size t) (full work : List ℕ) (F : Filled t x full) (W : Working t x work) where
+  process-few : (z : ℕ) → at t (suc x) ≡ z → z < 64
+  process-few z e = omega (arith, e, A .process-lt (suc x) (omega arith) l, A .few)
+
+  receiver-few : (a b v : ℕ) → eventAt t (suc x) ≡ Send a b v → b < 64
+  receiver-few a b v e = omega (arith, A .peer-lt (suc x) b (omega arith) l ((sends-is t a b (suc x) (send-here t x a b v e)) .1), A .few)
+
+  sender-few : (a b : ℕ) → eventAt t (suc x) ≡ Recv a b → b < 64
+  sender-few a b e =
+      let p = partner t (A .causal) b a (suc x) (recv-here t x a b e) (omega arith) l in
+      omega (arith, (sends-is t b a (p .0) (p .3)) .0, A .process-lt (p .0) (p .1) (omega (arith, p .2)), A .few)
+
+  sent-most : (p q : ℕ) → sent t p q x ≤ x
+  unfolding sent
+  sent-most p q = cnt-bound (sends t p q) x
+
+  pub notable : (v : Event) → eventAt t (suc x) ≡ v → Notable full work v
+  notable (Send a b v) e =
+      let la = process-few a (send-at t x a b v e) in
+      let lb = receiver-few a b v e in
+      let d = W .latest a b la lb in
+      (la, lb, rw d (omega (arith, sendOf-most t A a b (sent t a b x))), rw (d, latest-number t x full F A few l work W a b) (omega (arith, sent-most a b)))
+  notable (Recv a b) e =
+      let la = process-few a (recv-at t x a b e) in
+      let lb = sender-few a b e in
+      let d = oldest-is t x full F A few l work W a b e la lb in
+      let f = oldest-found t x full F A few l work W a b e la lb in (
+        la,
+        lb,
+        rw d (omega (arith, f .by)),
+        rw (d, F .phase (sendOf t b a (rcvd t b a (suc x))) (f .later) (f .by))
+            (omega (arith, f .by, phase-most t A (at t (sendOf t b a (rcvd t b a (suc x)))) (sendOf t b a (rcvd t b a (suc x))) (omega (arith, f .by)))),
+      )
+  notable (Save a) e =
+      let la = process-few a (save-at t x a e) in
+      (la, rw (W .epochs a la) (omega (arith, epoch-most t A a x (omega arith))), rw (W .phases a la) (omega (arith, phase-most t A a x (omega arith))))
+
+  pub next-filled : (v : Event) → eventAt t (suc x) ≡ v → Filled t (suc x) (noteFull full work (suc x) v)
+  next-filled (Send a b v) e = send-filled t x full F A few l work W a b v e (process-few a (send-at t x a b v e)) (receiver-few a b v e)
+  next-filled (Recv a b) e =
+      let la = process-few a (recv-at t x a b e) in
+      let lb = sender-few a b e in
+      rw (oldest-is t x full F A few l work W a b e la lb) (recv-filled t x full F A few l work W a b e la lb)
+  next-filled (Save a) e = save-filled t x full F A few l work W a e (process-few a (save-at t x a e))
+
+  pub next-working : (v : Event) → eventAt t (suc x) ≡ v → Working t (suc x) (noteWork full work (suc x) v)
+  next-working (Send a b v) e = send-working t x work W A few l a b v e (process-few a (send-at t x a b v e)) (receiver-few a b v e)
+  next-working (Recv a b) e =
+      let la = process-few a (recv-at t x a b e) in
+      let lb = sender-few a b e in
+      rw (oldest-is t x full F A few l work W a b e la lb) (recv-working t x work W A few l full F a b e la lb)
+  next-working (Save a) e = save-working t x work W A few l a e (process-few a (save-at t x a e))
+
+-- ---- After the last event
+
+-- a message that is never received has no receive
+never : (t : Trace) (p q k : ℕ) → rcvd t p q (size t) < k → recvOf t p q k ≡ 0
+unfolding recvOf rcvd
+never t p q k h =
+    by-eq (place (recvs t p q) k (size t)) 0 (λ z. z)
+    (λ n. let r = place-there (recvs t p q) k (size t) (omega arith) in
+    absurd (let y : ⊥ = omega (arith, r .1, cnt-le (recvs t p q) (place (recvs t p q) k (size t)) (size t) (place-le (recvs t p q) k (size t))) in y))
+
+pub filled-columns : (t : Trace) (full : List ℕ) → Filled t (size t) full → Columns t full
+filled-columns t full F = record {
+  whole = F .whole;
+  words = F .words;
+  number-send = F .number-send;
+  number-recv = F .number-recv;
+  epoch = F .epoch;
+  phase = F .phase;
+  match-send = λ p q e s u h. F .match-send p q e s u h ∙ by-lt (rcvd t p q (size t)) (sent t p q e)
+      (λ n. rw (lt-leb (sent t p q e) (rcvd t p q (size t)) n) (sym (never t p q (sent t p q e) n)))
+      (λ n. rw (le-leb (sent t p q e) (rcvd t p q (size t)) n));
+  match-recv = F .match-recv;
+}
+
+-- ---- Loops over places
+
+-- one place more by a rule
+pub one-more : (f : ℕ → ℕ) (l : List ℕ) (i : ℕ) → i < length l → ((k : ℕ) → k < i → getD l k 0 ≡ f k) → (k : ℕ) → k < i + 1 → getD (set l i (f i)) k 0 ≡ f k
+one-more f l i h below k q =
+    by-eq k i
+    (λ e. rw e (getD-set-same l i (f i) 0 h))
+    (λ n. getD-set-other l i k (f i) 0 n ∙ below k (omega arith))
+
+-- ---- `tabulate`
+
+pub copied-filled : (a full : List ℕ) → holdsTrace a ≡ true → length full ≡ areaWords → ((k : ℕ) → k < 6163 → getD full k 0 ≡ getD a k 0)
+    → Filled (held a) 0 (set full 6163 0)
+copied-filled a full h l c =
+    begin-filled (held a) (set full 6163 0) (simp length-set l)
+    (λ k q. getD-set-other full 6163 k 0 0 (λ z. omega arith) ∙ c k q ∙ held-word a h k (omega arith))
+    (getD-set-same full 6163 0 0 (omega arith))
+
+zero-word : (n k : ℕ) → _≡_ {A = ℕ} (getD (replicate n 0) k 0) 0
+zero-word n k =
+    by-lt k n
+    (λ h. getD-replicate {A = ℕ} n k 0 0 h)
+    (λ h. List·getD-eq-default {A = ℕ} (replicate n 0) 0 {n = k} (rw (length-replicate {A = ℕ} n 0) h))
+
+pub begun-working : (t : Trace) (work : List ℕ) → length work ≡ 10369 → ((k : ℕ) → k < 128 → getD work k 0 ≡ 1)
+    → ((k : ℕ) → 128 ≤ k → getD work k 0 ≡ getD (replicate 10369 0) k 0) → Working t 0 work
+begun-working t work l one rest = begin-working t work l one (λ k h. rest k h ∙ zero-word 10369 k)

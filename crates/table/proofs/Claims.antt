@@ -1,0 +1,56 @@
+-- What the check of a table area promises, over definitions alone: each claim under the sentence that it stands for.
+use Prim.Native.Nat.{ℕ, _+_, _<_, _≤_}
+use mathlib.Core.Path.{_≡_, refl, sym, ap, subst, _∙_}
+use mathlib.Core.Logic.{_↔_}
+use mathlib.Core.List.{List, [], _∷_, _++_}
+use mathlib.Core.Bool.{Bool, true, false}
+use mathlib.Core.Option.{Option, none, some}
+use lib.ListN.{length, getD, take, drop, replicate}
+use Rattle.words.specs.Area.{areaWords, wordsFrom}
+use Rattle.trace.specs.Trace.{Trace}
+use Rattle.trace.specs.Fit.{wellFormed}
+use Rattle.trace.specs.Table.{tableWord}
+use Rattle.reader.specs.Verdict.{accepted, verdict}
+use Rattle.reader.specs.Answer.{readArea}
+use Rattle.reader.specs.Render.{render}
+use Rattle.reader.proofs.Claims.{accepted-fit, fit-accepted}
+use Rattle.table.specs.Held.{held, holdsTrace, heldTrace}
+use Rattle.table.proofs.Holding.{words-of, held-of, told, trace-words, length-words-area, read-words, read-length, read-same, not-holding}
+
+-- An area holds a trace exactly if it has 16,384 words, the trace is well formed, and the first 16,384 words are those of the trace.
+pub held-iff : (a : List ℕ) (t : Trace)
+    → (heldTrace a ≡ some t) ↔ ((areaWords ≤ length a) × (wellFormed t ≡ true) × (take areaWords a ≡ wordsFrom (tableWord t) 0 areaWords))
+held-iff a t = (λ h. words-of a t h, λ h. held-of a t (h .0) (h .1) (h .2))
+
+-- "reading .. leaves there": after a text is accepted, the area holds the trace that it was accepted as.
+pub read-held : (text a : List ℕ) (t : Trace) → verdict text ≡ accepted t → areaWords ≤ length a → heldTrace (readArea text a) ≡ some t
+read-held text a t e l = held-iff (readArea text a) t .1 (rw (read-length text a l) l, accepted-fit text t e, read-words text a t e l)
+
+-- 13: the area holds a trace exactly if its first 16,384 words are what reading some accepted trace leaves there, so that the
+-- reading would change nothing.
+pub check-13 : (a : List ℕ)
+    → (holdsTrace a ≡ true) ↔ ((text : List ℕ) × (t : Trace) × (verdict text ≡ accepted t) × (areaWords ≤ length a) × (readArea text a ≡ a))
+check-13 a = (to, from)
+  where
+    to : holdsTrace a ≡ true → (text : List ℕ) × (t : Trace) × (verdict text ≡ accepted t) × (areaWords ≤ length a) × (readArea text a ≡ a)
+    to h =
+        let (size, fit, words) = held-iff a (held a) .0 (trace-words a h) in
+        let e = fit-accepted (held a) fit in
+        (render (held a), held a, e, size, read-same (render (held a)) a (held a) e size words)
+
+    from : (text : List ℕ) × (t : Trace) × (verdict text ≡ accepted t) × (areaWords ≤ length a) × (readArea text a ≡ a) → holdsTrace a ≡ true
+    from (text, t, e, size, same) = told a t (subst (λ (x : List ℕ). heldTrace x ≡ some t) same (read-held text a t e size)) .0
+
+-- The zero area is no trace's area.
+pub zero-refused : (a : List ℕ) → take areaWords a ≡ replicate areaWords 0 → (holdsTrace a ≡ false) × (heldTrace a ≡ none)
+zero-refused a z = not-holding a z
+
+-- "Equal traces have equal areas", and no two traces have one: well-formed traces with the same words are equal.
+pub one-trace : (s t : Trace) → wellFormed s ≡ true → wellFormed t ≡ true
+    → wordsFrom (tableWord s) 0 areaWords ≡ wordsFrom (tableWord t) 0 areaWords → s ≡ t
+one-trace s t v w e =
+    let x = wordsFrom (tableWord s) 0 areaWords in
+    let (size, all) = length-words-area (tableWord s) in
+    let p : heldTrace x ≡ some s = held-iff x s .1 (size, v, all) in
+    let q : heldTrace x ≡ some t = held-iff x t .1 (size, w, all ∙ e) in
+    cc

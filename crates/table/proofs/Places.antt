@@ -1,0 +1,130 @@
+-- The words of a trace by their places, those of the trace that an area says, and the event that a fit event's words say.
+use Prim.Native.Nat.{ℕ, zero, suc, _+_, _-_, _*_, _/_, _%_, _<_, _≤_}
+use mathlib.Core.Path.{_≡_, refl, sym, ap, _∙_}
+use mathlib.Core.List.{List, [], _∷_, _++_, map}
+use mathlib.Core.Bool.{Bool, true, false}
+use native.Mathlib.Omega.{arith}
+use lib.Dec.{leb, eqb}
+use lib.ListN.{length, getD, length-map, List·getD-eq-default}
+use borrow.Author.Tests.{leb-true, le-leb, lt-leb, eqb-true, eq-eqb, ne-eqb}
+use Rattle.words.proofs.Cases.{by-eq, and-left, and-right}
+use Rattle.trace.specs.declared.Event.{Event}
+use Rattle.trace.specs.declared.Event.the-variants.{Send, Recv, Save}
+use Rattle.trace.specs.Trace.{Trace}
+use Rattle.trace.specs.Fit.{faultOf, valueFits, allFit}
+use Rattle.trace.specs.Table.{wordOf, valueWord, tableWord}
+use Rattle.trace.proofs.Faults.{send-fit, recv-fit, save-fit}
+use Rattle.table.specs.Held.{eventOf, heldEvent, heldEvents, held}
+use Rattle.table.proofs.Turns.{event-send, event-recv, event-save}
+
+module _ (t : Trace) where
+  pub word-procs : tableWord t 0 ≡ t .procs
+  unfolding tableWord
+  word-procs = refl
+
+  pub word-count : tableWord t 1 ≡ length (t .events)
+  unfolding tableWord
+  word-count = refl
+
+  pub word-head : (k : ℕ) → 2 ≤ k → k ≤ 16 → tableWord t k ≡ 0
+  unfolding tableWord
+  word-head k l h = rw (ne-eqb k 0 (λ q. omega arith), ne-eqb k 1 (λ q. omega arith), le-leb k 16 h)
+
+  -- the two columns, by the place after their first
+  pub word-event : (j k : ℕ) → k ≡ 17 + j → k ≤ 2065 → tableWord t k ≡ getD (map wordOf (t .events)) j 0
+  unfolding tableWord
+  word-event j k e h =
+      let q : k - 17 ≡ j = omega arith in
+      rw (ne-eqb k 0 (λ z. omega arith), ne-eqb k 1 (λ z. omega arith), lt-leb k 16 (omega arith), le-leb k 2065 h, q)
+
+  pub word-value : (j k : ℕ) → k ≡ 2066 + j → tableWord t k ≡ getD (map valueWord (t .events)) j 0
+  unfolding tableWord
+  word-value j k e =
+      let q : k - 2066 ≡ j = omega arith in
+      rw (ne-eqb k 0 (λ z. omega arith), ne-eqb k 1 (λ z. omega arith), lt-leb k 16 (omega arith), lt-leb k 2065 (omega arith), q)
+
+-- past the last event a column is 0
+past : (f : Event → ℕ) (es : List Event) (j : ℕ) → length es ≤ j → getD (map f es) j 0 ≡ 0
+past f es j h = List·getD-eq-default (map f es) 0 {n = j} (rw (length-map es f) h)
+
+pub length-held : (a : List ℕ) (i n : ℕ) → length (heldEvents a i n) ≡ n
+unfolding heldEvents
+length-held a i zero = refl
+length-held a i (suc n) = ap suc (length-held a (suc i) n)
+
+held-plane : (f : Event → ℕ) (a : List ℕ) (i n j k : ℕ) → k ≡ i + j → j < n → getD (map f (heldEvents a i n)) j 0 ≡ f (heldEvent a k)
+unfolding heldEvents
+held-plane f a i zero j k e h = absurd (let z : ⊥ = omega arith in z)
+held-plane f a i (suc n) zero k e h = ap (λ (x : ℕ). f (heldEvent a x)) (omega arith)
+held-plane f a i (suc n) (suc j) k e h = held-plane f a (suc i) n j k (omega arith) (omega arith)
+
+-- the words of the trace that an area says
+module _ (a : List ℕ) where
+  pub said-event : (i : ℕ) → 1 ≤ i → i ≤ getD a 1 0 → i ≤ 2048 → tableWord (held a) (16 + i) ≡ wordOf (heldEvent a i)
+  unfolding held
+  said-event i l h few = word-event (held a) (i - 1) (16 + i) (omega arith) (omega arith) ∙ held-plane wordOf a 1 (getD a 1 0) (i - 1) i (omega arith) (omega arith)
+
+  pub said-value : (i : ℕ) → 1 ≤ i → i ≤ getD a 1 0 → tableWord (held a) (2065 + i) ≡ valueWord (heldEvent a i)
+  unfolding held
+  said-value i l h = word-value (held a) (i - 1) (2065 + i) (omega arith) ∙ held-plane valueWord a 1 (getD a 1 0) (i - 1) i (omega arith) (omega arith)
+
+  pub said-gap : (k : ℕ) → 17 + getD a 1 0 ≤ k → k ≤ 2065 → tableWord (held a) k ≡ 0
+  unfolding held
+  said-gap k l h =
+      word-event (held a) (k - 17) k (omega arith) h
+      ∙ past wordOf (heldEvents a 1 (getD a 1 0)) (k - 17) (rw (length-held a 1 (getD a 1 0)) (omega arith))
+
+  pub said-tail : (k : ℕ) → 2066 + getD a 1 0 ≤ k → tableWord (held a) k ≡ 0
+  unfolding held
+  said-tail k l =
+      word-value (held a) (k - 2066) k (omega arith)
+      ∙ past valueWord (heldEvents a 1 (getD a 1 0)) (k - 2066) (rw (length-held a 1 (getD a 1 0)) (omega arith))
+
+-- the process, the peer and the kind of a word
+module _ (at peer kind w : ℕ) (la : at < 64) (lp : peer < 64) (e : w ≡ at % 64 + 64 * (peer % 64) + 4096 * kind) where
+  word-at : w % 64 ≡ at
+  word-at = omega arith
+
+  word-peer : w / 64 % 64 ≡ peer
+  word-peer = let q : w / 64 ≡ peer + 64 * kind = omega arith in rw q (omega arith)
+
+  word-kind : w / 4096 ≡ kind
+  word-kind = omega arith
+
+-- a fit event is the one that its words say
+event-back : (n : ℕ) (before : List Event) (e : Event) → n ≤ 64 → faultOf n before e ≡ 0 → valueFits e ≡ true → eventOf (wordOf e) (valueWord e) ≡ e
+event-back n before (Send at to val) r z v =
+    let f = send-fit n before at to val z in
+    let small : val ≤ 4294967295 = leb-true val 4294967295 v in
+    let w = at % 64 + 64 * (to % 64) + 4096 in
+    let value : val % 4294967296 ≡ val = omega arith in
+    sym (event-send w (val % 4294967296) (word-kind at to 1 w (omega arith) (omega arith) refl))
+    ∙ rw (word-at at to 1 w (omega arith) (omega arith) refl, word-peer at to 1 w (omega arith) (omega arith) refl, value)
+event-back n before (Recv at from) r z v =
+    let f = recv-fit n before at from z in
+    let w = at % 64 + 64 * (from % 64) + 8192 in
+    let kind = word-kind at from 2 w (omega arith) (omega arith) refl in
+    sym (event-recv w 0 (λ k. omega arith) kind)
+    ∙ rw (word-at at from 2 w (omega arith) (omega arith) refl, word-peer at from 2 w (omega arith) (omega arith) refl)
+event-back n before (Save at) r z v =
+    let f = save-fit n before at z in
+    let w = at % 64 + 12288 in
+    let p : w % 64 ≡ at = omega arith in
+    sym (event-save w 0 (λ k. omega arith) (λ k. omega arith)) ∙ rw p
+
+-- fit events are those that an area with their words says
+pub events-back : (n : ℕ) (before : List Event) (a : List ℕ) (i : ℕ) (es : List Event) → n ≤ 64 → allFit n before es ≡ true
+    → ((j k : ℕ) → k ≡ i + j → j < length es → getD a (16 + k) 0 ≡ getD (map wordOf es) j 0)
+    → ((j k : ℕ) → k ≡ i + j → j < length es → getD a (2065 + k) 0 ≡ getD (map valueWord es) j 0)
+    → heldEvents a i (length es) ≡ es
+unfolding heldEvents allFit
+events-back n before a i [] r f words values = refl
+events-back n before a i (e ∷ es) r f words values =
+    let fit = eqb-true (faultOf n before e) 0 (and-left _ _ f) in
+    let rest = and-right (eqb (faultOf n before e) 0) _ f in
+    let x : eventOf (getD a (16 + i) 0) (getD a (2065 + i) 0) ≡ e =
+    rw (words 0 i (omega arith) (omega arith), values 0 i (omega arith) (omega arith)) (event-back n before e r fit (and-left (valueFits e) _ rest)) in
+    let y : heldEvents a (suc i) (length es) ≡ es =
+    events-back n (before ++ e ∷ []) a (suc i) es r (and-right (valueFits e) _ rest)
+    (λ j k q l. words (suc j) k (omega arith) (omega arith)) (λ j k q l. values (suc j) k (omega arith) (omega arith)) in
+    rw (x, y)

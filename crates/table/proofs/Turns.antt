@@ -1,0 +1,117 @@
+-- Laws of the tests: one for each turn and each way out of the functions that test an area's words.
+use Prim.Native.Nat.{ℕ, zero, suc, _+_, _-_, _/_, _%_, _<_, _≤_}
+use mathlib.Core.Path.{_≡_, refl, sym, ap, _∙_}
+use mathlib.Core.List.{List, [], _∷_, _++_}
+use mathlib.Core.Bool.{Bool, true, false, _&&_}
+use native.Mathlib.Omega.{arith}
+use native.Mathlib.Numerals.{add-one}
+use lib.Dec.{leb, eqb}
+use lib.ListN.{length, getD}
+use borrow.Author.Tests.{le-leb, lt-leb, eq-eqb, ne-eqb}
+use Rattle.trace.specs.declared.Event.{Event}
+use Rattle.trace.specs.declared.Event.the-variants.{Send, Recv, Save}
+use Rattle.trace.specs.Fit.{faultOf}
+use Rattle.trace.specs.Table.{wordOf, valueWord}
+use Rattle.table.specs.Held.{eventOf}
+use Rattle.table.specs.Tested.{zerosFrom, fitFrom, wordsTested, tested}
+
+-- each way out of `event`
+module _ (w v : ℕ) where
+  pub event-send : w / 4096 ≡ 1 → Send (w % 64) (w / 64 % 64) v ≡ eventOf w v
+  unfolding eventOf
+  event-send h = rw (eq-eqb (w / 4096) 1 h)
+
+  pub event-recv : (w / 4096 ≡ 1 → ⊥) → w / 4096 ≡ 2 → Recv (w % 64) (w / 64 % 64) ≡ eventOf w v
+  unfolding eventOf
+  event-recv n h = rw (ne-eqb (w / 4096) 1 n, eq-eqb (w / 4096) 2 h)
+
+  pub event-save : (w / 4096 ≡ 1 → ⊥) → (w / 4096 ≡ 2 → ⊥) → Save (w % 64) ≡ eventOf w v
+  unfolding eventOf
+  event-save n m = rw (ne-eqb (w / 4096) 1 n, ne-eqb (w / 4096) 2 m)
+
+-- the turns of `zeros`, at place i
+module _ (a : List ℕ) (i to : ℕ) where
+  pub zeros-end : to ≤ i → zerosFrom a i (to - i) ≡ true
+  unfolding zerosFrom
+  zeros-end h = let e : to - i ≡ 0 = omega arith in rw e
+
+  pub zeros-other : i < to → (getD a i 0 ≡ 0 → ⊥) → zerosFrom a i (to - i) ≡ false
+  unfolding zerosFrom
+  zeros-other l n = let e : to - i ≡ suc (to - suc i) = omega arith in rw (e, ne-eqb (getD a i 0) 0 n)
+
+  pub zeros-next : i < to → getD a i 0 ≡ 0 → zerosFrom a i (to - i) ≡ zerosFrom a (i + 1) (to - (i + 1))
+  unfolding zerosFrom
+  zeros-next l z = let e : to - i ≡ suc (to - suc i) = omega arith in rw (add-one i, e, eq-eqb (getD a i 0) 0 z)
+
+-- the turns of `events_fit`, at event number i: w and v are its word and value, e the event that they say
+module _ (p : ℕ) (es : List Event) (a : List ℕ) (i n : ℕ) where
+  pub events-end : n < i → fitFrom p es a i (n + 1 - i) ≡ true
+  unfolding fitFrom
+  events-end h = let q : n + 1 - i ≡ 0 = omega arith in rw q
+
+  module _ (e : Event) (l : i ≤ n) (said : e ≡ eventOf (getD a (16 + i) 0) (getD a (2065 + i) 0)) where
+    pub events-word : (wordOf e ≡ getD a (16 + i) 0 → ⊥) → fitFrom p es a i (n + 1 - i) ≡ false
+    unfolding fitFrom
+    events-word x = let q : n + 1 - i ≡ suc (n - i) = omega arith in rw (q, ← said, ne-eqb _ _ x)
+
+    module _ (word : wordOf e ≡ getD a (16 + i) 0) where
+      pub events-value : (valueWord e ≡ getD a (2065 + i) 0 → ⊥) → fitFrom p es a i (n + 1 - i) ≡ false
+      unfolding fitFrom
+      events-value x = let q : n + 1 - i ≡ suc (n - i) = omega arith in rw (q, ← said, eq-eqb _ _ word, ne-eqb _ _ x)
+
+      module _ (value : valueWord e ≡ getD a (2065 + i) 0) where
+        pub events-fault : (faultOf p es e ≡ 0 → ⊥) → fitFrom p es a i (n + 1 - i) ≡ false
+        unfolding fitFrom
+        events-fault x = let q : n + 1 - i ≡ suc (n - i) = omega arith in rw (q, ← said, eq-eqb _ _ word, eq-eqb _ _ value, ne-eqb _ _ x)
+
+        pub events-next : faultOf p es e ≡ 0 → fitFrom p es a i (n + 1 - i) ≡ fitFrom p (es ++ e ∷ []) a (i + 1) (n + 1 - (i + 1))
+        unfolding fitFrom
+        events-next x =
+            let q : n + 1 - i ≡ suc (n - i) = omega arith in
+            let r : n + 1 - (i + 1) ≡ n - i = omega arith in
+            rw (q, r, add-one i, ← said, eq-eqb _ _ word, eq-eqb _ _ value, eq-eqb _ _ x)
+
+-- each way out of `words_fit`, for p processes and n events: what each test said, and what it stands for
+module _ (a : List ℕ) (n : ℕ) where
+  pub words-many : 2048 < n → false ≡ wordsTested a n
+  unfolding wordsTested
+  words-many h = rw (lt-leb n 2048 h)
+
+  module _ (few : n ≤ 2048) (head : Bool) (is-head : head ≡ zerosFrom a 2 15) where
+    pub words-head : head ≡ false → false ≡ wordsTested a n
+    unfolding wordsTested
+    words-head h = rw (le-leb n 2048 few, ← is-head, h)
+
+    module _ (zeros : head ≡ true) (p : ℕ) (is-p : p ≡ getD a 0 0) (events : Bool) (is-events : events ≡ fitFrom p [] a 1 n) where
+      pub words-events : events ≡ false → false ≡ wordsTested a n
+      unfolding wordsTested
+      words-events h = rw (le-leb n 2048 few, ← is-head, zeros, ← is-p, ← is-events, h)
+
+      module _ (fit : events ≡ true) (gap : Bool) (is-gap : gap ≡ zerosFrom a (17 + n) (2066 - (17 + n))) where
+        pub words-gap : gap ≡ false → false ≡ wordsTested a n
+        unfolding wordsTested
+        words-gap h = rw (le-leb n 2048 few, ← is-head, zeros, ← is-p, ← is-events, fit, ← is-gap, h)
+
+        pub words-tail : gap ≡ true → (tail : Bool) → tail ≡ zerosFrom a (2066 + n) (16384 - (2066 + n)) → tail ≡ wordsTested a n
+        unfolding wordsTested
+        words-tail h tail is-tail = rw (le-leb n 2048 few, ← is-head, zeros, ← is-p, ← is-events, fit, ← is-gap, h, ← is-tail)
+
+-- each way out of `holds_trace`
+module _ (a : List ℕ) where
+  pub area-short : length a < 16384 → false ≡ tested a
+  unfolding tested
+  area-short h = rw (lt-leb 16384 (length a) h)
+
+  module _ (size : 16384 ≤ length a) where
+    pub area-low : getD a 0 0 < 2 → false ≡ tested a
+    unfolding tested
+    area-low h = rw (le-leb 16384 (length a) size, lt-leb 2 (getD a 0 0) h)
+
+    module _ (least : 2 ≤ getD a 0 0) where
+      pub area-high : 64 < getD a 0 0 → false ≡ tested a
+      unfolding tested
+      area-high h = rw (le-leb 16384 (length a) size, le-leb 2 (getD a 0 0) least, lt-leb (getD a 0 0) 64 h)
+
+      pub area-words : getD a 0 0 ≤ 64 → (r : Bool) → r ≡ wordsTested a (getD a 1 0) → r ≡ tested a
+      unfolding tested
+      area-words h r e = rw (le-leb 16384 (length a) size, le-leb 2 (getD a 0 0) least, le-leb (getD a 0 0) 64 h, ← e)

@@ -1,0 +1,56 @@
+-- The trace that a table area holds (document 01, 13: "the first 16,384 words of the table area aren't what reading some accepted
+-- trace leaves there"). proofs/Claims states that this is what `holdsTrace` refuses.
+use Prim.Native.Nat.{ℕ, zero, suc, _+_, _/_, _%_}
+use mathlib.Core.List.{List, [], _∷_}
+use mathlib.Core.Bool.{Bool, true, false, _&&_}
+use mathlib.Core.Option.{Option, none, some}
+use lib.ListN.{length, getD}
+use lib.Dec.{leb, eqb}
+use Rattle.words.specs.Area.{areaWords}
+use Rattle.trace.specs.declared.Event.{Event}
+use Rattle.trace.specs.declared.Event.the-variants.{Send, Recv, Save}
+use Rattle.trace.specs.Trace.{Trace}
+use Rattle.trace.specs.Fit.{wellFormed}
+use Rattle.trace.specs.Table.{eventBase, valueBase, tableWord}
+
+abbrev pub pickEvent : Bool → Event → Event → Event
+pickEvent true a b = a
+pickEvent false a b = b
+
+-- The event that a word and a value say: the word's kind is 1 for a send, 2 for a receive; every other word is read as a save's.
+-- A word that is no event's is told by its not being the word of the event read from it.
+unfoldable pub eventOf : ℕ → ℕ → Event
+eventOf w v =
+    pickEvent (eqb (w / 4096) 1) (Send (w % 64) (w / 64 % 64) v)
+    (pickEvent (eqb (w / 4096) 2) (Recv (w % 64) (w / 64 % 64))
+    (Save (w % 64)))
+
+-- event number i of an area
+abbrev pub heldEvent : List ℕ → ℕ → Event
+heldEvent a i = eventOf (getD a (eventBase + i) 0) (getD a (valueBase + i) 0)
+
+-- n events of an area, from event number i on
+unfoldable pub heldEvents : List ℕ → ℕ → ℕ → List Event
+heldEvents a i zero = []
+heldEvents a i (suc n) = heldEvent a i ∷ heldEvents a (suc i) n
+
+-- the trace that an area's words say
+unfoldable pub held : List ℕ → Trace
+held a = record { procs = getD a 0 0; events = heldEvents a 1 (getD a 1 0) }
+
+-- the first n words of an area are by a rule
+unfoldable pub wordsAre : (ℕ → ℕ) → ℕ → List ℕ → Bool
+wordsAre f zero a = true
+wordsAre f (suc n) a = wordsAre f n a && eqb (getD a n 0) (f n)
+
+-- an area holds a trace: it has 16,384 words, the trace that they say is well formed, and each is the word of this trace
+unfoldable pub holdsTrace : List ℕ → Bool
+holdsTrace a = leb areaWords (length a) && (wellFormed (held a) && wordsAre (tableWord (held a)) areaWords a)
+
+abbrev pub heldIf : Bool → Trace → Option Trace
+heldIf true t = some t
+heldIf false t = none
+
+-- the trace that an area holds
+unfoldable pub heldTrace : List ℕ → Option Trace
+heldTrace a = heldIf (holdsTrace a) (held a)

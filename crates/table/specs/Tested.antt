@@ -1,0 +1,37 @@
+-- What the code tests, one word after another. No public contract cites these.
+use Prim.Native.Nat.{ℕ, zero, suc, _+_, _-_}
+use mathlib.Core.List.{List, [], _∷_, _++_}
+use mathlib.Core.Bool.{Bool, true, false, _&&_}
+use lib.ListN.{length, getD}
+use lib.Dec.{leb, eqb}
+use Rattle.words.specs.Area.{areaWords}
+use Rattle.trace.specs.declared.Event.{Event}
+use Rattle.trace.specs.Fit.{faultOf}
+use Rattle.trace.specs.Table.{wordOf, valueWord, eventBase, valueBase}
+use Rattle.table.specs.Held.{heldEvent}
+
+-- n words from place i on are 0
+unfoldable pub zerosFrom : List ℕ → ℕ → ℕ → Bool
+zerosFrom a i zero = true
+zerosFrom a i (suc n) = eqb (getD a i 0) 0 && zerosFrom a (suc i) n
+
+-- n events from event number i on, after the events `before`, are each fit and have the words read
+unfoldable pub fitFrom : ℕ → List Event → List ℕ → ℕ → ℕ → Bool
+fitFrom procs before a i zero = true
+fitFrom procs before a i (suc n) =
+    eqb (wordOf (heldEvent a i)) (getD a (eventBase + i) 0)
+    && (eqb (valueWord (heldEvent a i)) (getD a (valueBase + i) 0)
+    && (eqb (faultOf procs before (heldEvent a i)) 0
+    && fitFrom procs (before ++ heldEvent a i ∷ []) a (suc i) n))
+
+-- the words of an area, tested from its start to its end, where word 1 says n events
+unfoldable pub wordsTested : List ℕ → ℕ → Bool
+wordsTested a n =
+    leb n 2048
+    && (zerosFrom a 2 (eventBase + 1 - 2)
+    && (fitFrom (getD a 0 0) [] a 1 n
+    && (zerosFrom a (eventBase + 1 + n) (valueBase + 1 - (eventBase + 1 + n))
+    && zerosFrom a (valueBase + 1 + n) (areaWords - (valueBase + 1 + n)))))
+
+unfoldable pub tested : List ℕ → Bool
+tested a = leb areaWords (length a) && (leb 2 (getD a 0 0) && (leb (getD a 0 0) 64 && wordsTested a (getD a 1 0)))
