@@ -122,23 +122,26 @@ fn print_lengths(area: &[u32]) {
     print_length(&area[..0]);
 }
 
+fn put(area: &mut [u32], k: usize, w: u32) {
+    if k < area.len() {
+        area[k] = w;
+    }
+}
+
+fn pick(i: usize, odd: u32, even: u32) -> u32 {
+    if i % 2 == 1 { odd } else { even }
+}
+
 // An area of two processes and n events, odd ones by one word and even ones by another.
 fn fill(area: &mut [u32], n: usize, odd: u32, even: u32) {
-    if area.len() < 16400 {
-        return;
-    }
     if n > 2049 {
         return;
     }
-    area[0] = 2;
-    area[1] = n as u32;
+    put(area, 0, 2);
+    put(area, 1, n as u32);
     let mut i = 1;
     while i <= n {
-        if i % 2 == 1 {
-            area[16 + i] = odd;
-        } else {
-            area[16 + i] = even;
-        }
+        put(area, 16 + i, pick(i, odd, even));
         i += 1;
     }
 }
