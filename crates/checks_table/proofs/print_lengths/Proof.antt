@@ -1,6 +1,6 @@
 -- `checks_table::print_lengths` meets its contract: the parts lie within the area.
 use lib.Seq.{length-take-le}
-use mathlib.Core.Path.{_≡_, sym}
+use mathlib.Core.Path.{sym}
 use native.Mathlib.Omega.{arith}
 use borrow.Author.Needs.{needs}
 use Rattle.checks_table.proofs.print_lengths.Statement.{statement}
