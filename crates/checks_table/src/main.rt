@@ -32,70 +32,44 @@ fn change(area: &mut [u32], k: usize, w: u32) {
     area[k] = was;
 }
 
-// The process count: 2 leaves out process 2, which sends in event 4; 4 and 64 are other traces.
-fn change_procs(area: &mut [u32]) {
-    change(area, 0, 0);
-    change(area, 0, 1);
-    change(area, 0, 2);
-    change(area, 0, 4);
-    change(area, 0, 64);
-    change(area, 0, 65);
-    change(area, 0, 4294967295);
+// One word changed to each of some words.
+fn changes(area: &mut [u32], k: usize, words: &[u32]) {
+    let mut i = 0;
+    while i < words.len() {
+        change(area, k, words[i]);
+        i += 1;
+    }
 }
 
-// The event count, and the words kept for later.
+// The process count (2 leaves out process 2, which sends in event 4; 4 and 64 are other traces), the event count, the words kept
+// for later.
 fn change_header(area: &mut [u32]) {
-    change(area, 1, 0);
-    change(area, 1, 3);
-    change(area, 1, 5);
-    change(area, 1, 2048);
-    change(area, 1, 2049);
-    change(area, 1, 4294967295);
+    changes(area, 0, &[0, 1, 2, 4, 64, 65, 4294967295]);
+    changes(area, 1, &[0, 3, 5, 2048, 2049, 4294967295]);
     change(area, 2, 1);
     change(area, 3, 4294967295);
     change(area, 16, 1);
 }
 
-// Event 1, a send from 0 to 1: to 2, to 3 of 3, to itself, its kind taken away. Event 4, from 2 to 0: to 1, at 3 of 3, to itself.
-fn change_sends(area: &mut [u32]) {
-    change(area, 17, 4224);
-    change(area, 17, 4288);
-    change(area, 17, 4096);
-    change(area, 17, 64);
-    change(area, 20, 4162);
-    change(area, 20, 4099);
-    change(area, 20, 4226);
-}
-
-// Event 2, a receive at 1 from 0: at 2, from itself, from 2, as a send.
-fn change_receive(area: &mut [u32]) {
-    change(area, 18, 8194);
-    change(area, 18, 8257);
-    change(area, 18, 8321);
-    change(area, 18, 4097);
-}
-
-// Event 3, a save at 1: at 0, at 2, at 3 of 3, with a peer, of kind 0, of kind 4, none.
-fn change_save(area: &mut [u32]) {
-    change(area, 19, 12288);
-    change(area, 19, 12290);
-    change(area, 19, 12291);
-    change(area, 19, 12353);
-    change(area, 19, 1);
-    change(area, 19, 16385);
-    change(area, 19, 0);
+// Event 1, a send from 0 to 1: to 2, to 3 of 3, to itself, its kind taken away. Event 2, a receive at 1 from 0: at 2, from itself,
+// from 2, as a send. Event 3, a save at 1: at 0, at 2, at 3 of 3, with a peer, of kind 0, of kind 4, none. Event 4, a send from 2 to
+// 0: to 1, at 3 of 3, to itself.
+fn change_events(area: &mut [u32]) {
+    changes(area, 17, &[4224, 4288, 4096, 64]);
+    changes(area, 18, &[8194, 8257, 8321, 4097]);
+    changes(area, 19, &[12288, 12290, 12291, 12353, 1, 16385, 0]);
+    changes(area, 20, &[4162, 4099, 4226]);
 }
 
 // Values: any for a send, 0 alone for a receive and a save.
 fn change_values(area: &mut [u32]) {
-    change(area, 2066, 0);
-    change(area, 2066, 4294967295);
+    changes(area, 2066, &[0, 4294967295]);
     change(area, 2067, 1);
     change(area, 2068, 4294967295);
     change(area, 2069, 7);
 }
 
-// The places after the last event in both columns, those behind them, and words past 16,384, which do not matter.
+// The places after the last event, first and last in both columns, and those behind the columns.
 fn change_padding(area: &mut [u32]) {
     change(area, 21, 12288);
     change(area, 2065, 1);
@@ -103,8 +77,20 @@ fn change_padding(area: &mut [u32]) {
     change(area, 4113, 1);
     change(area, 4114, 1);
     change(area, 16383, 1);
+}
+
+// Words past 16,384 do not matter.
+fn change_past(area: &mut [u32]) {
     change(area, 16384, 1);
     change(area, 16399, 4294967295);
+}
+
+fn change_all(area: &mut [u32]) {
+    change_header(area);
+    change_events(area);
+    change_values(area);
+    change_padding(area);
+    change_past(area);
 }
 
 fn print_length(area: &[u32]) {
@@ -122,23 +108,26 @@ fn print_lengths(area: &[u32]) {
     print_length(&area[..0]);
 }
 
+fn put(area: &mut [u32], k: usize, w: u32) {
+    if k < area.len() {
+        area[k] = w;
+    }
+}
+
+fn pick(i: usize, odd: u32, even: u32) -> u32 {
+    if i % 2 == 1 { odd } else { even }
+}
+
 // An area of two processes and n events, odd ones by one word and even ones by another.
 fn fill(area: &mut [u32], n: usize, odd: u32, even: u32) {
-    if area.len() < 16400 {
-        return;
-    }
     if n > 2049 {
         return;
     }
-    area[0] = 2;
-    area[1] = n as u32;
+    put(area, 0, 2);
+    put(area, 1, n as u32);
     let mut i = 1;
     while i <= n {
-        if i % 2 == 1 {
-            area[16 + i] = odd;
-        } else {
-            area[16 + i] = even;
-        }
+        put(area, 16 + i, pick(i, odd, even));
         i += 1;
     }
 }
@@ -160,6 +149,15 @@ fn print_zero() {
     print_answer(table::holds_trace(&area));
 }
 
+// The limits: 2,048 events, each receive after its send, and 30 saves.
+fn print_limits() {
+    print_filled(b"events=", 0, 0, 0);
+    print_filled(b"events=", 2048, 4160, 8193);
+    print_filled(b"events=", 2049, 4160, 8193);
+    print_filled(b"saves=", 30, 12288, 12288);
+    print_filled(b"saves=", 31, 12288, 12288);
+}
+
 fn main() {
     let mut text = [0u8; 4096];
     let n = io::read_full(0, &mut text);
@@ -167,18 +165,8 @@ fn main() {
     let r = reader::read(&text[..n], &mut area);
     print_number(b"read=", wide(r.number));
     print_answer(table::holds_trace(&area));
-    change_procs(&mut area);
-    change_header(&mut area);
-    change_sends(&mut area);
-    change_receive(&mut area);
-    change_save(&mut area);
-    change_values(&mut area);
-    change_padding(&mut area);
+    change_all(&mut area);
     print_lengths(&area);
     print_zero();
-    print_filled(b"events=", 0, 0, 0);
-    print_filled(b"events=", 2048, 4160, 8193);
-    print_filled(b"events=", 2049, 4160, 8193);
-    print_filled(b"saves=", 30, 12288, 12288);
-    print_filled(b"saves=", 31, 12288, 12288);
+    print_limits();
 }

@@ -1,11 +1,11 @@
 -- What the check of a table area promises, over definitions alone: each claim under the sentence that it stands for.
-use Prim.Native.Nat.{ℕ, _+_, _<_, _≤_}
-use mathlib.Core.Path.{_≡_, refl, sym, ap, subst, _∙_}
+use Prim.Native.Nat.{ℕ, _≤_}
+use mathlib.Core.Path.{_≡_, sym, subst, _∙_}
 use mathlib.Core.Logic.{_↔_}
-use mathlib.Core.List.{List, [], _∷_, _++_}
-use mathlib.Core.Bool.{Bool, true, false}
-use mathlib.Core.Option.{Option, none, some}
-use lib.ListN.{length, getD, take, drop, replicate}
+use mathlib.Core.List.{List}
+use mathlib.Core.Bool.{true, false}
+use mathlib.Core.Option.{none, some}
+use lib.ListN.{length, take, replicate}
 use Rattle.words.specs.Area.{areaWords, wordsFrom}
 use Rattle.trace.specs.Trace.{Trace}
 use Rattle.trace.specs.Fit.{wellFormed}
@@ -15,7 +15,7 @@ use Rattle.reader.specs.Answer.{readArea}
 use Rattle.reader.specs.Render.{render}
 use Rattle.reader.proofs.Claims.{accepted-fit, fit-accepted}
 use Rattle.table.specs.Held.{held, holdsTrace, heldTrace}
-use Rattle.table.proofs.Holding.{words-of, held-of, told, trace-words, length-words-area, read-words, read-length, read-same, not-holding}
+use Rattle.table.proofs.Holding.{words-of, held-of, told, held-self, rule-area, read-words, read-length, read-same, same-front, same-held, zero-not-held}
 
 -- An area holds a trace exactly if it has 16,384 words, the trace is well formed, and the first 16,384 words are those of the trace.
 pub held-iff : (a : List ℕ) (t : Trace)
@@ -34,23 +34,27 @@ check-13 a = (to, from)
   where
     to : holdsTrace a ≡ true → (text : List ℕ) × (t : Trace) × (verdict text ≡ accepted t) × (areaWords ≤ length a) × (readArea text a ≡ a)
     to h =
-        let (size, fit, words) = held-iff a (held a) .0 (trace-words a h) in
+        let (size, fit, words) = held-iff a (held a) .0 (held-self a h) in
         let e = fit-accepted (held a) fit in
         (render (held a), held a, e, size, read-same (render (held a)) a (held a) e size words)
 
     from : (text : List ℕ) × (t : Trace) × (verdict text ≡ accepted t) × (areaWords ≤ length a) × (readArea text a ≡ a) → holdsTrace a ≡ true
     from (text, t, e, size, same) = told a t (subst (λ (x : List ℕ). heldTrace x ≡ some t) same (read-held text a t e size)) .0
 
+-- "Words past 16,384 are never touched", and never looked at: what an area holds is told by its first 16,384 words.
+pub front-only : (a b : List ℕ) → areaWords ≤ length a → areaWords ≤ length b → take areaWords a ≡ take areaWords b → heldTrace a ≡ heldTrace b
+front-only a b la lb e = same-held (heldTrace a) (heldTrace b) (same-front a b la lb e) (same-front b a lb la (sym e))
+
 -- The zero area is no trace's area.
 pub zero-refused : (a : List ℕ) → take areaWords a ≡ replicate areaWords 0 → (holdsTrace a ≡ false) × (heldTrace a ≡ none)
-zero-refused a z = not-holding a z
+zero-refused a z = zero-not-held a z
 
 -- "Equal traces have equal areas", and no two traces have one: well-formed traces with the same words are equal.
 pub one-trace : (s t : Trace) → wellFormed s ≡ true → wellFormed t ≡ true
     → wordsFrom (tableWord s) 0 areaWords ≡ wordsFrom (tableWord t) 0 areaWords → s ≡ t
 one-trace s t v w e =
     let x = wordsFrom (tableWord s) 0 areaWords in
-    let (size, all) = length-words-area (tableWord s) in
+    let (size, all) = rule-area (tableWord s) in
     let p : heldTrace x ≡ some s = held-iff x s .1 (size, v, all) in
     let q : heldTrace x ≡ some t = held-iff x t .1 (size, w, all ∙ e) in
     cc

@@ -1,24 +1,23 @@
 -- From the words of an area to the trace that it holds, and from a reading to the words: what the claims are made of.
-use Prim.Native.Nat.{ℕ, _+_, _-_, _<_, _≤_}
+use Prim.Native.Nat.{ℕ, _+_, _<_, _≤_}
 use mathlib.Core.Path.{_≡_, refl, sym, ap, _∙_}
-use mathlib.Core.List.{List, [], _∷_, _++_, map}
-use mathlib.Core.Bool.{Bool, true, false, _&&_}
+use mathlib.Core.List.{List, [], _++_}
+use mathlib.Core.Bool.{Bool, true, false}
 use mathlib.Core.Option.{Option, none, some}
 use native.Mathlib.Omega.{arith}
-use lib.Dec.{leb, eqb}
+use lib.Dec.{leb}
 use lib.ListN.{length, getD, take, drop, replicate, length-append, length-drop, take-append-drop, getD-replicate}
 use lib.Seq.{length-take-le, getD-take, take-at, take-all}
 use borrow.Author.Tests.{leb-true, le-leb, le-ltb}
-use Rattle.words.specs.Area.{areaWords, wordsFrom, ruled}
+use Rattle.words.specs.Area.{wordsFrom, ruled}
 use Rattle.words.proofs.Area.{length-words, getD-words, words-ext}
 use Rattle.words.proofs.Cases.{by-bool, and-left, and-right, and-both}
-use Rattle.trace.specs.declared.Event.{Event}
 use Rattle.trace.specs.Trace.{Trace}
-use Rattle.trace.specs.Fit.{allFit, wellFormed}
-use Rattle.trace.specs.Table.{wordOf, valueWord, tableWord}
-use Rattle.reader.specs.Verdict.{Verdict, accepted, verdict}
+use Rattle.trace.specs.Fit.{wellFormed}
+use Rattle.trace.specs.Table.{tableWord}
+use Rattle.reader.specs.Verdict.{accepted, verdict}
 use Rattle.reader.specs.Answer.{ruleOf, readArea}
-use Rattle.table.specs.Held.{heldEvents, held, wordsAre, holdsTrace, heldIf, heldTrace}
+use Rattle.table.specs.Held.{heldEvents, held, holdsTrace, heldIf, heldTrace}
 use Rattle.table.proofs.Places.{word-procs, word-count, word-event, word-value, events-back}
 use Rattle.table.proofs.Testing.{words-each, each-words, holds-facts}
 
@@ -33,9 +32,9 @@ module _ (a : List ℕ) where
   unfolding heldTrace
   told t h = held-some (holdsTrace a) (held a) t h
 
-  pub trace-words : holdsTrace a ≡ true → heldTrace a ≡ some (held a)
+  pub held-self : holdsTrace a ≡ true → heldTrace a ≡ some (held a)
   unfolding heldTrace
-  trace-words h = rw h
+  held-self h = rw h
 
 -- ---- an area's first words, as a list and place by place
 
@@ -83,11 +82,11 @@ module _ (a : List ℕ) where
       let same = same-trace t fit words in
       let holds : holdsTrace a ≡ true =
       and-both _ _ (le-leb 16384 (length a) size) (rw same (and-both _ _ fit (each-words (tableWord t) a 16384 words))) in
-      trace-words a holds ∙ ap some same
+      held-self a holds ∙ ap some same
 
 -- the words of a rule are an area of their own
-pub length-words-area : (f : ℕ → ℕ) → (16384 ≤ length (wordsFrom f 0 16384)) × (take 16384 (wordsFrom f 0 16384) ≡ wordsFrom f 0 16384)
-length-words-area f = let l = length-words f 0 16384 in (omega arith, take-all 16384 (wordsFrom f 0 16384) (omega arith))
+pub rule-area : (f : ℕ → ℕ) → (16384 ≤ length (wordsFrom f 0 16384)) × (take 16384 (wordsFrom f 0 16384) ≡ wordsFrom f 0 16384)
+rule-area f = let l = length-words f 0 16384 in (omega arith, take-all 16384 (wordsFrom f 0 16384) (omega arith))
 
 -- ---- what a reading leaves
 
@@ -109,15 +108,27 @@ module _ (text a : List ℕ) where
     pub read-same : take 16384 a ≡ wordsFrom (tableWord t) 0 16384 → readArea text a ≡ a
     read-same h = read-ruled t e l ∙ ap (λ (x : List ℕ). x ++ drop 16384 a) (sym h) ∙ take-append-drop 16384 a
 
+-- ---- words past 16,384
+
+-- what a longer or another area holds, by its first words
+pub same-front : (a b : List ℕ) → 16384 ≤ length a → 16384 ≤ length b → take 16384 a ≡ take 16384 b → (t : Trace) → heldTrace a ≡ some t → heldTrace b ≡ some t
+same-front a b la lb e t h = let w = words-of a t h in held-of b t lb (w .1) (sym e ∙ w .2)
+
+-- two areas that hold the same traces
+pub same-held : (x y : Option Trace) → ((t : Trace) → x ≡ some t → y ≡ some t) → ((t : Trace) → y ≡ some t → x ≡ some t) → x ≡ y
+same-held none none f g = refl
+same-held none (some t) f g = g t refl
+same-held (some t) y f g = sym (f t refl)
+
 -- ---- the zero area
 
 -- fewer than two processes are no trace's
 few-processes : (a : List ℕ) → getD a 0 0 < 2 → holdsTrace a ≡ false
 few-processes a l = by-bool (holdsTrace a) (λ h. let f = holds-facts a h in absurd (let z : ⊥ = omega (arith, f .least) in z)) (λ h. h)
 
-pub not-holding : (a : List ℕ) → take 16384 a ≡ replicate 16384 0 → (holdsTrace a ≡ false) × (heldTrace a ≡ none)
+pub zero-not-held : (a : List ℕ) → take 16384 a ≡ replicate 16384 0 → (holdsTrace a ≡ false) × (heldTrace a ≡ none)
 unfolding heldTrace
-not-holding a z =
+zero-not-held a z =
     let first : getD a 0 0 ≡ 0 = sym (getD-take 16384 a 0 0 (omega arith)) ∙ ap (λ (x : List ℕ). getD x 0 0) z ∙ getD-replicate {A = ℕ} 16384 0 0 0 (omega arith) in
     let no = few-processes a (omega arith) in
     (no, rw no)

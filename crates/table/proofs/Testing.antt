@@ -1,15 +1,14 @@
 -- What the code tests is what the definition says: `holdsTrace` and `tested` are one, both by the facts that they establish.
-use Prim.Native.Nat.{ℕ, zero, suc, _+_, _-_, _%_, _/_, _<_, _≤_}
-use mathlib.Core.Path.{_≡_, refl, sym, ap, _∙_}
+use Prim.Native.Nat.{ℕ, zero, suc, _+_, _-_, _/_, _<_, _≤_}
+use mathlib.Core.Path.{_≡_, refl, sym, _∙_}
 use mathlib.Core.List.{List, [], _∷_, _++_}
-use mathlib.Core.Bool.{Bool, true, false, _&&_}
+use mathlib.Core.Bool.{Bool, true, false}
 use native.Mathlib.Omega.{arith}
 use lib.Dec.{leb, eqb}
 use lib.ListN.{length, getD}
 use borrow.Author.Tests.{leb-true, le-leb, eqb-true, eq-eqb}
 use Rattle.words.proofs.Cases.{by-bool, by-eq, by-lt, clash, and-left, and-right, and-both}
 use Rattle.trace.specs.declared.Event.{Event}
-use Rattle.trace.specs.declared.Event.the-variants.{Send, Recv, Save}
 use Rattle.trace.specs.Fit.{faultOf, valueFits, allFit, wellFormed}
 use Rattle.trace.specs.Table.{wordOf, valueWord, tableWord}
 use Rattle.table.specs.Held.{eventOf, heldEvent, heldEvents, held, wordsAre, holdsTrace}

@@ -1,5 +1,4 @@
 -- `table::event` meets its contract, one law for each kind of word.
-use mathlib.Core.Path.{_≡_}
 use Rattle.table.proofs.Turns.{event-send, event-recv, event-save}
 use borrow.Author.Needs.{needs}
 use Rattle.table.proofs.event.Statement.{statement}

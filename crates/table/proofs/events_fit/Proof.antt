@@ -9,7 +9,7 @@ use Rattle.table.proofs.Turns.{events-end, events-word, events-value, e
 use Rattle.table.specs.Tested.{fitFrom}
 use Rattle.trace.specs.declared.Event.{Event}
 use Rattle.trace.specs.Fit.{faultOf}
-use Rattle.trace.specs.Tally.{Tally, Next}
+use Rattle.trace.specs.Tally.{Tally}
 use Rattle.trace.proofs.Counting.{next-tally, none-tally}
 use borrow.Author.Needs.{needs}
 use Rattle.table.proofs.events_fit.Statement.{statement}

@@ -1,5 +1,5 @@
 -- `table::holds_trace` meets its contract: one law for each way out, and that the tests are those of the definition.
-use mathlib.Core.Path.{_≡_, _∙_}
+use mathlib.Core.Path.{_∙_}
 use native.Mathlib.Omega.{arith}
 use Rattle.table.proofs.Turns.{area-short, area-low, area-high, area-words}
 use Rattle.table.proofs.Testing.{tested-holds}

@@ -1,5 +1,4 @@
 -- `table::words_fit` meets its contract, one law for each way out.
-use mathlib.Core.Path.{_≡_}
 use native.Mathlib.Omega.{arith}
 use borrow.Author.Tests.{not-true, not-false}
 use Rattle.table.proofs.Turns.{words-many, words-head, words-events, words-gap, words-tail}
