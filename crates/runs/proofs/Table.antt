@@ -21,12 +21,12 @@ use Rattle.theory.specs.Refusals.{failureFault, permits, lineFault}
 use Rattle.theory.proofs.Runs.{opens}
 use Rattle.theory.proofs.Claims.{reached-usable, greatest-line, greatest-only}
 use Rattle.runs.specs.Bytes.{bytesOf, linesOf}
-use Rattle.runs.specs.Texts.{linesH, linesL, linesS, linesT, linesFirst, textOf, failing, textH}
+use Rattle.runs.specs.Texts.{linesH, linesL, linesS, linesT, linesFirst, failing, textH}
 use Rattle.runs.specs.Report.{Answer, refused, given, Failure, failureOf, losses, Replayed, replay, Recovery, engineLine, recoveryBy, recovery, messageLines, printedOf, printed}
 
 -- all that a row computes with, beside what the theory's rows do: `opens`
 unfoldable reads : ℕ
-unfolding bytesOf linesOf textOf failing startsWith fieldAt isDigit pushed digitsFrom numberAt lastDigits procsOf sendOf recvOf saveOf failOf lineIn pieces faultHere judgeEvent judge linesFrom scanPieces scan verdict failureFault permits lineFault failureOf losses replay engineLine recoveryBy recovery messageLines printedOf printed
+unfolding bytesOf linesOf failing startsWith fieldAt isDigit pushed digitsFrom numberAt lastDigits procsOf sendOf recvOf saveOf failOf lineIn pieces faultHere judgeEvent judge linesFrom scanPieces scan verdict failureFault permits lineFault failureOf losses replay engineLine recoveryBy recovery messageLines printedOf printed
 reads = 0
 
 -- a trace of two processes
@@ -74,7 +74,7 @@ recovery1 = record { epochs = 2 ∷ 2 ∷ 1 ∷ []; line = 2 ∷ 2 ∷ 32 ∷ []
 abbrev pub R1 : Type 0
 R1 =
     (printed textH ≡ linesOf printed1)
-    × (verdict (textOf linesH) ≡ accepted traceH)
+    × (verdict (linesOf linesH) ≡ accepted traceH)
     × (failureOf textH ≡ given (record { trace = traceH; step = 9; set = 2 }))
     × (recovery textH ≡ given recovery1)
 
@@ -128,7 +128,7 @@ recovery5 = record { epochs = 1 ∷ 2 ∷ []; line = 32 ∷ 2 ∷ []; phases = 1
 
 abbrev pub R5 : Type 0
 R5 =
-    (verdict (textOf linesL) ≡ accepted (two (Send 0 1 6 ∷ Save 1 ∷ Recv 1 0 ∷ [])))
+    (verdict (linesOf linesL) ≡ accepted (two (Send 0 1 6 ∷ Save 1 ∷ Recv 1 0 ∷ [])))
     × (recovery (failing linesL "fail=3 set=2") ≡ given recovery5)
     × (replay (failing linesL "fail=3 set=2") (32 ∷ 2 ∷ []) (65 ∷ 1 ∷ []) ≡ completed 2)
 
@@ -150,7 +150,7 @@ recovery7 = record { epochs = 2 ∷ 1 ∷ []; line = 2 ∷ 1 ∷ []; phases = 2 
 
 abbrev pub R7 : Type 0
 R7 =
-    (verdict (textOf linesS) ≡ accepted (two (Save 0 ∷ Send 0 1 6 ∷ Recv 1 0 ∷ [])))
+    (verdict (linesOf linesS) ≡ accepted (two (Save 0 ∷ Send 0 1 6 ∷ Recv 1 0 ∷ [])))
     × (recovery (failing linesS "fail=3 set=2") ≡ given recovery7)
 
 r7 : R7
@@ -174,7 +174,7 @@ recovery9 = record { epochs = 1 ∷ 1 ∷ []; line = 32 ∷ 1 ∷ []; phases = 1
 
 abbrev pub R9 : Type 0
 R9 =
-    (verdict (textOf linesT) ≡ accepted (two (Send 0 1 6 ∷ Recv 1 0 ∷ [])))
+    (verdict (linesOf linesT) ≡ accepted (two (Send 0 1 6 ∷ Recv 1 0 ∷ [])))
     × (recovery (failing linesT "fail=1 set=2") ≡ given recovery9)
     × (replay (failing linesT "fail=1 set=2") (32 ∷ 1 ∷ []) (65 ∷ 1 ∷ []) ≡ completed 2)
 
@@ -208,7 +208,7 @@ r11 = (refl, refl)
 -- "R12: a receive as first event is 5 at line 2." To the library; and to the program, which prints "only `refused=N place=P`"
 abbrev pub R12 : Type 0
 R12 =
-    (verdict (textOf linesFirst) ≡ Verdict.refused 5 2)
+    (verdict (linesOf linesFirst) ≡ Verdict.refused 5 2)
     × (printed (failing linesFirst "fail=1 set=2") ≡ linesOf ("refused=5 place=2" ∷ []))
 
 r12 : R12
@@ -225,7 +225,7 @@ table = (r1, r2, r3, r4, r5, r6, r7, r8, r9, r10, r11, r12)
 -- no failure line is 1 at the line after the last; a line after the failure line is 1; H has 9 events, and 8 comes before 9
 abbrev pub Ends : Type 0
 Ends =
-    (recovery (textOf linesH) ≡ refused 1 11)
+    (recovery (linesOf linesH) ≡ refused 1 11)
     × (recovery (linesOf (linesT ++ "fail=1 set=1" ∷ "ev=save at=0" ∷ [])) ≡ refused 1 5)
     × (verdict textH ≡ Verdict.refused 1 11)
     × (recovery (failing linesH "fail=10 set=0") ≡ refused 8 0)

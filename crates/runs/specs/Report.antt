@@ -14,7 +14,7 @@ use Rattle.theory.specs.Epochs.{past}
 use Rattle.theory.specs.Line.{inSet, Run, recorded, current, reached, greatestLine}
 use Rattle.theory.specs.Order.{Outcome, carriedOut, run, steps, complete, lowestOrder}
 use Rattle.theory.specs.Answers.{lineOf, Listed, gather, orphans, keptOnes, lostOnes, sameRecord}
-use Rattle.theory.specs.Refusals.{failureFault, lineFault}
+use Rattle.theory.specs.Refusals.{failureFault, lineFault, orderFault}
 use Rattle.runs.specs.Bytes.{bytesOf}
 
 -- an answer, or a refusal: its number and its place
@@ -79,7 +79,7 @@ pub record Replayed : Type 0 where
 
 abbrev pub replayOf : Run → List ℕ → Outcome → Answer Replayed
 replayOf R order (carriedOut s) = given (record { complete = complete R s; equal = sameRecord R s; steps = steps order })
-replayOf R order (Outcome.refused i) = refused 11 i
+replayOf R order (Outcome.refused i) = refused (orderFault (Outcome.refused i)) i
 
 unfoldable pub replay : List ℕ → List ℕ → List ℕ → Answer Replayed
 replay text l order = then (failureOf text) (λ f. unless (fault f l) (replayOf (runOf f l) order (run (runOf f l) order)))

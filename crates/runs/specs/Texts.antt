@@ -5,10 +5,7 @@ use Prim.Native.Nat.{ℕ}
 use Prim.Native.String.{String}
 use Rattle.runs.specs.Bytes.{linesOf}
 
--- "The library's reader takes the text without a failure line. The program wants one more line, the last"
-unfoldable pub textOf : List String → List ℕ
-textOf ls = linesOf ls
-
+-- "The library's reader takes the text without a failure line. The program wants one more line, the last": the text with that line
 unfoldable pub failing : List String → String → List ℕ
 failing ls failure = linesOf (ls ++ failure ∷ [])
 

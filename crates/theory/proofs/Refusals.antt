@@ -1,20 +1,20 @@
 -- What the numbers 8, 9 and 10 say, each exactly, and that 0 says that failure and line are fit.
-use mathlib.Core.Path.{_≡_, refl, sym, _∙_, ap}
+use mathlib.Core.Path.{_≡_, refl, sym, _∙_}
 use mathlib.Core.Logic.{_⊎_, inl, inr, _↔_}
 use mathlib.Core.Bool.{Bool, true, false, _&&_, _||_, not}
+use mathlib.Core.List.{[]}
 use Prim.Native.Nat.{ℕ, zero, suc, _+_, _-_, _*_, _/_, _%_, _^_, _≤_, _<_}
 use native.Mathlib.Omega.{arith}
-use native.Mathlib.Nat.{div-eq-of-lt, pow-suc}
+use native.Mathlib.Nat.{div-eq-of-lt, mod-lt, pow-suc}
 use lib.Dec.{leb, ltb, eqb}
-use lib.Pow.{pow-pos, pow-mono, pow-lt, high}
+use lib.Pow.{pow-pos, pow-mono, pow-lt, split, high}
 use lib.Count.{leading-top}
 use borrow.Author.Tests.{leb-true, leb-false, ltb-true, ltb-false, eqb-true, eqb-false, lt-ltb, le-ltb, le-leb, lt-leb, eq-eqb, ne-eqb}
 use Rattle.trace.specs.Trace.{Trace}
 use Rattle.trace.specs.Fit.{orElse}
-use Rattle.theory.specs.Lists.{all-below}
 use Rattle.theory.specs.Events.{size}
-use Rattle.theory.specs.Epochs.{past}
-use Rattle.theory.specs.Line.{inSet, may, reached, Permitted}
+use Rattle.theory.specs.Epochs.{Rule, past}
+use Rattle.theory.specs.Line.{inSet, reached, Permitted}
 use Rattle.theory.specs.Refusals.{failureOr, failureFault, permits, lineFault, FitFailure, FitLine}
 use Rattle.theory.proofs.Base.{by, on, clash, le?, both, or-right, all-true, all-at}
 
@@ -62,6 +62,16 @@ set-beyond n m = (
   λ r. on (le? (2 ^ n) m) (λ l. l) (λ l. absurd (omega (arith, (set-below n m .0) l (r .0) (r .2), r .1))),
 )
 
+-- the same, as code can test it: a shift by n leaves something
+pub set-shifted : (n m : ℕ) → leb (2 ^ n) m ≡ not (eqb (m / 2 ^ n) 0)
+set-shifted n m =
+    on (le? (2 ^ n) m)
+    (λ l. let a : leb (2 ^ n) m ≡ true = le-leb _ _ l in
+    let b : eqb (m / 2 ^ n) 0 ≡ false = ne-eqb (m / 2 ^ n) 0 (λ e. let q : 0 * 2 ^ n + m % 2 ^ n ≡ m = rw e at (split m n) in
+    omega (arith, q, mod-lt m (pow-pos n))) in
+    rw (a, b) refl)
+    (λ l. let a : leb (2 ^ n) m ≡ false = lt-leb _ _ l in let b : m / 2 ^ n ≡ 0 = div-eq-of-lt l in rw (a, b) refl)
+
 -- ---- The numbers
 
 neither : (a b : Bool) → (a || b) ≡ false → (a ≡ false) × (b ≡ false)
@@ -83,6 +93,7 @@ module _ (t : Trace) (step set : ℕ) where
       let c : leb (2 ^ (t .procs)) set ≡ false = lt-leb _ _ ((set-below (t .procs) set .1) (f .set-within)) in
       rw (a, b, c) refl
 
+  -- and a number that is neither 8 nor 9 is the rest's
   failure-else : (rest n : ℕ) → (n ≡ 8 → ⊥) → (n ≡ 9 → ⊥) → failureOr t step set rest ≡ n → FitFailure t step set × (rest ≡ n)
   failure-else rest m n8 n9 e =
       let x = or-next (ltb (size t) step) 8 (orElse (eqb set 0 || leb (2 ^ (t .procs)) set) 9 rest) m n8 e in
@@ -137,10 +148,10 @@ module _ (t : Trace) (step set : ℕ) where
   unfolding failureFault
   failure-9 = or-9 0 (λ e. omega arith)
 
-pub permits-iff : (t : Trace) (usable : ℕ → ℕ → Bool) (failed : ℕ → Bool) (line : ℕ → ℕ) (cut : ℕ)
-    → (permits t usable failed line ≡ true) ↔ Permitted t past cut usable failed line
+pub permits-iff : (t : Trace) (rule : Rule) (cut : ℕ) (usable : ℕ → ℕ → Bool) (failed : ℕ → Bool) (line : ℕ → ℕ)
+    → (permits t usable failed line ≡ true) ↔ Permitted t rule cut usable failed line
 unfolding permits
-permits-iff t usable failed line cut = (all-at (t .procs) _, all-true (t .procs) _)
+permits-iff t rule cut usable failed line = (all-at (t .procs) _, all-true (t .procs) _)
 
 module _ (t : Trace) (step set count : ℕ) (line : ℕ → ℕ) where
   abbrev fits : Bool
@@ -148,7 +159,7 @@ module _ (t : Trace) (step set count : ℕ) (line : ℕ → ℕ) where
 
   fits-iff : (fits ≡ true) ↔ ((count ≡ t .procs) × Permitted t past step (reached t past step) (inSet set) line)
   fits-iff =
-      let p = permits-iff t (reached t past step) (inSet set) line step in (
+      let p = permits-iff t past step (reached t past step) (inSet set) line in (
         λ e. let b = both (eqb count (t .procs)) _ e in (eqb-true _ _ (b .0), (p .0) (b .1)),
         λ r. let a : eqb count (t .procs) ≡ true = eq-eqb _ _ (r .0) in rw a ((p .1) (r .1)),
       )
@@ -183,3 +194,12 @@ module _ (t : Trace) (step set count : ℕ) (line : ℕ → ℕ) where
         (r .0, λ q. let f : fits ≡ true = (fits-iff .1) q in absurd (let z : 0 ≡ 10 = rw f at (r .1) in omega arith)),
     λ r. failure-rest t step set (orElse (not fits) 10 0) (r .0) ∙ by fits (λ f. absurd (r .1 ((fits-iff .0) f))) (λ f. rw f refl),
   )
+
+-- ---- Rows: of two processes and no event, the sets that name 2; none; 0 and 1; the step 1, with the set that names none
+
+abbrev pub quiet : Trace
+quiet = record { procs = 2; events = [] }
+
+pub rows : (failureFault quiet 0 4 ≡ 9) × (failureFault quiet 0 0 ≡ 9) × (failureFault quiet 0 3 ≡ 0) × (failureFault quiet 1 0 ≡ 8)
+unfolding failureFault
+rows = (refl, refl, refl, refl)

@@ -1,7 +1,7 @@
 -- The numbers 8 to 11, "Who names the failure and the replay" (document 01): what is wrong with a failure, a line, an order, or 0. The first
 -- that is wrong decides, in that order.
 use mathlib.Core.Path.{_≡_}
-use mathlib.Core.Bool.{Bool, true, false, _&&_, _||_, not}
+use mathlib.Core.Bool.{Bool, true, _&&_, _||_, not}
 use Prim.Native.Nat.{ℕ, _^_, _≤_, _<_}
 use lib.Dec.{leb, ltb, eqb}
 use Rattle.trace.specs.Trace.{Trace}
