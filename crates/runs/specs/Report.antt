@@ -46,7 +46,7 @@ failureIn (Scan.refused n k) = refused n k
 failureIn (Scan.ended t k) = refused 1 k
 failureIn (Scan.stopped t step set k rest) = lastLine rest k (record { trace = t; step = step; set = set })
 
--- and then 8 and 9
+-- where the text is fit, 8 and 9
 abbrev pub checked : Answer Failure → Answer Failure
 checked (refused n k) = refused n k
 checked (given f) = unless (failureFault (f .trace) (f .step) (f .set)) (given f)
@@ -54,6 +54,7 @@ checked (given f) = unless (failureFault (f .trace) (f .step) (f .set)) (given f
 unfoldable pub failureOf : List ℕ → Answer Failure
 failureOf text = checked (failureIn (scan text))
 
+-- what follows an answer; a refusal stays as it is
 abbrev pub then : {A B : Type 0} → Answer A → (A → Answer B) → Answer B
 then (refused n k) f = refused n k
 then (given a) f = f a
@@ -63,7 +64,7 @@ then (given a) f = f a
 abbrev pub runOf : Failure → List ℕ → Run
 runOf f l = recorded (f .trace) past (f .step) (lineOf l)
 
--- 10 is for a line of this failure
+-- what is wrong with a line, where the failure is fit: 10, or 0
 abbrev pub fault : Failure → List ℕ → ℕ
 fault f l = lineFault (f .trace) (f .step) (f .set) (length l) (lineOf l)
 

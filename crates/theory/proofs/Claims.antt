@@ -296,4 +296,5 @@ module _ (t : Trace) (step set : ℕ) where
         demand-3 t w step (f .failure .step-most) (inSet set) line (f .permitted)
 
 -- Not claims of document 01, but for code that is to meet them: Lines.lost-epochs and epochs-lost (a permitted line loses a message by epochs alone),
--- Counters.counted (a channel is two numbers), Steps.reach-work (each step takes one from the work that is left), Classes (counts).
+-- Counters.counted (a channel is two numbers), Steps.reach-work (each step takes one from the work that is left), Classes (counts),
+-- Refusals.set-shifted (a set names a process N or more if a shift by N leaves something).
