@@ -119,9 +119,12 @@ pub fn key(text: &[u8], at: usize, key: &[u8]) -> bool
     if at > text.len() {
         return key.len() == 0;
     }
+    if key.len() > text.len() - at {
+        return false;
+    }
     let mut i = 0;
     while i < key.len() {
-        if byte(text, at + i) != key[i] as u16 {
+        if text[at + i] != key[i] {
             return false;
         }
         i += 1;
