@@ -19,7 +19,8 @@ use Rattle.reader.specs.declared.Judged.the-variants.{Fit, Fails, Unfit}
 use Rattle.reader.specs.Line.{lineOf, most}
 use Rattle.reader.specs.Render.{renderEvent, renderEvents}
 use Rattle.reader.specs.Verdict.{pieces, extended, faultHere, judgeEvent, judge, Scan, afterLine, linesFrom, Verdict, verdictOf}
-use Rattle.reader.proofs.Faults.{send-fit, recv-fit, save-fit, fit-few}
+use Rattle.trace.proofs.Faults.{send-fit, recv-fit, save-fit}
+use Rattle.reader.proofs.Judging.{fit-few}
 use Rattle.reader.proofs.Turns.{with-lf}
 use Rattle.reader.proofs.OneLine.{Small, Says, line-says, lineFor, event-line}
 use Rattle.reader.proofs.Pieces.{joined, line-piece, plain-event}

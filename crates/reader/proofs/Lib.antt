@@ -1,5 +1,4 @@
-pub mod Faults
-pub mod Counting
+pub mod Judging
 pub mod Cutting
 pub mod Storing
 pub mod Turns

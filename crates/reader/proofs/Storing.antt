@@ -12,7 +12,7 @@ use Rattle.words.specs.Area.{areaWords}
 use Rattle.words.proofs.Cases.{by-eq, by-lt}
 use Rattle.trace.specs.declared.Event.{Event}
 use Rattle.trace.specs.Trace.{Trace}
-use Rattle.trace.specs.Table.{wordOf, valueOf, tableWord, pickWord}
+use Rattle.trace.specs.Table.{wordOf, valueWord, tableWord, pickWord}
 use Rattle.reader.specs.Verdict.{extended}
 use Rattle.reader.specs.Reading.{Holds, appended}
 
@@ -51,12 +51,12 @@ module _ (t : Trace) (e : Event) where
       rw (ne-eqb k 0 (λ q. omega arith), ne-eqb k 1 (λ q. omega arith), lt-leb k 16 (omega arith), le-leb k 2065 (omega arith))
       (plane-here wordOf (t .events) e (k - 17) (omega arith))
 
-  word-value : tableWord (extended t e) (2065 + (length (t .events) + 1)) ≡ valueOf e
+  word-value : tableWord (extended t e) (2065 + (length (t .events) + 1)) ≡ valueWord e
   unfolding tableWord
   word-value =
       let k = 2065 + (length (t .events) + 1) in
       rw (ne-eqb k 0 (λ q. omega arith), ne-eqb k 1 (λ q. omega arith), lt-leb k 16 (omega arith), lt-leb k 2065 (omega arith))
-      (plane-here valueOf (t .events) e (k - 2066) (omega arith))
+      (plane-here valueWord (t .events) e (k - 2066) (omega arith))
 
   word-other : (k : ℕ) → (k ≡ 1 → ⊥) → (k ≡ 16 + (length (t .events) + 1) → ⊥) → (k ≡ 2065 + (length (t .events) + 1) → ⊥)
       → tableWord (extended t e) k ≡ tableWord t k
@@ -64,7 +64,7 @@ module _ (t : Trace) (e : Event) where
   word-other k n₁ n₂ n₃ =
       by-lt 16 k
       (λ h. by-lt 2065 k
-      (λ g. rw (ne-eqb k 1 n₁, lt-leb k 16 h, lt-leb k 2065 g, plane-other valueOf (t .events) e (k - 2066) (λ q. n₃ (omega arith))))
+      (λ g. rw (ne-eqb k 1 n₁, lt-leb k 16 h, lt-leb k 2065 g, plane-other valueWord (t .events) e (k - 2066) (λ q. n₃ (omega arith))))
       (λ g. rw (ne-eqb k 1 n₁, lt-leb k 16 h, le-leb k 2065 g, plane-other wordOf (t .events) e (k - 17) (λ q. n₂ (omega arith)))))
       (λ h. rw (ne-eqb k 1 n₁, le-leb k 16 h))
 
@@ -80,8 +80,8 @@ module _ (t : Trace) (e : Event) where
         size = simp length-set l;
         words = λ k lk.
             by-eq k (2065 + (n + 1))
-            (λ q. rw q (getD-set-same b (2065 + (n + 1)) (valueOf e) 0 (omega arith) ∙ sym word-value))
-            (λ n₃. getD-set-other b (2065 + (n + 1)) k (valueOf e) 0 n₃
+            (λ q. rw q (getD-set-same b (2065 + (n + 1)) (valueWord e) 0 (omega arith) ∙ sym word-value))
+            (λ n₃. getD-set-other b (2065 + (n + 1)) k (valueWord e) 0 n₃
             ∙ by-eq k (16 + (n + 1))
             (λ q. rw q (getD-set-same a (16 + (n + 1)) (wordOf e) 0 (omega arith) ∙ sym (word-event few)))
             (λ n₂. getD-set-other a (16 + (n + 1)) k (wordOf e) 0 n₂

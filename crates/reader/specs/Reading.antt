@@ -1,41 +1,18 @@
--- What the reader's loop holds between two lines: the counters it judges events by, the words it has stored, and how its outcome
--- stands for a `Scan`. No public contract cites these.
-use Prim.Native.Nat.{ℕ, _+_, _-_, _*_, _<_, _≤_}
+-- What the reader's loop holds between two lines: the words it has stored, and how its outcome stands for a `Scan`. No public
+-- contract cites these.
+use Prim.Native.Nat.{ℕ, _+_, _<_}
 use mathlib.Core.Path.{_≡_}
 use mathlib.Core.List.{List, [], _∷_, _++_}
 use lib.ListN.{length, getD, set, drop}
 use Rattle.words.specs.Area.{areaWords}
 use Rattle.trace.specs.declared.Event.{Event}
-use Rattle.trace.specs.declared.Event.the-variants.{Send, Recv, Save}
-use Rattle.trace.specs.Trace.{Trace, sends, recvs, saves}
-use Rattle.trace.specs.Fit.{faultOf}
-use Rattle.trace.specs.Table.{wordOf, valueOf, eventBase, valueBase, tableWord}
+use Rattle.trace.specs.Trace.{Trace}
+use Rattle.trace.specs.Table.{wordOf, valueWord, eventBase, valueBase, tableWord}
 use Rattle.reader.specs.declared.Judged.{Judged}
 use Rattle.reader.specs.declared.Judged.the-variants.{Fit, Fails, Unfit}
 use Rattle.reader.specs.declared.Scanned.{Scanned}
 use Rattle.reader.specs.declared.Scanned.the-variants.{Refused, Ended, Stopped}
 use Rattle.reader.specs.Verdict.{Scan, refused, ended, stopped, pieces}
-
--- The counters after some events: word 64 p + q has how many messages are in transit from p to q, word 4096 + z how many checkpoints z has made.
-pub record Tally (counts : List ℕ) (es : List Event) : Type 0 where
-  pub size : length counts ≡ 4160
-  pub transit : (p q : ℕ) → p < 64 → q < 64 → getD counts (64 * p + q) 0 + recvs p q es ≡ sends p q es
-  pub saved : (z : ℕ) → z < 64 → getD counts (4096 + z) 0 ≡ saves z es
-
--- an event that is fit after the events that were counted
-pub record Next (counts : List ℕ) (e : Event) : Type 0 where
-  pub procs : ℕ
-  pub events : List Event
-  pub procs-most : procs ≤ 64
-  pub events-few : length events < 2048
-  pub tally : Tally counts events
-  pub fit : faultOf procs events e ≡ 0
-
--- the counters with one event more
-abbrev pub tallied : List ℕ → Event → List ℕ
-tallied counts (Send at to val) = set counts (64 * at + to) (getD counts (64 * at + to) 0 + 1)
-tallied counts (Recv at from) = set counts (64 * from + at) (getD counts (64 * from + at) 0 - 1)
-tallied counts (Save at) = set counts (4096 + at) (getD counts (4096 + at) 0 + 1)
 
 -- the table area's first words are those of a trace
 pub record Holds (table : List ℕ) (t : Trace) : Type 0 where
@@ -44,7 +21,7 @@ pub record Holds (table : List ℕ) (t : Trace) : Type 0 where
 
 -- the table after event n + 1 is stored
 abbrev pub appended : List ℕ → ℕ → Event → List ℕ
-appended table n e = set (set (set table 1 (n + 1)) (eventBase + (n + 1)) (wordOf e)) (valueBase + (n + 1)) (valueOf e)
+appended table n e = set (set (set table 1 (n + 1)) (eventBase + (n + 1)) (wordOf e)) (valueBase + (n + 1)) (valueWord e)
 
 -- where the lines end at a line that is no fit event: line k, and the place after it
 abbrev pub stopOf : Judged → ℕ → ℕ → Scanned

@@ -3,18 +3,17 @@
 // Render (the text of a trace) and Answer (answer and area). proofs/Claims states that a text is accepted exactly if it is the
 // text of a well-formed trace. No public function has a `requires`. Assumes nothing.
 ghost use mathlib.Core.Path.{_≡_};
-ghost use mathlib.Core.List.{List, [], _∷_, _++_};
-ghost use Prim.Native.Nat.{ℕ, _+_, _-_, _*_, _≤_, _<_};
-ghost use lib.ListN.{length, getD, set, drop, replicate};
+ghost use mathlib.Core.List.{List, []};
+ghost use Prim.Native.Nat.{_≤_, _<_};
+ghost use lib.ListN.{length, drop, replicate};
 ghost use Rattle.reader.specs.Line.{lineOf, procsOf, sendOf, recvOf, saveOf, failOf};
 ghost use Rattle.reader.specs.Answer.{answerOf, ruleOf, readAnswer, readArea};
 ghost use Rattle.words.specs.Area.{areaWords, wordsFrom};
 ghost use Rattle.trace.specs.Trace.{Trace};
-ghost use Rattle.trace.specs.Fit.{faultOf};
+ghost use Rattle.trace.specs.Tally.{Tally};
 ghost use Rattle.trace.specs.declared.Event.{Event};
-ghost use Rattle.trace.specs.declared.Event.the-variants.{Send, Recv, Save};
 ghost use Rattle.reader.specs.Verdict.{faultHere, judgeEvent, judge, linesFrom, pieces, scan, verdict};
-ghost use Rattle.reader.specs.Reading.{Tally, tallied, Next, Holds, appended, stopOf, Outcome};
+ghost use Rattle.reader.specs.Reading.{Holds, appended, stopOf, Outcome};
 use text::LineEnd;
 use text::Num;
 use trace::Event;
@@ -154,64 +153,6 @@ pub fn read_line(line: &[u8]) -> Line
     Line::Malformed
 }
 
-// How many counters a reading has: messages in transit, a word for each channel, then checkpoints, a word for each process.
-const COUNTS: usize = 4160;
-
-const SAVES_BASE: usize = 4096;
-
-// The counter of a channel.
-fn channel(from: u64, to: u64) -> usize
-    requires { ⌜ (from < 64) × (to < 64) ⌝ }
-    ensures { λ r. ⌜ (r ≡ 64 * from + to) × (r < 4096) ⌝ }
-{
-    (64 * from + to) as usize
-}
-
-// What is wrong with a message between two processes: 3 where one is none, 4 where they are one.
-fn pair_fault(procs: u64, at: u64, peer: u64) -> u32
-    ensures { λ r. ⌜ ((es : List Event) (val : ℕ) → r ≡ faultOf procs es (Send at peer val)) ⌝ }
-{
-    if at >= procs {
-        return 3;
-    }
-    if peer >= procs {
-        return 3;
-    }
-    if at == peer {
-        return 4;
-    }
-    0
-}
-
-// What is wrong with a receive: 5 where nothing is in transit.
-fn recv_fault(counts: &[u32], procs: u64, at: u64, from: u64) -> u32
-    requires { ⌜ (procs ≤ 64) × (length (now counts) ≡ 4160) ⌝ }
-    ensures { λ r. ⌜ ((es : List Event) → Tally (now (counts .entry)) es → r ≡ faultOf procs es (Recv at from)) ⌝ }
-{
-    let f = pair_fault(procs, at, from);
-    if f != 0 {
-        return f;
-    }
-    if counts[channel(from, at)] == 0 {
-        return 5;
-    }
-    0
-}
-
-// What is wrong with a checkpoint: 6 where it is the process's 31st.
-fn save_fault(counts: &[u32], procs: u64, at: u64) -> u32
-    requires { ⌜ (procs ≤ 64) × (length (now counts) ≡ 4160) ⌝ }
-    ensures { λ r. ⌜ ((es : List Event) → Tally (now (counts .entry)) es → r ≡ faultOf procs es (Save at)) ⌝ }
-{
-    if at >= procs {
-        return 3;
-    }
-    if counts[SAVES_BASE + at as usize] >= 30 {
-        return 6;
-    }
-    0
-}
-
 // What is wrong with an event after n others.
 fn fault(counts: &[u32], procs: u64, n: usize, e: Event) -> u32
     requires { ⌜ (procs ≤ 64) × (length (now counts) ≡ 4160) ⌝ }
@@ -220,11 +161,7 @@ fn fault(counts: &[u32], procs: u64, n: usize, e: Event) -> u32
     if n >= 2048 {
         return 7;
     }
-    match e {
-        Event::Send { at, to, val: _ } => pair_fault(procs, at, to),
-        Event::Recv { at, from } => recv_fault(counts, procs, at, from),
-        Event::Save { at } => save_fault(counts, procs, at),
-    }
+    trace::fault(counts, procs, e)
 }
 
 fn judge_event(counts: &[u32], procs: u64, n: usize, e: Event) -> Judged
@@ -260,32 +197,6 @@ fn judge_line(counts: &[u32], procs: u64, n: usize, line: Line) -> Judged
         Line::Save(a) => judge_event(counts, procs, n, Event::Save { at: a }),
         Line::Failure(k, m) => Judged::Fails(k, m),
         Line::Malformed => Judged::Unfit(1),
-    }
-}
-
-fn raise(counts: &mut [u32], c: usize)
-    requires { ⌜ (c < length (now counts)) × (getD (now counts) c 0 < 4294967295) ⌝ }
-    ensures { λ _. ⌜ now (counts .exit) ≡ set (now (counts .entry)) c (getD (now (counts .entry)) c 0 + 1) ⌝ }
-{
-    counts[c] += 1;
-}
-
-fn lower(counts: &mut [u32], c: usize)
-    requires { ⌜ (c < length (now counts)) × (0 < getD (now counts) c 0) ⌝ }
-    ensures { λ _. ⌜ now (counts .exit) ≡ set (now (counts .entry)) c (getD (now (counts .entry)) c 0 - 1) ⌝ }
-{
-    counts[c] -= 1;
-}
-
-// Counts an event.
-fn tally(counts: &mut [u32], e: Event)
-    requires { ⌜ Next (now counts) e ⌝ }
-    ensures { λ _. ⌜ now (counts .exit) ≡ tallied (now (counts .entry)) e ⌝ }
-{
-    match e {
-        Event::Send { at, to, val: _ } => raise(counts, channel(at, to)),
-        Event::Recv { at, from } => lower(counts, channel(from, at)),
-        Event::Save { at } => raise(counts, SAVES_BASE + at as usize),
     }
 }
 
@@ -331,7 +242,7 @@ fn read_events(
             return stop(j, n + 2, end + 1);
         };
         append(table, n, e);
-        tally(counts, e);
+        trace::tally(counts, e);
         n += 1;
         at = end + 1;
     }
@@ -358,7 +269,7 @@ fn scan_text(text: &[u8], table: &mut [u32]) -> Scanned
     }
     words::zero(table);
     table[0] = n as u32;
-    let mut counts = [0u32; COUNTS];
+    let mut counts = [0u32; trace::COUNTS];
     read_events(text, end + 1, n, table, &mut counts)
 }
 

@@ -1,3 +1,4 @@
 pub mod Trace
 pub mod Fit
 pub mod Table
+pub mod Tally

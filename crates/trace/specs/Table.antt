@@ -6,7 +6,7 @@ use lib.ListN.{length, getD}
 use lib.Dec.{leb, ltb, eqb}
 use Rattle.trace.specs.declared.Event.{Event}
 use Rattle.trace.specs.declared.Event.the-variants.{Send, Recv, Save}
-use Rattle.trace.specs.Trace.{Trace}
+use Rattle.trace.specs.Trace.{Trace, valueOf}
 
 -- An event's word: its process, its peer and its kind (1 send, 2 receive, 3 save). Processes of a well-formed trace are below 64,
 -- so that `% 64` changes nothing there; with it every event has a word below 16,384.
@@ -15,11 +15,9 @@ wordOf (Send at to val) = at % 64 + 64 * (to % 64) + 4096
 wordOf (Recv at from) = at % 64 + 64 * (from % 64) + 8192
 wordOf (Save at) = at % 64 + 12288
 
--- an event's value: that of the message sent, or 0 (a value of a well-formed trace is below 4294967296)
-abbrev pub valueOf : Event → ℕ
-valueOf (Send at to val) = val % 4294967296
-valueOf (Recv at from) = 0
-valueOf (Save at) = 0
+-- an event's value as a word (a value of a well-formed trace is below 4294967296)
+abbrev pub valueWord : Event → ℕ
+valueWord e = valueOf e % 4294967296
 
 -- the words before event 1: the word of event e is `eventBase + e`, its value `valueBase + e`
 abbrev pub eventBase : ℕ
@@ -39,4 +37,4 @@ tableWord t k =
     (pickWord (eqb k 1) (length (t .events))
     (pickWord (leb k eventBase) 0
     (pickWord (leb k valueBase) (getD (map wordOf (t .events)) (k - (eventBase + 1)) 0)
-    (getD (map valueOf (t .events)) (k - (valueBase + 1)) 0))))
+    (getD (map valueWord (t .events)) (k - (valueBase + 1)) 0))))

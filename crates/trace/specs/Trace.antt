@@ -11,6 +11,12 @@ pub record Trace : Type 0 where
   pub procs : ℕ
   pub events : List Event
 
+-- an event's value: that of the message sent, or 0
+abbrev pub valueOf : Event → ℕ
+valueOf (Send at to val) = val
+valueOf (Recv at from) = 0
+valueOf (Save at) = 0
+
 -- a send, a receive on the channel from p to q; a checkpoint of z
 abbrev pub isSend : ℕ → ℕ → Event → Bool
 isSend p q (Send at to val) = eqb p at && eqb q to

@@ -1,7 +1,14 @@
-// What a trace is. The definitions are in specs/: Trace (events and traces), Fit (which traces are well formed) and
-// Table (the words of the table area that hold a trace). Assumes nothing.
+// What a trace is, and events judged one after another. The definitions are in specs/: Trace (events and traces), Fit (which
+// traces are well formed), Table (the words of the table area that hold a trace) and Tally (counters that events are judged by).
+// Assumes nothing.
+ghost use mathlib.Core.List.{List};
+ghost use Prim.Native.Nat.{ℕ, _+_, _-_, _*_, _≤_, _<_};
+ghost use lib.ListN.{length, getD, set};
+ghost use Rattle.trace.specs.declared.Event.the-variants.{Send, Recv, Save};
+ghost use Rattle.trace.specs.Fit.{faultOf};
+ghost use Rattle.trace.specs.Tally.{Tally, tallied, Next};
 ghost use mathlib.Core.Path.{_≡_};
-ghost use Rattle.trace.specs.Table.{wordOf, valueOf};
+ghost use Rattle.trace.specs.Table.{wordOf, valueWord};
 
 // An event of a trace: `ev=send at=A to=B val=V`, `ev=recv at=A from=B`, `ev=save at=A`.
 pub enum Event {
@@ -28,11 +35,107 @@ pub fn word(e: Event) -> u32
 
 // The value of an event in the table area: that of the message sent, or 0.
 pub fn value(e: Event) -> u32
-    ensures { λ r. ⌜ r ≡ valueOf e ⌝ }
+    ensures { λ r. ⌜ r ≡ valueWord e ⌝ }
 {
     match e {
         Event::Send { at: _, to: _, val } => (val % 4294967296) as u32,
         Event::Recv { at: _, from: _ } => 0,
         Event::Save { at: _ } => 0,
+    }
+}
+
+// How many counters there are: messages in transit, a word for each channel, then checkpoints, a word for each process.
+pub const COUNTS: usize = 4160;
+
+const SAVES_BASE: usize = 4096;
+
+// The counter of a channel.
+fn channel(from: u64, to: u64) -> usize
+    requires { ⌜ (from < 64) × (to < 64) ⌝ }
+    ensures { λ r. ⌜ (r ≡ 64 * from + to) × (r < 4096) ⌝ }
+{
+    (64 * from + to) as usize
+}
+
+// What is wrong with a message between two processes: 3 where one is none, 4 where they are one.
+fn pair_fault(procs: u64, at: u64, peer: u64) -> u32
+    ensures { λ r. ⌜ ((es : List Event) (val : ℕ) → r ≡ faultOf procs es (Send at peer val)) ⌝ }
+{
+    if at >= procs {
+        return 3;
+    }
+    if peer >= procs {
+        return 3;
+    }
+    if at == peer {
+        return 4;
+    }
+    0
+}
+
+// What is wrong with a receive: 5 where nothing is in transit.
+fn recv_fault(counts: &[u32], procs: u64, at: u64, from: u64) -> u32
+    requires { ⌜ (procs ≤ 64) × (length (now counts) ≡ 4160) ⌝ }
+    ensures { λ r. ⌜ ((es : List Event) → Tally (now (counts .entry)) es → r ≡ faultOf procs es (Recv at from)) ⌝ }
+{
+    let f = pair_fault(procs, at, from);
+    if f != 0 {
+        return f;
+    }
+    if counts[channel(from, at)] == 0 {
+        return 5;
+    }
+    0
+}
+
+// What is wrong with a checkpoint: 6 where it is the process's 31st.
+fn save_fault(counts: &[u32], procs: u64, at: u64) -> u32
+    requires { ⌜ (procs ≤ 64) × (length (now counts) ≡ 4160) ⌝ }
+    ensures { λ r. ⌜ ((es : List Event) → Tally (now (counts .entry)) es → r ≡ faultOf procs es (Save at)) ⌝ }
+{
+    if at >= procs {
+        return 3;
+    }
+    if counts[SAVES_BASE + at as usize] >= 30 {
+        return 6;
+    }
+    0
+}
+
+// What is wrong with an event after those that were counted: 3, 4, 5 or 6, or 0.
+pub fn fault(counts: &[u32], procs: u64, e: Event) -> u32
+    requires { ⌜ (procs ≤ 64) × (length (now counts) ≡ 4160) ⌝ }
+    ensures { λ r. ⌜ ((es : List Event) → Tally (now (counts .entry)) es → r ≡ faultOf procs es e) ⌝ }
+{
+    match e {
+        Event::Send { at, to, val: _ } => pair_fault(procs, at, to),
+        Event::Recv { at, from } => recv_fault(counts, procs, at, from),
+        Event::Save { at } => save_fault(counts, procs, at),
+    }
+}
+
+fn raise(counts: &mut [u32], c: usize)
+    requires { ⌜ (c < length (now counts)) × (getD (now counts) c 0 < 4294967295) ⌝ }
+    ensures { λ _. ⌜ now (counts .exit) ≡ set (now (counts .entry)) c (getD (now (counts .entry)) c 0 + 1) ⌝ }
+{
+    counts[c] += 1;
+}
+
+fn lower(counts: &mut [u32], c: usize)
+    requires { ⌜ (c < length (now counts)) × (0 < getD (now counts) c 0) ⌝ }
+    ensures { λ _. ⌜ now (counts .exit) ≡ set (now (counts .entry)) c (getD (now (counts .entry)) c 0 - 1) ⌝ }
+{
+    counts[c] -= 1;
+}
+
+// Counts an event.
+pub fn tally(counts: &mut [u32], e: Event)
+    requires { ⌜ Next (now counts) e ⌝ }
+    ensures { λ _. ⌜ now (counts .exit) ≡ tallied (now (counts .entry)) e ⌝ }
+{
+    match e {
+        Event::Send { at, to, val: _ } => raise(counts, channel(at, to)),
+        Event::Recv { at, from } => lower(counts, channel(from, at)),
+        Event::Save { at } => raise(counts, SAVES_BASE + at as usize),
     }
 }

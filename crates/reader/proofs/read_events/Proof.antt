@@ -8,9 +8,10 @@ use Rattle.trace.specs.declared.Event.{Event}
 use Rattle.trace.specs.Trace.{Trace}
 use Rattle.reader.specs.Line.{lineOf}
 use Rattle.reader.specs.Verdict.{judge, pieces, linesFrom, extended}
-use Rattle.reader.specs.Reading.{Holds, Tally, Next}
-use Rattle.reader.proofs.Faults.{fit-line, fit-few}
-use Rattle.reader.proofs.Counting.{next-tally}
+use Rattle.trace.specs.Tally.{Tally, Next}
+use Rattle.reader.specs.Reading.{Holds}
+use Rattle.reader.proofs.Judging.{fit-line, fit-few}
+use Rattle.trace.proofs.Counting.{next-tally}
 use Rattle.reader.proofs.Cutting.{line-cut}
 use Rattle.reader.proofs.Storing.{next-holds}
 use Rattle.reader.proofs.Turns.{turn-end, turn-missing, turn-fit, turn-stop, out-refused, out-ended, out-same}

@@ -4,7 +4,7 @@ use mathlib.Core.Path.{_≡_, refl, sym, ap, _∙_}
 use mathlib.Core.List.{List, []}
 use lib.ListN.{length, take, drop, replicate, length-set}
 use lib.Seq.{length-take-le}
-use Rattle.reader.proofs.Counting.{none-tally}
+use Rattle.trace.proofs.Counting.{none-tally}
 use Rattle.reader.proofs.Cutting.{first-cut}
 use Rattle.reader.proofs.Storing.{none-holds}
 use Rattle.reader.proofs.Turns.{scan-missing, scan-other, scan-low, scan-high, scan-next, out-refused, out-same}

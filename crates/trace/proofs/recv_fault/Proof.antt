@@ -1,12 +1,12 @@
--- `reader::recv_fault` meets its contract, one law for each way out.
+-- `trace::recv_fault` meets its contract, one law for each way out.
 use Prim.Native.Nat.{_≤_}
 use mathlib.Core.Path.{_≡_, sym, _∙_}
 use mathlib.Core.List.{[]}
-use Rattle.reader.proofs.Faults.{send-fit, recv-1, recv-2, recv-3}
+use Rattle.trace.proofs.Faults.{send-fit, recv-1, recv-2, recv-3}
 use native.Mathlib.Omega.{arith}
 use borrow.Author.Needs.{needs}
-use Rattle.reader.proofs.recv_fault.Statement.{statement}
-use Rattle.reader.proofs.recv_fault.Tie as tie
+use Rattle.trace.proofs.recv_fault.Statement.{statement}
+use Rattle.trace.proofs.recv_fault.Tie as tie
 
 returns : tie.Need-returns
 returns c =

@@ -1,11 +1,11 @@
--- `reader::tally` meets its contract: a fit event's counter is there and stays in its range.
+-- `trace::tally` meets its contract: a fit event's counter is there and stays in its range.
 use mathlib.Core.Path.{_≡_, sym, ap, _∙_}
-use Rattle.reader.specs.Reading.{Next, tallied}
-use Rattle.reader.proofs.Counting.{send-next, recv-next, save-next}
+use Rattle.trace.specs.Tally.{Next, tallied}
+use Rattle.trace.proofs.Counting.{send-next, recv-next, save-next}
 use native.Mathlib.Omega.{arith}
 use borrow.Author.Needs.{needs}
-use Rattle.reader.proofs.tally.Statement.{statement}
-use Rattle.reader.proofs.tally.Tie as tie
+use Rattle.trace.proofs.tally.Statement.{statement}
+use Rattle.trace.proofs.tally.Tie as tie
 
 channel-requires : tie.Need-channel-requires
 channel-requires c κs =

@@ -9,12 +9,12 @@ use lib.ListN.{length, getD, set, replicate, length-set, length-replicate, getD-
 use lib.Seq.{getD-set-same, getD-set-other}
 use borrow.Author.Tests.{eq-eqb, ne-eqb}
 use Rattle.words.proofs.Cases.{by-eq}
 use Rattle.trace.specs.declared.Event.{Event}
 use Rattle.trace.specs.declared.Event.the-variants.{Send, Recv, Save}
 use Rattle.trace.specs.Trace.{oneIf, count, isSend, isRecv, isSave, sends, recvs, saves}
 use Rattle.trace.specs.Fit.{faultOf}
-use Rattle.reader.specs.Reading.{Tally, Next, tallied}
-use Rattle.reader.proofs.Faults.{send-fit, recv-fit, save-fit}
+use Rattle.trace.specs.Tally.{Tally, Next, tallied}
+use Rattle.trace.proofs.Faults.{send-fit, recv-fit, save-fit}
 
 -- one event more
 count-more : (f : Event → Bool) (es : List Event) (e : Event) → count f (es ++ e ∷ []) ≡ count f es + oneIf (f e)

@@ -1,9 +1,9 @@
--- `reader::save_fault` meets its contract, one law for each way out.
-use Rattle.reader.proofs.Faults.{save-1, save-2, save-3}
+-- `trace::save_fault` meets its contract, one law for each way out.
+use Rattle.trace.proofs.Faults.{save-1, save-2, save-3}
 use native.Mathlib.Omega.{arith}
 use borrow.Author.Needs.{needs}
-use Rattle.reader.proofs.save_fault.Statement.{statement}
-use Rattle.reader.proofs.save_fault.Tie as tie
+use Rattle.trace.proofs.save_fault.Statement.{statement}
+use Rattle.trace.proofs.save_fault.Tie as tie
 
 returns : tie.Need-returns
 returns c =

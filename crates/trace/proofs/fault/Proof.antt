@@ -1,0 +1,29 @@
+-- `trace::fault` meets its contract: what is wrong with the event, by its kind.
+use mathlib.Core.Path.{_≡_}
+use native.Mathlib.Omega.{arith}
+use borrow.Author.Needs.{needs}
+use Rattle.trace.proofs.fault.Statement.{statement}
+use Rattle.trace.proofs.fault.Tie as tie
+
+returns : tie.Need-returns
+returns c =
+    let e = c .before .before .e in
+    let pair-fault = c .pair-fault in
+    λ es t. rw (e .given .1) ((pair-fault .ensures) es _)
+
+returns-2 : tie.Need-returns-2
+returns-2 c =
+    let e2 = c .before .before .e2 in
+    let recv-fault = c .recv-fault in
+    λ es t. rw (e2 .given .1) ((recv-fault .ensures) es t)
+
+returns-3 : tie.Need-returns-3
+returns-3 c =
+    let e3 = c .before .before .e3 in
+    let save-fault = c .save-fault in
+    λ es t. rw (e3 .given .1) ((save-fault .ensures) es t)
+
+pub fault-spec : {M : Type 1} → statement M
+fault-spec =
+    tie.close
+    (tie.spec (λ c. search needs) (λ c κs. search needs) (λ c. search needs) (λ c κs. search needs) (λ c. search needs) (λ c κs. search needs) returns returns-2 returns-3)
