@@ -1,5 +1,5 @@
 -- Laws of keys: one for each way a turn of the comparison goes; that a key which is found lies within the text.
-use Prim.Native.Nat.{ℕ, suc, zero, _+_, _<_, _≤_, zero-le, suc-le-suc}
+use Prim.Native.Nat.{ℕ, suc, zero, _+_, _-_, _<_, _≤_, zero-le, suc-le-suc}
 use mathlib.Core.Path.{_≡_, refl, sym, ap, _∙_}
 use mathlib.Core.List.{List, [], _∷_}
 use mathlib.Core.Bool.{Bool, true, false}
@@ -7,10 +7,10 @@ use native.Mathlib.Omega.{arith}
 use native.Mathlib.Numerals.{add-one}
 use native.Mathlib.Nat.{add-suc}
 use lib.Dec.{eqb}
-use lib.ListN.{length, getD, drop, drop-of-length-le, length-drop, List·getD-eq-default}
+use lib.ListN.{length, getD, drop, drop-of-length-le, length-drop}
 use lib.Seq.{drop-cons}
 use borrow.Author.Tests.{eq-eqb, ne-eqb}
-use Rattle.words.proofs.Cases.{by-lt, and-right, clash}
+use Rattle.words.proofs.Cases.{by-bool, and-right}
 use Rattle.text.specs.declared.Num.{Num}
 use Rattle.text.specs.declared.Num.the-variants.{Value, Refused}
 use Rattle.text.specs.Number.{numberAt}
@@ -23,32 +23,33 @@ unfolding startsWith
 key-past text at [] h = refl
 key-past text at (k ∷ key) h = rw (drop-of-length-le text {i = at} (omega arith), ne-eqb (suc (length key)) 0 (λ e. omega arith))
 
--- a turn of the key's loop, over the byte b that the code has
+-- a turn of the key's loop, where the key has room in the text
 module _ (text : List ℕ) (at i : ℕ) (key : List ℕ) where
   pub key-end : length key ≤ i → startsWith (drop (at + i) text) (drop i key) ≡ true
   unfolding startsWith
   key-end h = rw (drop-of-length-le key {i = i} h)
 
-  pub key-differs : (b : ℕ) → i < length key → getD key i 0 < 256 → b ≡ getD text (at + i) 256 → (b ≡ getD key i 0 → ⊥) → startsWith (drop (at + i) text) (drop i key) ≡ false
+  pub key-differs : i < length key → at + i < length text → (getD text (at + i) 0 ≡ getD key i 0 → ⊥) → startsWith (drop (at + i) text) (drop i key) ≡ false
   unfolding startsWith
-  key-differs b h k eb n =
-      by-lt (at + i) (length text)
-      (λ l. rw (drop-cons key i 0 h, drop-cons text (at + i) 256 l, ← eb, ne-eqb b (getD key i 0) n))
-      (λ g. rw (drop-cons key i 0 h, drop-of-length-le text {i = at + i} g))
+  key-differs h l n = rw (drop-cons key i 0 h, drop-cons text (at + i) 0 l, ne-eqb (getD text (at + i) 0) (getD key i 0) n)
 
-  pub key-next : (b : ℕ) → i < length key → getD key i 0 < 256 → b ≡ getD text (at + i) 256 → b ≡ getD key i 0
+  pub key-next : i < length key → at + i < length text → getD text (at + i) 0 ≡ getD key i 0
       → startsWith (drop (at + i) text) (drop i key) ≡ startsWith (drop (at + (i + 1)) text) (drop (i + 1) key)
   unfolding startsWith
-  key-next b h k eb e =
-      by-lt (at + i) (length text)
-      (λ l. rw (drop-cons key i 0 h, drop-cons text (at + i) 256 l, ← eb, eq-eqb b (getD key i 0) e, add-one i, add-suc))
-      (λ g. absurd (let z : ⊥ = omega (arith, List·getD-eq-default text 256 {n = at + i} g) in z))
+  key-next h l e = rw (drop-cons key i 0 h, drop-cons text (at + i) 0 l, eq-eqb (getD text (at + i) 0) (getD key i 0) e, add-one i, add-suc)
 
 pub starts-within : (text key : List ℕ) → startsWith text key ≡ true → length key ≤ length text
 unfolding startsWith
 starts-within text [] e = zero-le
 starts-within [] (k ∷ key) e = absurd (let s : _≡_ {A = ℕ} 0 1 = cc in let z : ⊥ = omega arith in z)
 starts-within (t ∷ text) (k ∷ key) e = suc-le-suc (starts-within text key (and-right (eqb t k) _ e))
+
+-- a key that is longer than the rest of the text does not stand there
+pub key-short : (text : List ℕ) (at : ℕ) (key : List ℕ) → length text - at < length key → false ≡ keyAt text at key
+key-short text at key h =
+    by-bool (keyAt text at key)
+    (λ e. absurd (let z : ⊥ = omega (arith, starts-within (drop at text) key e, length-drop at text) in z))
+    (λ e. sym e)
 
 pub key-within : (text : List ℕ) (at : ℕ) (key : List ℕ) → keyAt text at key ≡ true → at ≤ length text → at + length key ≤ length text
 key-within text at key e h = omega (arith, starts-within (drop at text) key e, length-drop at text)

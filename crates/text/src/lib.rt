@@ -62,11 +62,14 @@ fn push(v: u64, b: u16, bound: u64) -> Pushed
     requires { ⌜ isDigit b ≡ true ⌝ }
     ensures { λ r. ⌜ r ≡ pushed v b bound ⌝ }
 {
+    let d = b as u64 - 48;
+    if v < bound / 10 {
+        return Pushed::Fits(v * 10 + d);
+    }
     if v > bound / 10 {
         return Pushed::Over;
     }
     let tens = v * 10;
-    let d = b as u64 - 48;
     if d > bound - tens {
         Pushed::Over
     } else {
@@ -119,9 +122,12 @@ pub fn key(text: &[u8], at: usize, key: &[u8]) -> bool
     if at > text.len() {
         return key.len() == 0;
     }
+    if key.len() > text.len() - at {
+        return false;
+    }
     let mut i = 0;
     while i < key.len() {
-        if byte(text, at + i) != key[i] as u16 {
+        if text[at + i] != key[i] {
             return false;
         }
         i += 1;

@@ -1,0 +1,17 @@
+-- `show::print_words` is safe and ends.
+use Prim.Native.Nat.{_≤_, _-_}
+use lib.ListN.{length}
+use borrow.Author.Needs.{needs}
+use Rattle.checks_reader.proofs.show.print_words.Statement.{statement}
+use Rattle.checks_reader.proofs.show.print_words.Tie as tie
+
+abbrev Inv-loop : tie.InvT-loop
+Inv-loop area from i₀ i = from ≤ i
+
+abbrev μ-loop : tie.MeasureT-loop
+μ-loop area from i₀ i = length area - i
+
+pub print-words-spec : {M : Type 1} → statement M
+print-words-spec =
+    tie.close
+    (tie.spec Inv-loop μ-loop (λ c. search needs) (λ c κs. search needs) (λ c. search needs) (λ c. search needs) (λ c. search needs) (λ c. search needs))

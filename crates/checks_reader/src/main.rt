@@ -1,0 +1,198 @@
+// Sizes and refusals of the reader, run and printed: a line for each case, with the answer's number and place, how many of the
+// area's first 16,384 words are not 0, and how many later words changed. The file `stdout` has what document 01 asks of each.
+// Proved safe and ending; what is printed no contract can say. Assumes what `libc` assumes.
+mod build;
+mod show;
+
+use build::put;
+use build::repeat;
+use show::case;
+use show::rows;
+use show::small;
+use show::table;
+
+// 1 and 2 at line 1: the process count, and what stands there instead.
+fn first_lines() {
+    rows(
+        b"",
+        b"procs-0:procs=0\n;\
+        procs-1:procs=1\n;\
+        procs-2:procs=2\n;\
+        procs-64:procs=64\n;\
+        procs-65:procs=65\n;\
+        procs-largest:procs=4294967295\n;\
+        procs-over:procs=4294967296\n;\
+        procs-wraps-to-2:procs=18446744073709551618\n;\
+        procs-leading-zero:procs=02\n;\
+        procs-no-number:procs=\n;\
+        procs-out-of-range-then-malformed:procs=65\nx\n;\
+        empty:;\
+        no-lf:procs=2;\
+        no-lf-out-of-range:procs=65;\
+        lf-only:\n;\
+        blank-first:\nprocs=2\n;\
+        event-first:ev=save at=0\n;\
+        failure-first:fail=0 set=1\n;\
+        cr-first:procs=2\r\n;\
+        nul-first:procs=2\0\n;\
+        trailing-space-first:procs=2 \n;\
+        leading-space-first: procs=2\n;\
+        capital-first:Procs=2\n;\
+        two-counts-in-a-line:procs=2 procs=2\n;",
+    );
+}
+
+// 1 at a later line: no form that is due there.
+fn malformed_lines() {
+    rows(
+        b"procs=2\nev=save at=0\n",
+        b"blank:\n;\
+        blank-between:\nev=save at=0\n;\
+        cr:ev=save at=0\r\n;\
+        nul:ev=save at=0\0\n;\
+        nul-only:\0\n;\
+        trailing-space:ev=save at=0 \n;\
+        leading-space: ev=save at=0\n;\
+        double-space:ev=send at=0  to=1 val=5\n;\
+        tab:ev=send at=0\tto=1 val=5\n;\
+        keys-swapped:ev=send to=1 at=0 val=5\n;\
+        key-missing:ev=send at=0 to=1\n;\
+        key-too-many:ev=save at=0 val=5\n;\
+        number-missing:ev=save at=\n;\
+        sign:ev=save at=-1\n;\
+        number-then-letter:ev=save at=0x\n;\
+        high-byte:ev=save at=\xb0\n;\
+        unknown-kind:ev=stop at=0\n;\
+        capital:EV=save at=0\n;\
+        count-again:procs=2\n;\
+        failure:fail=1 set=1\n;\
+        failure-over:fail=1 set=18446744073709551616\n;\
+        no-lf-event:ev=save at=0;\
+        no-lf-event-out-of-range:ev=save at=2;\
+        no-lf-after-event:ev=save at=0\nx;\
+        malformed-before-out-of-range:x\nev=save at=2\n;",
+    );
+}
+
+fn leading_zeros() {
+    rows(
+        b"procs=2\n",
+        b"zero-send-at:ev=send at=00 to=1 val=5\n;\
+        zero-send-to:ev=send at=0 to=01 val=5\n;\
+        zero-send-val:ev=send at=0 to=1 val=05\n;\
+        zero-send-val-zero:ev=send at=0 to=1 val=00\n;\
+        zero-recv-at:ev=recv at=01 from=0\n;\
+        zero-recv-from:ev=recv at=1 from=00\n;\
+        zero-save-at:ev=save at=00\n;\
+        zero-itself:ev=send at=0 to=1 val=0\n;",
+    );
+}
+
+// The largest number of each key and the first too large one.
+fn largest_numbers() {
+    rows(
+        b"procs=2\n",
+        b"send-at-largest:ev=send at=4294967295 to=1 val=5\n;\
+        send-at-over:ev=send at=4294967296 to=1 val=5\n;\
+        send-to-largest:ev=send at=0 to=4294967295 val=5\n;\
+        send-to-over:ev=send at=0 to=4294967296 val=5\n;\
+        send-val-largest:ev=send at=0 to=1 val=4294967295\n;\
+        send-val-over:ev=send at=0 to=1 val=4294967296\n;\
+        send-val-wraps-to-0:ev=send at=0 to=1 val=18446744073709551616\n;\
+        recv-at-largest:ev=recv at=4294967295 from=0\n;\
+        recv-at-over:ev=recv at=4294967296 from=0\n;\
+        recv-from-largest:ev=recv at=1 from=4294967295\n;\
+        recv-from-over:ev=recv at=1 from=4294967296\n;\
+        save-at-largest:ev=save at=4294967295\n;\
+        save-at-over:ev=save at=4294967296\n;\
+        save-at-wraps-to-0:ev=save at=18446744073709551616\n;",
+    );
+}
+
+// 3, 4, 5, which comes first, and that the first faulty line decides.
+fn faults() {
+    rows(
+        b"procs=3\nev=send at=0 to=1 val=5\n",
+        b"send-at-3:ev=send at=3 to=0 val=5\n;\
+        send-to-3:ev=send at=0 to=3 val=5\n;\
+        recv-at-3:ev=recv at=3 from=0\n;\
+        recv-from-3:ev=recv at=0 from=3\n;\
+        save-at-3:ev=save at=3\n;\
+        save-at-2:ev=save at=2\n;\
+        send-to-itself:ev=send at=2 to=2 val=5\n;\
+        recv-from-itself:ev=recv at=2 from=2\n;\
+        send-3-to-itself:ev=send at=3 to=3 val=5\n;\
+        recv-3-from-itself:ev=recv at=3 from=3\n;\
+        recv-fit:ev=recv at=1 from=0\n;\
+        recv-twice:ev=recv at=1 from=0\nev=recv at=1 from=0\n;\
+        recv-other-way:ev=recv at=0 from=1\n;\
+        recv-other-channel:ev=recv at=2 from=0\n;\
+        send-again-recv-twice:ev=send at=0 to=1 val=5\nev=recv at=1 from=0\nev=recv at=1 from=0\n;\
+        fault-4-before-line-of-3:ev=send at=2 to=2 val=5\nev=save at=3\n;\
+        fault-5-before-line-of-1:ev=recv at=2 from=0\nx\n;\
+        fault-3-before-line-without-lf:ev=save at=3\nx;",
+    );
+}
+
+fn first_receive() {
+    case(b"recv-first", b"procs=2\nev=recv at=1 from=0\n");
+    case(b"procs-64-at-63", b"procs=64\nev=save at=63\n");
+    case(b"procs-64-at-64", b"procs=64\nev=save at=64\n");
+}
+
+// 6: the 30th and the 31st checkpoint of a process, and then another's.
+fn saves() {
+    let mut text = [0u8; 512];
+    let at = put(&mut text, 0, b"procs=2\n");
+    let n = repeat(&mut text, at, b"ev=save at=1\n", 30);
+    case(b"saves-30", &text[..n]);
+    let m = put(&mut text, n, b"ev=save at=1\n");
+    case(b"saves-31", &text[..m]);
+    let k = put(&mut text, n, b"ev=save at=0\n");
+    case(b"saves-30-and-1", &text[..k]);
+}
+
+// 7: the 2,048th and the 2,049th event, and what else stands at line 2,050.
+fn events() {
+    let mut text = [0u8; 65536];
+    let at = put(&mut text, 0, b"procs=2\n");
+    let m = repeat(&mut text, at, b"ev=send at=0 to=1 val=0\n", 2047);
+    let n = put(&mut text, m, b"ev=send at=1 to=0 val=9\n");
+    table(b"events-2048", &text[..n], 2060);
+    let a = put(&mut text, n, b"ev=send at=0 to=1 val=0\n");
+    case(b"events-2049", &text[..a]);
+    let b = put(&mut text, n, b"ev=save at=9\n");
+    case(b"events-2049-out-of-range", &text[..b]);
+    let c = put(&mut text, n, b"ev=send\n");
+    case(b"line-2050-malformed", &text[..c]);
+    let d = put(&mut text, n, b"ev=save at=0");
+    case(b"line-2050-no-lf", &text[..d]);
+    let e = put(&mut text, n, b"fail=1 set=1\n");
+    case(b"line-2050-failure", &text[..e]);
+}
+
+// 12, before anything else, and the words of document 01's trace H.
+fn areas() {
+    small(b"small-fit", b"procs=2\n");
+    small(b"small-malformed", b"x");
+    table(
+        b"trace-h",
+        b"procs=3\nev=send at=0 to=1 val=5\nev=recv at=1 from=0\nev=save at=1\n\
+        ev=send at=1 to=2 val=7\nev=recv at=2 from=1\nev=save at=0\n\
+        ev=send at=0 to=1 val=9\nev=recv at=1 from=0\nev=send at=1 to=2 val=4\n",
+        0,
+    );
+}
+
+fn main() {
+    io::write_all(1, b"case number place words changed\n");
+    first_lines();
+    malformed_lines();
+    leading_zeros();
+    largest_numbers();
+    faults();
+    first_receive();
+    saves();
+    events();
+    areas();
+}
