@@ -1,6 +1,6 @@
 -- The numbers of the columns are small: an event's number is at most 2,048, a phase at most one more than the events so far.
-use Prim.Native.Nat.{ℕ, zero, suc, _+_, _<_, _≤_}
-use mathlib.Core.Path.{_≡_, refl, sym, ap, _∙_}
+use Prim.Native.Nat.{ℕ, zero, suc, _<_, _≤_}
+use mathlib.Core.Path.{_≡_, refl}
 use mathlib.Core.Bool.{Bool, true, false}
 use native.Mathlib.Omega.{arith}
 use lib.Dec.{ltb}
@@ -8,7 +8,7 @@ use Rattle.words.proofs.Cases.{by-eq, by-lt}
 use Rattle.trace.specs.declared.Event.{Event}
 use Rattle.trace.specs.declared.Event.the-variants.{Send, Recv, Save}
 use Rattle.trace.specs.Trace.{Trace}
-use Rattle.theory.specs.Events.{size, eventAt, sent, rcvd, sendOf}
+use Rattle.theory.specs.Events.{size, eventAt, sendOf}
 use Rattle.theory.specs.Epochs.{past, joined, notes, epochAt, phaseAt}
 use Rattle.theory.proofs.Base.{place-le}
 use Rattle.theory.proofs.WellFormed.{Valid}

@@ -10,7 +10,6 @@ use Rattle.theory.specs.Events.{size}
 use Rattle.theory.specs.Epochs.{Rule}
 use Rattle.theory.specs.Line.{recorded}
 use Rattle.theory.specs.Laws.{Laws}
-use Rattle.theory.proofs.WellFormed.{Valid}
 use Rattle.theory.proofs.Epochs.{laws}
 use Rattle.protocol.proofs.Passes.{held-formed, held-valid}
 

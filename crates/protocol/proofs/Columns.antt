@@ -1,26 +1,25 @@
 -- Each kind of event fills its columns: `send-filled`, `recv-filled`, `save-filled`. From how counts, epochs and phases move.
-use Prim.Native.Nat.{ℕ, zero, suc, _+_, _*_, _<_, _≤_}
-use mathlib.Core.Path.{_≡_, refl, sym, ap, subst, _∙_}
+use Prim.Native.Nat.{ℕ, suc, _+_, _*_, _<_, _≤_}
+use mathlib.Core.Path.{_≡_, sym, ap, subst, _∙_}
 use mathlib.Core.Logic.{_≢_}
 use mathlib.Core.Bool.{Bool, true, false}
 use mathlib.Core.List.{List}
 use native.Mathlib.Omega.{arith}
-use lib.Dec.{ltb, leb, eqb}
-use lib.ListN.{length, getD, set, length-set}
+use lib.Dec.{leb}
+use lib.ListN.{length, getD, length-set}
 use lib.Seq.{getD-set-same, getD-set-other}
 use borrow.Author.Tests.{le-leb, lt-leb, lt-ltb}
 use Rattle.words.proofs.Cases.{by-eq, by-lt, clash}
-use Rattle.trace.specs.declared.Event.{Event}
 use Rattle.trace.specs.declared.Event.the-variants.{Send, Recv, Save}
 use Rattle.trace.specs.Trace.{Trace}
 use Rattle.theory.specs.Lists.{pick}
 use Rattle.theory.specs.Events.{send, recv, size, eventAt, at, kind, sends, recvs, sent, rcvd, sendOf, recvOf}
-use Rattle.theory.specs.Epochs.{past, joined, epochAt, phaseAt}
+use Rattle.theory.specs.Epochs.{past, epochAt, phaseAt}
 use Rattle.theory.proofs.Base.{place-zero}
 use Rattle.theory.proofs.WellFormed.{Valid}
-use Rattle.theory.proofs.Events.{sends-is, recvs-is, send-not-recv, send-of, sendOf-at, recvOf-at, sent-lt}
+use Rattle.theory.proofs.Events.{sends-is, recvs-is, send-of, sendOf-at, recvOf-at}
 use Rattle.protocol.specs.Filling.{stored, sendFull, recvPhase, recvFull, saveFull, Filled, Working}
-use Rattle.protocol.proofs.Moves.{sent-more, sent-same, rcvd-more, rcvd-same, send-at, send-here, send-else, send-recvs, send-epoch, send-phase, recv-at, recv-here, recv-else, recv-sends, recv-epoch, recv-phase, save-at, save-sends, save-recvs, save-epoch, save-phase}
+use Rattle.protocol.proofs.Moves.{sent-more, sent-same, rcvd-more, rcvd-same, send-at, send-here, send-recvs, send-epoch, send-phase, recv-at, recv-here, recv-else, recv-sends, recv-epoch, recv-phase, save-at, save-sends, save-recvs, save-epoch, save-phase}
 use Rattle.protocol.proofs.Storing.{length-stored, stored-match, stored-other, stored-phase, stored-epoch, stored-number, Step, filled-step, by-event}
 
 -- an event is on one channel only

@@ -1,6 +1,6 @@
 -- How the theory's counts, epochs and phases move at one event, by its kind. From the definitions, and the claims of the theory on what a
 -- message carries.
-use Prim.Native.Nat.{ℕ, zero, suc, _+_, _<_, _≤_}
+use Prim.Native.Nat.{ℕ, suc, _<_, _≤_}
 use mathlib.Core.Path.{_≡_, refl, sym, ap, _∙_}
 use mathlib.Core.Logic.{_≢_}
 use mathlib.Core.Bool.{Bool, true, false, _&&_}
@@ -9,14 +9,12 @@ use lib.Dec.{eqb, ltb}
 use borrow.Author.Tests.{eq-eqb, ne-eqb}
 use Rattle.trace.specs.declared.Event.{Event}
 use Rattle.trace.specs.declared.Event.the-variants.{Send, Recv, Save}
-use Rattle.trace.specs.Trace.{Trace, isSend, isRecv, isSave}
+use Rattle.trace.specs.Trace.{Trace}
 use Rattle.words.proofs.Cases.{by-eq}
-use Rattle.theory.specs.Lists.{pick, cnt, put}
-use Rattle.theory.specs.Events.{size, eventAt, at, kind, sends, recvs, sent, rcvd, sendOf, recvOf}
+use Rattle.theory.specs.Events.{size, eventAt, at, sends, recvs, sent, rcvd}
 use Rattle.theory.specs.Epochs.{Notes, past, joined, note, notes, epochAt, phaseAt, phaseOf, loggedBy}
 use Rattle.theory.proofs.Base.{eqb-self, cnt-suc, cnt-skip}
 use Rattle.theory.proofs.WellFormed.{Valid}
-use Rattle.theory.proofs.Events.{partner, sendOf-at}
 use Rattle.theory.proofs.Epochs.{phase-recv, phaseOf-send, logged-is}
 
 -- is this the channel

@@ -1,11 +1,10 @@
 -- The pass over the events: where it begins, that each event keeps the tables right, and that they end as the full table's columns.
-use Prim.Native.Nat.{ℕ, zero, suc, _+_, _-_, _*_, _<_, _≤_}
+use Prim.Native.Nat.{ℕ, zero, suc, _+_, _*_, _<_, _≤_}
 use mathlib.Core.Path.{_≡_, refl, sym, ap, _∙_}
-use mathlib.Core.Logic.{_≢_}
-use mathlib.Core.Bool.{Bool, true, false, _&&_}
-use mathlib.Core.List.{List, [], _∷_}
+use mathlib.Core.Bool.{true, _&&_}
+use mathlib.Core.List.{List, []}
 use native.Mathlib.Omega.{arith}
-use lib.Dec.{ltb, leb, eqb}
+use lib.Dec.{leb}
 use lib.ListN.{length, getD, set, take, replicate, length-set, length-replicate, getD-replicate, List·getD-eq-default}
 use lib.Seq.{getD-take, getD-set-same, getD-set-other}
 use borrow.Author.Tests.{leb-true, le-leb, lt-leb, le-ltb}
@@ -20,17 +19,17 @@ use Rattle.trace.specs.Table.{tableWord}
 use Rattle.table.specs.Held.{heldEvent, heldEvents, held, holdsTrace}
 use Rattle.table.proofs.Places.{length-held}
 use Rattle.table.proofs.Holding.{held-self, words-of}
-use Rattle.theory.specs.Lists.{pick, cnt, place}
-use Rattle.theory.specs.Events.{size, eventAt, at, kind, sends, recvs, sent, rcvd, sendOf, recvOf}
+use Rattle.theory.specs.Lists.{cnt, place}
+use Rattle.theory.specs.Events.{size, eventAt, at, sends, recvs, sent, rcvd, sendOf, recvOf}
 use Rattle.theory.specs.Epochs.{past, notes, epochAt, phaseAt}
 use Rattle.theory.proofs.Base.{place-le, place-there, cnt-le, cnt-bound}
 use Rattle.theory.proofs.Events.{sends-is, partner}
 use Rattle.theory.proofs.WellFormed.{Valid, valid}
 use Rattle.protocol.specs.Columns.{Columns}
-use Rattle.protocol.specs.Filling.{noteFull, noteWork, Notable, Filled, Working, oldestOf}
+use Rattle.protocol.specs.Filling.{noteFull, noteWork, Notable, Filled, Working}
 use Rattle.protocol.proofs.Moves.{send-here, send-at, recv-here, recv-at, save-at}
 use Rattle.protocol.proofs.Bounds.{sendOf-most, phase-most, epoch-most}
-use Rattle.protocol.proofs.Columns.{no-message, Found, found, oldest-is, oldest-found, send-filled, recv-filled, save-filled, latest-number}
+use Rattle.protocol.proofs.Columns.{no-message, oldest-is, oldest-found, send-filled, recv-filled, save-filled, latest-number}
 use Rattle.protocol.proofs.Work.{send-working, recv-working, save-working}
 
 -- ---- The trace that an area holds

@@ -1,23 +1,20 @@
 -- The words of the full table after one event's columns are stored, and what the table then holds: `filled-step`.
-use Prim.Native.Nat.{ℕ, zero, suc, _+_, _*_, _<_, _≤_}
-use mathlib.Core.Path.{_≡_, refl, sym, ap, subst, _∙_}
+use Prim.Native.Nat.{ℕ, suc, _+_, _<_, _≤_}
+use mathlib.Core.Path.{_≡_, subst, _∙_}
 use mathlib.Core.Logic.{_≢_}
-use mathlib.Core.Bool.{Bool, true, false}
+use mathlib.Core.Bool.{true}
 use mathlib.Core.List.{List}
 use native.Mathlib.Omega.{arith}
-use lib.Dec.{ltb, leb, eqb}
+use lib.Dec.{leb}
 use lib.ListN.{length, getD, set, length-set}
 use lib.Seq.{getD-set-same, getD-set-other}
-use borrow.Author.Tests.{le-leb, lt-leb}
 use Rattle.words.specs.Area.{areaWords}
-use Rattle.words.proofs.Cases.{by-eq, by-lt}
-use Rattle.trace.specs.declared.Event.{Event}
-use Rattle.trace.specs.declared.Event.the-variants.{Send, Recv, Save}
+use Rattle.words.proofs.Cases.{by-lt}
 use Rattle.trace.specs.Trace.{Trace}
 use Rattle.theory.specs.Lists.{pick}
-use Rattle.theory.specs.Events.{size, eventAt, at, sends, recvs, sent, rcvd, sendOf, recvOf}
-use Rattle.theory.specs.Epochs.{past, joined, epochAt, phaseAt}
-use Rattle.protocol.specs.Columns.{traceWords, numberBase, epochBase, phaseBase, matchBase}
+use Rattle.theory.specs.Events.{size, at, sends, recvs, sent, rcvd, sendOf, recvOf}
+use Rattle.theory.specs.Epochs.{past, epochAt, phaseAt}
+use Rattle.protocol.specs.Columns.{numberBase, epochBase, phaseBase, matchBase}
 use Rattle.protocol.specs.Filling.{stored, Filled}
 
 -- the four words of an event, and the others

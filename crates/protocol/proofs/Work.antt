@@ -1,26 +1,24 @@
 -- Each kind of event keeps the working words right: `send-working`, `recv-working`, `save-working`. From how counts, epochs and phases move.
-use Prim.Native.Nat.{ℕ, zero, suc, _+_, _*_, _<_, _≤_}
-use mathlib.Core.Path.{_≡_, refl, sym, ap, subst, _∙_}
+use Prim.Native.Nat.{ℕ, suc, _+_, _*_, _<_, _≤_}
+use mathlib.Core.Path.{_≡_, sym, ap, subst, _∙_}
 use mathlib.Core.Logic.{_≢_}
-use mathlib.Core.Bool.{Bool, true, false}
+use mathlib.Core.Bool.{true}
 use mathlib.Core.List.{List}
 use native.Mathlib.Omega.{arith}
-use lib.Dec.{ltb, leb, eqb}
+use lib.Dec.{ltb}
 use lib.ListN.{length, getD, set, length-set}
 use lib.Seq.{getD-set-same, getD-set-other}
 use borrow.Author.Tests.{le-ltb, lt-ltb, eq-eqb, ne-eqb}
 use Rattle.words.proofs.Cases.{by-eq, by-lt, clash}
-use Rattle.trace.specs.declared.Event.{Event}
 use Rattle.trace.specs.declared.Event.the-variants.{Send, Recv, Save}
 use Rattle.trace.specs.Trace.{Trace}
 use Rattle.theory.specs.Lists.{pick}
-use Rattle.theory.specs.Events.{size, eventAt, at, sends, recvs, sent, rcvd, sendOf, recvOf}
-use Rattle.theory.specs.Epochs.{past, joined, epochAt, phaseAt}
+use Rattle.theory.specs.Events.{size, eventAt, at, sends, sent, rcvd, sendOf}
 use Rattle.theory.proofs.WellFormed.{Valid}
 use Rattle.theory.proofs.Events.{sendOf-at, sent-le}
 use Rattle.protocol.specs.Filling.{orNew, sendWork, recvPhase, recvWork, saveWork, Filled, Working}
-use Rattle.protocol.proofs.Moves.{sent-more, sent-same, rcvd-more, rcvd-same, send-here, send-else, send-recvs, send-epoch, send-phase, recv-here, recv-else, recv-sends, recv-epoch, recv-phase-other, save-sends, save-recvs, save-epoch, save-epoch-other, save-phase, save-phase-other}
-use Rattle.protocol.proofs.Columns.{one-channel, no-message, Found, found, oldest-found, phase-is}
+use Rattle.protocol.proofs.Moves.{sent-more, sent-same, rcvd-same, send-here, send-else, send-recvs, send-epoch, send-phase, recv-else, recv-sends, recv-epoch, recv-phase-other, save-sends, save-recvs, save-epoch, save-epoch-other, save-phase, save-phase-other}
+use Rattle.protocol.proofs.Columns.{one-channel, no-message, found, oldest-found, phase-is}
 
 -- this channel, or another
 pub by-channel {ℓ} : {B : Type ℓ} (p q a b : ℕ) → (p ≡ a → q ≡ b → B) → (((p ≡ a) × (q ≡ b) → ⊥) → B) → B

@@ -2,7 +2,7 @@
 -- words hold after some events. No public contract cites these.
 use Prim.Native.Nat.{ℕ, suc, _+_, _*_, _<_, _≤_}
 use mathlib.Core.Path.{_≡_}
-use mathlib.Core.Bool.{Bool, true, false}
+use mathlib.Core.Bool.{true}
 use mathlib.Core.List.{List}
 use lib.Dec.{ltb, leb, eqb}
 use lib.ListN.{length, getD, set}
@@ -12,7 +12,7 @@ use Rattle.trace.specs.declared.Event.the-variants.{Send, Recv, Save}
 use Rattle.trace.specs.Trace.{Trace}
 use Rattle.trace.specs.Table.{tableWord}
 use Rattle.theory.specs.Lists.{pick}
-use Rattle.theory.specs.Events.{size, at, sends, recvs, sent, rcvd, sendOf, recvOf}
+use Rattle.theory.specs.Events.{at, sends, recvs, sent, rcvd, sendOf, recvOf}
 use Rattle.theory.specs.Epochs.{past, joined, epochAt, phaseAt}
 use Rattle.protocol.specs.Columns.{numberBase, epochBase, phaseBase, matchBase, traceWords}
 

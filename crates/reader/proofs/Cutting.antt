@@ -1,17 +1,15 @@
 -- Laws of `pieces`: the search for LF cuts the text where the definition does.
-use Prim.Native.Nat.{ℕ, zero, suc, _+_, _-_, _<_, _≤_}
-use mathlib.Core.Path.{_≡_, refl, sym, ap, _∙_}
-use mathlib.Core.List.{List, [], _∷_, _++_}
-use mathlib.Core.Bool.{Bool, true, false}
+use Prim.Native.Nat.{ℕ, suc, _+_, _-_, _<_, _≤_}
+use mathlib.Core.Path.{_≡_, refl, _∙_}
+use mathlib.Core.List.{List, [], _∷_}
 use native.Mathlib.Omega.{arith}
 use lib.Dec.{eqb}
 use lib.ListN.{length, take, drop, length-drop}
 use lib.Seq.{drop-drop}
 use Rattle.words.proofs.Cases.{by-bool}
-use Rattle.text.specs.declared.LineEnd.{LineEnd}
 use Rattle.text.specs.declared.LineEnd.the-variants.{At, Missing}
-use Rattle.text.specs.Line.{lfFrom, pickEnd}
-use Rattle.reader.specs.Verdict.{pieces, grow}
+use Rattle.text.specs.Line.{lfFrom}
+use Rattle.reader.specs.Verdict.{pieces}
 
 -- the bytes up to the first LF are the first piece
 pub cut-at : (at : ℕ) (bs : List ℕ) (i : ℕ) → lfFrom at bs ≡ At i

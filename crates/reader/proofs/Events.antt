@@ -1,17 +1,17 @@
 -- The lines after the first: what is read there is rendered events, all fit, and fit events rendered are read. From the laws of one line and of pieces.
-use Prim.Native.Nat.{ℕ, suc, _+_, _<_, _≤_}
+use Prim.Native.Nat.{ℕ, _+_, _<_, _≤_}
 use mathlib.Core.Path.{_≡_, refl, sym, ap, _∙_}
 use mathlib.Core.List.{List, [], _∷_, _++_, append-assoc, append-nil}
-use mathlib.Core.Bool.{Bool, true, false}
+use mathlib.Core.Bool.{true}
 use native.Mathlib.Omega.{arith}
-use lib.Dec.{leb, eqb}
+use lib.Dec.{eqb}
 use lib.ListN.{length, length-append}
-use borrow.Author.Tests.{leb-true, leb-false, le-leb, lt-leb, eqb-true, eq-eqb, ne-eqb}
+use borrow.Author.Tests.{leb-true, le-leb, lt-leb, eqb-true, eq-eqb, ne-eqb}
 use Rattle.words.proofs.Cases.{by-eq, and-left, and-right, and-both}
 use Rattle.trace.specs.declared.Event.{Event}
 use Rattle.trace.specs.declared.Event.the-variants.{Send, Recv, Save}
 use Rattle.trace.specs.Trace.{Trace}
-use Rattle.trace.specs.Fit.{orElse, faultOf, valueFits, allFit}
+use Rattle.trace.specs.Fit.{faultOf, valueFits, allFit}
 use Rattle.reader.specs.declared.Line.{Line}
 use Rattle.reader.specs.declared.Line as line
 use Rattle.reader.specs.declared.Judged.{Judged}

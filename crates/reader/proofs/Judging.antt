@@ -1,21 +1,19 @@
 -- Laws of `judge`: one for each way out of the functions that judge a line, and what a line that is judged fit has.
-use Prim.Native.Nat.{ℕ, zero, suc, _+_, _*_, _<_, _≤_}
-use mathlib.Core.Path.{_≡_, refl, sym, ap, _∙_}
-use mathlib.Core.List.{List, [], _∷_, _++_}
-use mathlib.Core.Bool.{Bool, true, false}
+use Prim.Native.Nat.{ℕ, _<_, _≤_}
+use mathlib.Core.Path.{_≡_}
+use mathlib.Core.List.{List}
 use native.Mathlib.Omega.{arith}
-use lib.Dec.{leb, eqb}
-use lib.ListN.{length, getD}
-use borrow.Author.Tests.{leb-true, leb-false, eqb-true, eqb-false, le-leb, lt-leb, eq-eqb, ne-eqb}
+use lib.Dec.{leb}
+use lib.ListN.{length}
+use borrow.Author.Tests.{leb-false, le-leb, lt-leb, eq-eqb, ne-eqb}
 use Rattle.trace.specs.declared.Event.{Event}
 use Rattle.trace.specs.declared.Event.the-variants.{Send, Recv, Save}
-use Rattle.trace.specs.Trace.{Trace, sends, recvs, saves}
-use Rattle.trace.specs.Fit.{orElse, faultOf}
+use Rattle.trace.specs.Trace.{Trace}
+use Rattle.trace.specs.Fit.{faultOf}
 use Rattle.words.proofs.Cases.{by-eq}
 use Rattle.reader.specs.declared.Line.{Line}
 use Rattle.reader.specs.declared.Line as line
-use Rattle.reader.specs.declared.Judged.{Judged}
-use Rattle.reader.specs.declared.Judged.the-variants.{Fit, Fails, Unfit}
+use Rattle.reader.specs.declared.Judged.the-variants.{Fit, Unfit}
 use Rattle.reader.specs.Verdict.{faultHere, judgeEvent, judge}
 use Rattle.trace.proofs.Faults.{or-zero}
 

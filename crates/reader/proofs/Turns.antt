@@ -1,11 +1,9 @@
 -- Laws of reading: one for each way a turn of the loop over the lines goes, and each way out of `scan`.
-use Prim.Native.Nat.{ℕ, zero, suc, _+_, _-_, _<_, _≤_}
+use Prim.Native.Nat.{ℕ, _+_, _-_, _<_, _≤_}
 use mathlib.Core.Path.{_≡_, refl, sym, ap, _∙_}
-use mathlib.Core.List.{List, [], _∷_, _++_}
-use mathlib.Core.Bool.{Bool, true, false}
+use mathlib.Core.List.{List, [], _∷_}
 use native.Mathlib.Omega.{arith}
-use lib.ListN.{length, take, drop, drop-of-length-le, length-drop, length-append}
-use lib.Dec.{ltb}
+use lib.ListN.{length, take, drop, drop-of-length-le, length-drop}
 use borrow.Author.Tests.{lt-ltb, le-ltb}
 use types.Run.{OneOf, miss}
 use denote.Enum.Declared.{tagOf}
@@ -20,9 +18,9 @@ use Rattle.reader.proofs.Judged as judged
 use Rattle.reader.proofs.Line as lineType
 use Rattle.reader.specs.declared.Judged.the-variants.{Fit, Fails, Unfit}
 use Rattle.reader.specs.declared.Scanned.{Scanned}
-use Rattle.reader.specs.declared.Scanned.the-variants.{Refused, Ended, Stopped}
+use Rattle.reader.specs.declared.Scanned.the-variants.{Refused, Ended}
 use Rattle.reader.specs.Line.{lineOf}
-use Rattle.reader.specs.Verdict.{Scan, refused, ended, stopped, pieces, extended, judge, afterLine, atEnd, linesFrom, firstLine, scanPieces, scan}
+use Rattle.reader.specs.Verdict.{Scan, refused, ended, pieces, extended, judge, afterLine, atEnd, linesFrom, firstLine, scanPieces, scan}
 use Rattle.reader.specs.Reading.{Holds, stopOf, Outcome}
 use Rattle.reader.proofs.Pieces.{first-piece}
 use Rattle.reader.proofs.Cutting.{cut-none, line-cut, first-cut}

@@ -1,5 +1,5 @@
 -- What a line of the text says (document 01, "The trace text"). A line is its bytes without the LF that ends it.
-use Prim.Native.Nat.{ℕ, _+_}
+use Prim.Native.Nat.{ℕ}
 use mathlib.Core.List.{List, [], _∷_}
 use mathlib.Core.Bool.{Bool, true, false}
 use lib.ListN.{length}

@@ -1,6 +1,6 @@
 -- Laws of keys: one for each way a turn of the comparison goes; that a key which is found lies within the text.
-use Prim.Native.Nat.{ℕ, suc, zero, _+_, _-_, _<_, _≤_, zero-le, suc-le-suc}
-use mathlib.Core.Path.{_≡_, refl, sym, ap, _∙_}
+use Prim.Native.Nat.{ℕ, suc, _+_, _-_, _<_, _≤_, zero-le, suc-le-suc}
+use mathlib.Core.Path.{_≡_, refl, sym}
 use mathlib.Core.List.{List, [], _∷_}
 use mathlib.Core.Bool.{Bool, true, false}
 use native.Mathlib.Omega.{arith}
@@ -11,7 +11,6 @@ use lib.ListN.{length, getD, drop, drop-of-length-le, length-drop}
 use lib.Seq.{drop-cons}
 use borrow.Author.Tests.{eq-eqb, ne-eqb}
 use Rattle.words.proofs.Cases.{by-bool, and-right}
-use Rattle.text.specs.declared.Num.{Num}
 use Rattle.text.specs.declared.Num.the-variants.{Value, Refused}
 use Rattle.text.specs.Number.{numberAt}
 use Rattle.text.specs.Key.{keyAt, startsWith, whenKey, fieldAt}

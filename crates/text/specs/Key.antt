@@ -5,7 +5,7 @@ use mathlib.Core.Bool.{Bool, true, false, _&&_}
 use lib.ListN.{length, drop}
 use lib.Dec.{eqb}
 use Rattle.text.specs.declared.Num.{Num}
-use Rattle.text.specs.declared.Num.the-variants.{Value, Refused}
+use Rattle.text.specs.declared.Num.the-variants.{Refused}
 use Rattle.text.specs.Number.{numberAt}
 
 -- the bytes begin with the key's

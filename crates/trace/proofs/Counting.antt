@@ -1,6 +1,6 @@
 -- Laws of the counters: counting a fit event keeps them right, and no counter leaves its range.
-use Prim.Native.Nat.{ℕ, zero, suc, _+_, _-_, _*_, _<_, _≤_}
-use mathlib.Core.Path.{_≡_, refl, sym, ap, _∙_}
+use Prim.Native.Nat.{ℕ, _+_, _-_, _*_, _<_, _≤_}
+use mathlib.Core.Path.{_≡_, ap, _∙_}
 use mathlib.Core.List.{List, [], _∷_, _++_}
 use mathlib.Core.Bool.{Bool, true, false, _&&_}
 use native.Mathlib.Omega.{arith}
@@ -11,7 +11,7 @@ use borrow.Author.Tests.{eq-eqb, ne-eqb}
 use Rattle.words.proofs.Cases.{by-eq}
 use Rattle.trace.specs.declared.Event.{Event}
 use Rattle.trace.specs.declared.Event.the-variants.{Send, Recv, Save}
-use Rattle.trace.specs.Trace.{oneIf, count, isSend, isRecv, isSave, sends, recvs, saves}
+use Rattle.trace.specs.Trace.{oneIf, count, isSend, isRecv, isSave}
 use Rattle.trace.specs.Fit.{faultOf}
 use Rattle.trace.specs.Tally.{Tally, Next, tallied}
 use Rattle.trace.proofs.Faults.{send-fit, recv-fit, save-fit}

@@ -1,5 +1,5 @@
 -- Events and traces (document 01, "The trace text"). A process is document 01's zone, a checkpoint its save.
-use Prim.Native.Nat.{ℕ, zero, suc, _+_}
+use Prim.Native.Nat.{ℕ, _+_}
 use mathlib.Core.List.{List, [], _∷_}
 use mathlib.Core.Bool.{Bool, true, false, _&&_}
 use lib.Dec.{eqb}

@@ -1,8 +1,8 @@
 -- `protocol::fill` meets its contract: after e events the tables are filled so far.
-use Prim.Native.Nat.{ℕ, _≤_, _<_, _-_}
+use Prim.Native.Nat.{_≤_, _-_}
 use mathlib.Core.Path.{_≡_, refl, sym, ap, _∙_}
 use native.Mathlib.Numerals.{add-one}
-use lib.ListN.{length, getD}
+use lib.ListN.{getD}
 use Rattle.table.specs.Held.{held, heldEvent}
 use Rattle.theory.specs.Events.{size}
 use Rattle.protocol.specs.Filling.{Filled, Working}

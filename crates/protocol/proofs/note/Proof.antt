@@ -1,6 +1,4 @@
 -- `protocol::note` meets its contract, case by case.
-use mathlib.Core.Path.{_≡_}
-use native.Mathlib.Omega.{arith}
 use borrow.Author.Needs.{needs}
 use Rattle.protocol.proofs.note.Statement.{statement}
 use Rattle.protocol.proofs.note.Tie as tie

@@ -1,7 +1,5 @@
 -- `protocol::or_new` meets its contract.
 use borrow.Author.Tests.{eq-eqb, ne-eqb}
-use native.Mathlib.Omega.{arith}
-use borrow.Author.Needs.{needs}
 use Rattle.protocol.proofs.or_new.Statement.{statement}
 use Rattle.protocol.proofs.or_new.Tie as tie
 

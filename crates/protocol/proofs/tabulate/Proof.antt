@@ -1,7 +1,6 @@
 -- `protocol::tabulate` meets its contract: the tables begin as the pass needs them.
-use mathlib.Core.Path.{_≡_, refl, sym, _∙_}
-use mathlib.Core.Bool.{true, false}
-use lib.ListN.{length}
+use mathlib.Core.Path.{refl, sym, _∙_}
+use mathlib.Core.Bool.{false}
 use borrow.Author.Tests.{eq-eqb, ne-eqb}
 use Rattle.words.proofs.Cases.{clash}
 use Rattle.protocol.proofs.Passes.{held-long, copied-filled, begun-working}

@@ -1,8 +1,6 @@
 -- `reader::fault` meets its contract: 7 first, then what else is wrong with the event.
-use Prim.Native.Nat.{_<_, _≤_}
-use mathlib.Core.Path.{_≡_, _∙_}
+use mathlib.Core.Path.{_∙_}
 use Rattle.reader.proofs.Judging.{fault-1, fault-2}
-use native.Mathlib.Omega.{arith}
 use borrow.Author.Needs.{needs}
 use Rattle.reader.proofs.fault.Statement.{statement}
 use Rattle.reader.proofs.fault.Tie as tie

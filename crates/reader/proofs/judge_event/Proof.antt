@@ -1,6 +1,5 @@
 -- `reader::judge_event` meets its contract, one law for each way out.
 use Rattle.reader.proofs.Judging.{judge-fit, judge-unfit}
-use native.Mathlib.Omega.{arith}
 use borrow.Author.Needs.{needs}
 use Rattle.reader.proofs.judge_event.Statement.{statement}
 use Rattle.reader.proofs.judge_event.Tie as tie

@@ -1,6 +1,5 @@
 -- `reader::judge_line` meets its contract, case by case.
 use Rattle.reader.specs.Verdict.{judge}
-use native.Mathlib.Omega.{arith}
 use borrow.Author.Needs.{needs}
 use Rattle.reader.proofs.judge_line.Statement.{statement}
 use Rattle.reader.proofs.judge_line.Tie as tie

@@ -1,14 +1,13 @@
 -- `reader::read_events` meets its contract: between two lines the table and the counters are those of the events so far, and what
 -- the lines from here give is what they give from the start.
-use Prim.Native.Nat.{ℕ, _≤_, _<_, _-_, _+_}
+use Prim.Native.Nat.{ℕ, _≤_, _-_, _+_}
 use mathlib.Core.Path.{_≡_, refl, sym, ap, _∙_}
 use mathlib.Core.List.{List, [], _∷_, _++_}
-use lib.ListN.{length, drop, take, length-append}
+use lib.ListN.{length, drop, length-append}
 use Rattle.trace.specs.declared.Event.{Event}
 use Rattle.trace.specs.Trace.{Trace}
-use Rattle.reader.specs.Line.{lineOf}
-use Rattle.reader.specs.Verdict.{judge, pieces, linesFrom, extended}
-use Rattle.trace.specs.Tally.{Tally, Next}
+use Rattle.reader.specs.Verdict.{judge, pieces, linesFrom}
+use Rattle.trace.specs.Tally.{Tally}
 use Rattle.reader.specs.Reading.{Holds}
 use Rattle.reader.proofs.Judging.{fit-line, fit-few}
 use Rattle.trace.proofs.Counting.{next-tally}

@@ -1,6 +1,5 @@
 -- `reader::read_in` meets its contract, one law for each outcome of the scan.
 use Rattle.reader.proofs.Verdicts.{left-refused, left-ended, left-stopped}
-use native.Mathlib.Omega.{arith}
 use borrow.Author.Needs.{needs}
 use Rattle.reader.proofs.read_in.Statement.{statement}
 use Rattle.reader.proofs.read_in.Tie as tie

@@ -1,7 +1,6 @@
 -- `reader::read_line` meets its contract: the first key that stands at the line's start picks the form.
 use mathlib.Core.Path.{sym, _∙_}
 use Rattle.reader.specs.Line.{lineOf}
-use native.Mathlib.Omega.{arith}
 use borrow.Author.Needs.{needs}
 use Rattle.reader.proofs.read_line.Statement.{statement}
 use Rattle.reader.proofs.read_line.Tie as tie

@@ -1,8 +1,7 @@
 -- `reader::scan_text` meets its contract, one law for each way out.
-use Prim.Native.Nat.{ℕ, _≤_, _<_, _+_}
-use mathlib.Core.Path.{_≡_, refl, sym, ap, _∙_}
-use mathlib.Core.List.{List, []}
-use lib.ListN.{length, take, drop, replicate, length-set}
+use Prim.Native.Nat.{ℕ}
+use mathlib.Core.Path.{sym, ap, _∙_}
+use lib.ListN.{replicate, length-set}
 use lib.Seq.{length-take-le}
 use Rattle.trace.proofs.Counting.{none-tally}
 use Rattle.reader.proofs.Cutting.{first-cut}

@@ -1,7 +1,4 @@
 -- `reader::stop` meets its contract, case by case.
-use mathlib.Core.Path.{sym, ap}
-use Rattle.reader.specs.Reading.{stopOf}
-use native.Mathlib.Omega.{arith}
 use borrow.Author.Needs.{needs}
 use Rattle.reader.proofs.stop.Statement.{statement}
 use Rattle.reader.proofs.stop.Tie as tie

@@ -1,9 +1,7 @@
+-- `text::byte` meets its contract: past the end the default stands.
 use Rattle.words.proofs.Cases.{getD-any}
 use lib.ListN.{List·getD-eq-default}
-use lib.ListN.{length, take, drop, getD, set, replicate, length-set}
-use mathlib.Core.List.{List, [], _∷_, _++_}
-use mathlib.Core.Path.{_≡_, refl, sym, ap, _∙_}
-use Prim.Native.Nat.{ℕ, zero, suc, _≤_, _<_, _-_, _+_, _*_}
+use mathlib.Core.Path.{sym}
 use native.Mathlib.Omega.{arith}
 use borrow.Author.Needs.{needs}
 use Rattle.text.proofs.byte.Statement.{statement}

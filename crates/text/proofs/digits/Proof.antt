@@ -1,12 +1,10 @@
-use borrow.Author.Tests.{not-true, not-false}
+-- `text::digits` meets its contract: the digits still to be read carry the value on to what they give from the start.
+use borrow.Author.Tests.{not-false}
 use Rattle.text.proofs.Numbers.{digits-end, digits-stop, digits-over, digits-next}
-use Rattle.text.specs.Number.{isDigit, pushed, digitsFrom}
-use mathlib.Core.Bool.{true, false}
-use lib.ListN.{length, take, drop, getD, set, replicate, length-set}
-use mathlib.Core.List.{List, [], _∷_, _++_}
-use mathlib.Core.Path.{_≡_, refl, sym, ap, _∙_}
-use Prim.Native.Nat.{ℕ, zero, suc, _≤_, _<_, _-_, _+_, _*_}
-use native.Mathlib.Omega.{arith}
+use Rattle.text.specs.Number.{digitsFrom}
+use lib.ListN.{length, drop}
+use mathlib.Core.Path.{_≡_, sym, _∙_}
+use Prim.Native.Nat.{_-_}
 use borrow.Author.Needs.{needs}
 use Rattle.text.proofs.digits.Statement.{statement}
 use Rattle.text.proofs.digits.Tie as tie

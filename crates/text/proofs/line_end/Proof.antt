@@ -1,10 +1,9 @@
 -- `text::line_end` meets its contract: the search from here finds what the search from the start does.
-use Prim.Native.Nat.{ℕ, _-_}
+use Prim.Native.Nat.{_-_}
 use mathlib.Core.Path.{_≡_, refl, sym, _∙_}
 use lib.ListN.{length, drop}
 use Rattle.text.specs.Line.{lfFrom}
 use Rattle.text.proofs.Lines.{lf-none, lf-here, lf-next}
-use native.Mathlib.Omega.{arith}
 use borrow.Author.Needs.{needs}
 use Rattle.text.proofs.line_end.Statement.{statement}
 use Rattle.text.proofs.line_end.Tie as tie

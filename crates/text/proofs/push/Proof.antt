@@ -1,5 +1,5 @@
 -- `text::push` meets its contract: below a tenth of the bound any digit fits, above it none, and at it the digit is compared.
-use mathlib.Core.Path.{_≡_, sym}
+use mathlib.Core.Path.{sym}
 use native.Mathlib.Omega.{arith}
 use borrow.Author.Needs.{needs}
 use Rattle.text.proofs.Numbers.{digit-low, digit-high, pushed-fits, pushed-over}

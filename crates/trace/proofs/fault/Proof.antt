@@ -1,6 +1,4 @@
 -- `trace::fault` meets its contract: what is wrong with the event, by its kind.
-use mathlib.Core.Path.{_≡_}
-use native.Mathlib.Omega.{arith}
 use borrow.Author.Needs.{needs}
 use Rattle.trace.proofs.fault.Statement.{statement}
 use Rattle.trace.proofs.fault.Tie as tie

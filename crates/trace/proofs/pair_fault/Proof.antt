@@ -1,7 +1,5 @@
 -- `trace::pair_fault` meets its contract, one law for each way out.
 use Rattle.trace.proofs.Faults.{pair-1, pair-2, pair-3, pair-4}
-use native.Mathlib.Omega.{arith}
-use borrow.Author.Needs.{needs}
 use Rattle.trace.proofs.pair_fault.Statement.{statement}
 use Rattle.trace.proofs.pair_fault.Tie as tie
 

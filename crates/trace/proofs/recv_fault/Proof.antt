@@ -1,6 +1,5 @@
 -- `trace::recv_fault` meets its contract, one law for each way out.
-use Prim.Native.Nat.{_≤_}
-use mathlib.Core.Path.{_≡_, sym, _∙_}
+use mathlib.Core.Path.{sym, _∙_}
 use mathlib.Core.List.{[]}
 use Rattle.trace.proofs.Faults.{send-fit, recv-1, recv-2, recv-3}
 use native.Mathlib.Omega.{arith}

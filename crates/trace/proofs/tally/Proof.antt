@@ -1,6 +1,4 @@
 -- `trace::tally` meets its contract: a fit event's counter is there and stays in its range.
-use mathlib.Core.Path.{_≡_, sym, ap, _∙_}
-use Rattle.trace.specs.Tally.{Next, tallied}
 use Rattle.trace.proofs.Counting.{send-next, recv-next, save-next}
 use native.Mathlib.Omega.{arith}
 use borrow.Author.Needs.{needs}

@@ -1,7 +1,6 @@
 -- `trace::value` meets its contract, case by case.
 use mathlib.Core.Path.{sym, ap}
 use Rattle.trace.specs.Table.{valueWord}
-use native.Mathlib.Omega.{arith}
 use borrow.Author.Needs.{needs}
 use Rattle.trace.proofs.value.Statement.{statement}
 use Rattle.trace.proofs.value.Tie as tie

@@ -1,7 +1,6 @@
 -- `trace::word` meets its contract, case by case.
 use mathlib.Core.Path.{sym, ap}
 use Rattle.trace.specs.Table.{wordOf}
-use native.Mathlib.Omega.{arith}
 use borrow.Author.Needs.{needs}
 use Rattle.trace.proofs.word.Statement.{statement}
 use Rattle.trace.proofs.word.Tie as tie

@@ -1,6 +1,6 @@
 -- `words::zero` meets its contract: after i turns the first i words are 0 and the others as they were.
 use Prim.Native.Nat.{ℕ, _≤_, _-_}
-use mathlib.Core.Path.{_≡_, refl, ap, _∙_}
+use mathlib.Core.Path.{_≡_, ap, _∙_}
 use mathlib.Core.List.{List, _++_, append-nil}
 use lib.ListN.{length, drop, set, replicate, length-set, drop-of-length-le}
 use native.Mathlib.Omega.{arith}
