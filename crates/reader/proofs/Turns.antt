@@ -52,13 +52,13 @@ module _ (text : List ℕ) (t : Trace) (k at : ℕ) where
     pub turn-fit : (d : Event) → j ≡ Fit d → linesFrom t k (pieces (drop at text)) ≡ linesFrom (extended t d) (k + 1) (pieces (drop (i + 1) text))
     turn-fit d q = turn-line ∙ rw q
 
-    pub turn-stop : (table : List ℕ) → Holds table t → OneOf (1 ∷ 2 ∷ []) (tagOf judged.the-type j) → Outcome text (linesFrom t k (pieces (drop at text))) (stopOf j k (i + 1)) table
+    pub turn-stop : (table : List ℕ) → k ≤ 2050 → Holds table t → OneOf (1 ∷ 2 ∷ []) (tagOf judged.the-type j) → Outcome text (linesFrom t k (pieces (drop at text))) (stopOf j k (i + 1)) table
     unfolding Outcome
-    turn-stop table w o = rw turn-line (by-case j o)
+    turn-stop table b w o = rw turn-line (by-case j o)
       where
         by-case : (x : Judged) → OneOf (1 ∷ 2 ∷ []) (tagOf judged.the-type x) → Outcome text (afterLine x t k (pieces (drop (i + 1) text)) (λ d. linesFrom (extended t d) (k + 1) (pieces (drop (i + 1) text)))) (stopOf x k (i + 1)) table
         by-case (Fit d) o′ = absurd (miss (1 ∷ 2 ∷ []) 0 tt o′)
-        by-case (Fails step set) o′ = (i + 1, refl, refl, w)
+        by-case (Fails step set) o′ = (i + 1, refl, refl, w, b)
         by-case (Unfit n) o′ = (refl, w .size)
 
 -- an outcome that is known

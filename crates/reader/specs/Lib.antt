@@ -3,3 +3,4 @@ pub mod Verdict
 pub mod Render
 pub mod Answer
 pub mod Reading
+pub mod Failure

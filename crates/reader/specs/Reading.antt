@@ -1,6 +1,6 @@
 -- What the reader's loop holds between two lines: the words it has stored, and how its outcome stands for a `Scan`. No public
 -- contract cites these.
-use Prim.Native.Nat.{ℕ, _+_, _<_}
+use Prim.Native.Nat.{ℕ, _+_, _<_, _≤_}
 use mathlib.Core.Path.{_≡_}
 use mathlib.Core.List.{List}
 use lib.ListN.{length, getD, set, drop}
@@ -33,4 +33,4 @@ stopOf (Unfit n) k next = Refused n k
 unfoldable pub Outcome : List ℕ → Scan → Scanned → List ℕ → Type 0
 Outcome text (refused n k) r table = (r ≡ Refused n k) × (length table ≡ areaWords)
 Outcome text (ended t k) r table = (r ≡ Ended k) × Holds table t
-Outcome text (stopped t step set k rest) r table = (at : ℕ) × (r ≡ Stopped step set k at) × (rest ≡ pieces (drop at text)) × Holds table t
+Outcome text (stopped t step set k rest) r table = (at : ℕ) × (r ≡ Stopped step set k at) × (rest ≡ pieces (drop at text)) × Holds table t × (k ≤ 2050)

@@ -8,6 +8,7 @@ ghost use Prim.Native.Nat.{_≤_, _<_};
 ghost use lib.ListN.{length, drop, replicate};
 ghost use Rattle.reader.specs.Line.{lineOf, procsOf, sendOf, recvOf, saveOf, failOf};
 ghost use Rattle.reader.specs.Answer.{answerOf, ruleOf, readAnswer, readArea};
+ghost use Rattle.reader.specs.Failure.{failureOf, traceOf, failureAnswerOf, failureAnswer, failureArea};
 ghost use Rattle.words.specs.Area.{areaWords, wordsFrom};
 ghost use Rattle.trace.specs.Trace.{Trace};
 ghost use Rattle.trace.specs.Tally.{Tally};
@@ -48,6 +49,14 @@ pub enum Scanned {
 pub struct Answer {
     pub number: u32,
     pub place: usize,
+}
+
+// The answer of reading a text that ends with a failure line: also that line's step and set.
+pub struct FailureAnswer {
+    pub number: u32,
+    pub place: usize,
+    pub step: u64,
+    pub set: u64,
 }
 
 const MOST: u64 = 4294967295;
@@ -314,4 +323,60 @@ pub fn read(text: &[u8], table: &mut [u32]) -> Answer
         };
     }
     read_in(text, &mut table[..AREA_WORDS])
+}
+
+// A refusal of a text with a failure line.
+fn refuse_failure(table: &mut [u32], number: u32, place: usize) -> FailureAnswer
+    ensures answer { λ r. ⌜ r ≡ (record { number = number; place = place; step = 0; set = 0 }) ⌝ }
+    ensures words { λ _. ⌜ now (table .exit) ≡ replicate (length (now (table .entry))) 0 ⌝ }
+{
+    words::zero(table);
+    FailureAnswer {
+        number: number,
+        place: place,
+        step: 0,
+        set: 0,
+    }
+}
+
+// Reads a text that ends with a failure line into a table of 16,384 words.
+fn read_failure_in(text: &[u8], table: &mut [u32]) -> FailureAnswer
+    requires { ⌜ length (now table) ≡ areaWords ⌝ }
+    ensures answer { λ r. ⌜ r ≡ failureAnswerOf (failureOf (now (text .entry))) ⌝ }
+    ensures words { λ _. ⌜ now (table .exit) ≡ wordsFrom (ruleOf (traceOf (failureOf (now (text .entry))))) 0 areaWords ⌝ }
+{
+    let s = scan_text(text, table);
+    match s {
+        Scanned::Refused(number, place) => refuse_failure(table, number, place),
+        Scanned::Ended(place) => refuse_failure(table, 1, place),
+        Scanned::Stopped(step, set, place, next) => {
+            if next < text.len() {
+                refuse_failure(table, 1, place + 1)
+            } else {
+                FailureAnswer {
+                    number: 0,
+                    place: 0,
+                    step: step,
+                    set: set,
+                }
+            }
+        }
+    }
+}
+
+// Reads a trace text whose last line is a failure line into the table area: the answer with the failure's numbers, and the area's
+// first 16,384 words, by the lines of the text.
+pub fn read_failure(text: &[u8], table: &mut [u32]) -> FailureAnswer
+    ensures answer { λ r. ⌜ r ≡ failureAnswer (now (text .entry)) (now (table .entry)) ⌝ }
+    ensures words { λ _. ⌜ now (table .exit) ≡ failureArea (now (text .entry)) (now (table .entry)) ⌝ }
+{
+    if table.len() < AREA_WORDS {
+        return FailureAnswer {
+            number: 12,
+            place: 0,
+            step: 0,
+            set: 0,
+        };
+    }
+    read_failure_in(text, &mut table[..AREA_WORDS])
 }

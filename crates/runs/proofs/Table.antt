@@ -12,6 +12,7 @@ use Rattle.trace.specs.declared.Event.the-variants.{Send, Recv, Save}
 use Rattle.trace.specs.Trace.{Trace}
 use Rattle.trace.specs.Fit.{wellFormed}
 use Rattle.reader.specs.Line.{procsOf, sendOf, recvOf, saveOf, failOf, lineOf as lineIn}
+use Rattle.reader.specs.Failure.{failureOf as lastFailure}
 use Rattle.reader.specs.Verdict.{pieces, faultHere, judgeEvent, judge, linesFrom, scanPieces, scan, Verdict, accepted, verdict}
 use Rattle.theory.specs.Events.{size}
 use Rattle.theory.specs.Epochs.{past}
@@ -26,7 +27,7 @@ use Rattle.runs.specs.Report.{Answer, refused, given, Failure, failureOf
 
 -- all that a row computes with, beside what the theory's rows do: `opens`
 unfoldable reads : ℕ
-unfolding bytesOf linesOf failing startsWith fieldAt isDigit pushed digitsFrom numberAt lastDigits procsOf sendOf recvOf saveOf failOf lineIn pieces faultHere judgeEvent judge linesFrom scanPieces scan verdict failureFault permits lineFault failureOf losses replay engineLine recoveryBy recovery messageLines printedOf printed
+unfolding bytesOf linesOf failing startsWith fieldAt isDigit pushed digitsFrom numberAt lastDigits procsOf sendOf recvOf saveOf failOf lineIn pieces faultHere judgeEvent judge linesFrom scanPieces scan verdict lastFailure failureFault permits lineFault failureOf losses replay engineLine recoveryBy recovery messageLines printedOf printed
 reads = 0
 
 -- a trace of two processes

@@ -8,7 +8,7 @@ use lib.ListN.{length, getD}
 use lib.Dec.{ltb, eqb}
 use Rattle.text.specs.Number.{decimal}
 use Rattle.trace.specs.Trace.{Trace}
-use Rattle.reader.specs.Verdict.{Scan, scan}
+use Rattle.reader.specs.Failure.{Failing, failureOf as lastFailure}
 use Rattle.theory.specs.Lists.{pick, keep}
 use Rattle.theory.specs.Epochs.{past}
 use Rattle.theory.specs.Line.{inSet, Run, recorded, current, reached, greatestLine}
@@ -34,17 +34,9 @@ pub record Failure : Type 0 where
   pub step : ℕ
   pub set : ℕ
 
--- what follows the failure line, line k: nothing, or a line that is not due
-abbrev pub lastLine : List (List ℕ) → ℕ → Failure → Answer Failure
-lastLine [] k f = given f
-lastLine ([] ∷ []) k f = given f
-lastLine ((b ∷ l) ∷ ls) k f = refused 1 (k + 1)
-lastLine ([] ∷ (l ∷ ls)) k f = refused 1 (k + 1)
-
-abbrev pub failureIn : Scan → Answer Failure
-failureIn (Scan.refused n k) = refused n k
-failureIn (Scan.ended t k) = refused 1 k
-failureIn (Scan.stopped t step set k rest) = lastLine rest k (record { trace = t; step = step; set = set })
+abbrev pub failureIn : Failing → Answer Failure
+failureIn (Failing.refused n k) = refused n k
+failureIn (Failing.failing t step set) = given (record { trace = t; step = step; set = set })
 
 -- where the text is fit, 8 and 9
 abbrev pub checked : Answer Failure → Answer Failure
@@ -52,7 +44,7 @@ checked (refused n k) = refused n k
 checked (given f) = unless (failureFault (f .trace) (f .step) (f .set)) (given f)
 
 unfoldable pub failureOf : List ℕ → Answer Failure
-failureOf text = checked (failureIn (scan text))
+failureOf text = checked (failureIn (lastFailure text))
 
 -- what follows an answer; a refusal stays as it is
 abbrev pub then : {A B : Type 0} → Answer A → (A → Answer B) → Answer B

@@ -93,7 +93,7 @@ returns-2 c =
     let args = c .before .before .before .before .before .before .before .before .before .before .before .before .before .before .before .args in
     let read-line = c .before .before .before .read-line in
     let match2 = c .before .match2 in
-    out-same _ _ _ _ _ (loop .inv .6) (rw (stop .ensures) (turn-stop _ _ _ _ _ (sym (line-end .ensures) ∙ (end .given .1)) _ ((judge-line .ensures) (loop .inv .0) (loop .inv .5) (loop .inv .1) ∙ ap (judge (run (args .procs) (loop .inv .0))) (read-line .ensures)) _ (loop .inv .4) (match2 .keys2)))
+    out-same _ _ _ _ _ (loop .inv .6) (rw (stop .ensures) (turn-stop _ _ _ _ _ (sym (line-end .ensures) ∙ (end .given .1)) _ ((judge-line .ensures) (loop .inv .0) (loop .inv .5) (loop .inv .1) ∙ ap (judge (run (args .procs) (loop .inv .0))) (read-line .ensures)) _ (omega (arith, (loop .inv .2))) (loop .inv .4) (match2 .keys2)))
 
 append-requires : tie.Need-append-requires Inv-loop μ-loop
 append-requires c κs =
