@@ -1,2 +1,4 @@
 pub mod Words
 pub mod Linking
+pub mod Related
+pub mod Record

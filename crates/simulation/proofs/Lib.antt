@@ -1,0 +1,3 @@
+-- what the relation says
+pub mod Facts
+pub mod Moves
