@@ -1,3 +1,6 @@
--- what the relation says
+-- what the relation says of a state
 pub mod Facts
+-- one step, one choice, an order
 pub mod Moves
+pub mod Choices
+pub mod Orders
