@@ -4,3 +4,5 @@ pub mod Facts
 pub mod Moves
 pub mod Choices
 pub mod Orders
+-- the links and the first state
+pub mod Linking
