@@ -6,3 +6,4 @@ pub mod Choices
 pub mod Orders
 -- the links and the first state
 pub mod Linking
+pub mod Begin
