@@ -7,3 +7,4 @@ pub mod Orders
 -- the links and the first state
 pub mod Linking
 pub mod Begin
+pub mod Passes
