@@ -8,3 +8,5 @@ pub mod Orders
 pub mod Linking
 pub mod Begin
 pub mod Passes
+pub mod Matches
+pub mod Columns
