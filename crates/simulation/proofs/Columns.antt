@@ -275,3 +275,72 @@ module _ (t : Trace) (wf : wellFormed t ≡ true) where
                 let a : epochW full e ≡ epochAt t past z e = C .epoch e h k ∙ ap (λ y. epochAt t past y e) zi in
                 let b : epochW full (pairW full e) ≡ epochAt t past q m = ap (epochW full) pair-is ∙ C .epoch m m-pos m-le ∙ ap (λ y. epochAt t past y m) mq in
                 rw (a, b) (sym (logged-is t past z q e m on-channel (r .0) h m-pos k m-le (sym (r .1))))
+
+            goes-is : goes R z q e ≡ pick (backW full g e) false (pick (mineW full g e) true (pick (doneW full cut e) (ltb (epochW full e) (epochW full (pairW full e))) true))
+            goes-is =
+                goes-test R L z q e on-channel h k
+                ∙ rw (back-is, is-mine, done-is) (by (upTo m cut)
+                (λ d. let w = logs (done-is ∙ d) in rw (d, w))
+                (λ d. rw d))
+
+            orphan-is : orph R z e ≡ backW full g e
+            orphan-is = orphan-test R L z q e on-channel c h ∙ sym back-is
+
+          -- an event that is no send lets no message go
+          no-send : (p r : ℕ) → sendTo r (kind t e) ≡ false → goes R p r e ≡ false
+          unfolding goes
+          no-send p r n = let a : sends t p r e ≡ false = sends-split t p r e ∙ rw n (and-false (eqb p (at t e))) in rw a
+
+          not-sent : (p r : ℕ) → sends t p r e ≡ false → goes R p r e ≡ false
+          unfolding goes
+          not-sent p r n = rw n
+
+          is-goes : (p r : ℕ) → goes R p r e ≡ ((eqb p z && eqb r q) && goesW full g cut e)
+          unfolding goesW
+          is-goes p r = by (eqb (kindW full e) 1)
+              (λ c. let kk = kind-one c in
+              by (eqb p z && eqb r q)
+              (λ s. let i = same2 p z r q s in rw (c, s, i .0, i .1) (goes-is kk))
+              (λ s. let n : sends t p r e ≡ false = sends-split t p r e ∙ rw (kk, zi) s in rw s (not-sent p r n)))
+              (λ c. rw (c, and-false (eqb p z && eqb r q)) (no-send p r (by (eqb (kindW full e) 2)
+              (λ d. rw (kind-two c d))
+              (λ d. rw (kind-none c d)))))
+
+          is-orphan : orphanW full g e ≡ (mine R z e && orph R z e)
+          unfolding orphanW drops
+          is-orphan = rw mine-and (by (eqb (kindW full e) 1)
+              (λ c. rw (c, orphan-is (kind-one c)) (by (mineW full g e) (λ m. rw m) (λ m. rw m)))
+              (λ c. rw c (by (eqb (kindW full e) 2)
+              (λ d. rw (kind-two c d, and-false (mineW full g e)))
+              (λ d. rw (kind-none c d, and-false (mineW full g e))))))
+
+          in-e : (ltb 0 e && leb e (size t)) ≡ true
+          in-e = rw (lt-ltb 0 e h, le-leb e (size t) k)
+
+          is-record : (pick (earlyW full g e) (numberW full e) 0 ≡ numberAt R (start R) e) × (pick (earlyW full g e) (valueW full (pairW full e)) 0 ≡ valueAt R (start R) e)
+          unfolding earlyW numberAt valueAt
+          is-record = rw in-e (by (eqb (kindW full e) 2)
+              (λ d. let c : eqb (kindW full e) 1 ≡ false = ne-eqb (kindW full e) 1 (λ w. two-one (eqb-true (kindW full e) 2 d) w) in
+              let kk = kind-two c d in
+              let rr = recvs-of t q z e zi kk in
+              let s = slot-start R L q z e h rr in
+              rw (d, kk, zi, C .number-recv q z e rr h k, recv-value q z e rr h k, G .places z z-in) s)
+              (λ d. rw d (by (eqb (kindW full e) 1)
+              (λ c. let kk = kind-one c in rw kk (refl, refl))
+              (λ c. let kk = kind-none c d in rw kk (refl, refl)))))
+            where
+              two-one : kindW full e ≡ 2 → kindW full e ≡ 1 → ⊥
+              two-one a b = omega arith
+
+        pub tested : Tested R full g cut
+        unfolding Tested
+        tested e h k = record {
+          z-lt = omega arith;
+          q-lt = omega arith;
+          at-is = zi e h k;
+          is-mine = is-mine e h k;
+          is-orphan = is-orphan e h k;
+          is-goes = is-goes e h k;
+          is-number = (is-record e h k) .0;
+          is-value = (is-record e h k) .1;
+        }
