@@ -10,3 +10,5 @@ pub mod Begin
 pub mod Passes
 pub mod Matches
 pub mod Columns
+-- the record
+pub mod Records
