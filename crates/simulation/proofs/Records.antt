@@ -45,7 +45,7 @@ words-at f g n h k l =
 -- ---- Numbers that are no event's
 
 module _ (t : Trace) where
-  no-event : (e : ℕ) → (ltb 0 e && leb e (size t)) ≡ false → kind t e ≡ other
+  pub no-event : (e : ℕ) → (ltb 0 e && leb e (size t)) ≡ false → kind t e ≡ other
   unfolding kind eventAt
   no-event zero h = refl
   no-event (suc e) h =

@@ -8,7 +8,8 @@ use lib.Dec.{leb, ltb, eqb}
 use Rattle.theory.specs.Lists.{pick, iv, keep}
 use Rattle.theory.specs.Events.{Kind, send, recv, other, size, at, kind, sends, sent, rcvd, value}
 use Rattle.theory.specs.Line.{Run, kept}
-use Rattle.theory.specs.Replay.{State, listed, ready, gate}
+use Rattle.theory.specs.Replay.{State, listed, ready, gate, start}
+use Rattle.theory.specs.Laws.{Laws}
 use Rattle.theory.proofs.Flow.{ahead}
 use Rattle.simulation.specs.Words.{takenBase, currentBase, noPhase, kindW, peerW, valueW, phaseW, numberW, kindOf, curW, orpW, takeW, putW, lowW}
 
@@ -108,3 +109,9 @@ module _ (R : Run) where
     pub num : (e : ℕ) → e < 2049 → getD a e 0 ≡ numberAt s e
     pub val : (e : ℕ) → e < 2049 → getD a (takenBase + e) 0 ≡ valueAt s e
     pub gap : (k : ℕ) → recordEnd ≤ k → k < currentBase → getD a k 0 ≡ 0
+
+  -- what a replay begins with
+  pub record Started (t l g a : List ℕ) : Type 0 where
+    pub laws : Laws R
+    pub cols : Cols t l g
+    pub rel : Rel a (start R)
