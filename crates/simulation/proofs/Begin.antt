@@ -3,7 +3,7 @@ use mathlib.Core.Path.{_≡_, refl, sym, _∙_, ap}
 use mathlib.Core.Logic.{_≢_}
 use mathlib.Core.Bool.{Bool, true, false, _&&_}
 use mathlib.Core.List.{List, [], _∷_, _++_, map}
-use Prim.Native.Nat.{ℕ, zero, suc, _+_, _-_, _*_, _≤_, _<_}
+use Prim.Native.Nat.{ℕ, _+_, _-_, _*_, _≤_, _<_}
 use native.Mathlib.Omega.{arith}
 use lib.ListN.{length, length-set, getD, set}
 use lib.Seq.{getD-set-same, getD-set-other}
@@ -19,7 +19,7 @@ use Rattle.theory.proofs.Events.{sendTo, sends-split}
 use Rattle.theory.proofs.Classes.{rBefore, sBefore, keptb, restart-n, kept-counts, kept-list}
 use Rattle.theory.proofs.Flow.{ahead}
 use Rattle.theory.proofs.Loss.{inv-start}
-use Rattle.simulation.specs.Words.{takenBase, currentBase, orphanBase, takeBase, putBase, lowPlace, noPhase, orpW, lowOf}
+use Rattle.simulation.specs.Words.{takenBase, currentBase, orphanBase, takeBase, putBase, lowPlace, orpW, lowOf}
 use Rattle.simulation.specs.Related.{head0, goes, evs, orph, numberAt, valueAt, Base, Cols, Rel}
 use Rattle.simulation.specs.Linking.{beginA}
 use Rattle.simulation.specs.Linked.{mine, rest, Chained}

@@ -1,7 +1,7 @@
 -- A choice number: allowed by the words exactly where the machine allows it, and then the words stand for the next state. From Facts and Moves.
 use mathlib.Core.Path.{_≡_, refl, sym, _∙_, ap, subst}
 use mathlib.Core.Logic.{_⊎_, inl, inr}
-use mathlib.Core.Bool.{Bool, true, false, not}
+use mathlib.Core.Bool.{Bool, true, false}
 use mathlib.Core.List.{List, [], _∷_, _++_}
 use mathlib.Core.Option.{Option, none, some, bind}
 use Prim.Native.Nat.{ℕ, _+_, _-_, _*_, _/_, _%_, _≤_, _<_}
@@ -11,10 +11,10 @@ use lib.Dec.{ltb, eqb}
 use borrow.Author.Tests.{ltb-true, ltb-false, eq-eqb, ne-eqb}
 use Rattle.theory.specs.Events.{Kind, send, recv, other, size, at, kind}
 use Rattle.theory.specs.Line.{Run}
-use Rattle.theory.specs.Replay.{Choice, process, hand, State, ready, gate, moved, sending, taking, handing, sendStep, recvStep, eventStep, processStep, handStep, step}
+use Rattle.theory.specs.Replay.{process, hand, State, ready, gate, moved, sending, taking, handing, sendStep, recvStep, eventStep, processStep, handStep, step}
 use Rattle.theory.specs.Order.{choiceOf, choose}
 use Rattle.theory.specs.Laws.{Laws}
-use Rattle.theory.proofs.Base.{by, on, le?}
+use Rattle.theory.proofs.Base.{by, on}
 use Rattle.theory.proofs.Events.{sends-is}
 use Rattle.theory.proofs.Flow.{ahead, Inv, inv-step}
 use Rattle.simulation.specs.Words.{noPhase, kindW, peerW, phaseW, kindOf, curW, orpW, takeW, putW, lowW, sendOk, eventOk, processOk, handOk, allowedW, movedW, putInW, eventW, processW, applyW}

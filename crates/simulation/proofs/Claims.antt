@@ -1,8 +1,8 @@
 -- What the words of a replay promise to the code above: the full table, links and gates of a trace begin the replay of its recorded run; every
 -- choice by words is the machine's; the record that is left tells the machine's record. Each claim is proved in the file that its law comes from.
-use mathlib.Core.Path.{_≡_, refl, sym, _∙_}
+use mathlib.Core.Path.{_≡_}
 use mathlib.Core.Logic.{_↔_}
-use mathlib.Core.Bool.{Bool, true, false}
+use mathlib.Core.Bool.{true, false}
 use mathlib.Core.List.{List}
 use Prim.Native.Nat.{ℕ, _+_, _≤_, _<_}
 use native.Mathlib.Omega.{arith}
@@ -13,7 +13,7 @@ use Rattle.trace.specs.Fit.{wellFormed}
 use Rattle.theory.specs.Events.{size}
 use Rattle.theory.specs.Epochs.{past}
 use Rattle.theory.specs.Line.{Run, recorded, LossFree}
-use Rattle.theory.specs.Replay.{State, start, SameRecord}
+use Rattle.theory.specs.Replay.{State, SameRecord}
 use Rattle.theory.specs.Order.{Outcome, carriedOut, refused, run, complete}
 use Rattle.theory.proofs.WellFormed.{valid}
 use Rattle.theory.proofs.Flow.{Inv}

@@ -16,26 +16,25 @@ use Rattle.trace.specs.Table.{eventBase, valueBase, wordOf, valueWord, tableWor
 use Rattle.table.proofs.Places.{word-procs, word-count, word-event, word-value}
 use Rattle.theory.specs.Lists.{pick}
 use Rattle.theory.specs.Events.{Kind, send, recv, other, processOf, size, eventAt, at, kind, sends, recvs, sent, rcvd, sendOf, recvOf, value}
-use Rattle.theory.specs.Epochs.{past, epochAt, phaseAt}
+use Rattle.theory.specs.Epochs.{past, epochAt}
 use Rattle.theory.specs.Line.{Run, recorded}
 use Rattle.theory.specs.Replay.{gate, start}
 use Rattle.theory.specs.Laws.{Laws}
-use Rattle.theory.proofs.Base.{by, clash, both, same2, eqb-self, place-there, place-le}
+use Rattle.theory.proofs.Base.{by, clash, both, same2, place-there, place-le}
 use Rattle.theory.proofs.Events.{sendTo, sends-split, sends-is, recvs-is, sends-of, recvs-of, sendOf-at, partner}
-use Rattle.theory.proofs.WellFormed.{Valid, valid}
+use Rattle.theory.proofs.WellFormed.{valid}
 use Rattle.theory.proofs.Epochs.{logged-is, laws}
-use Rattle.protocol.specs.Columns.{numberBase, epochBase, matchBase, Columns}
+use Rattle.protocol.specs.Columns.{Columns}
 use Rattle.protocol.proofs.Bounds.{phase-most}
 use Rattle.protocol.proofs.Passes.{well-few}
-use Rattle.simulation.specs.Words.{takenBase, noPhase, kindW, peerW, valueW, phaseW, numberW, kindOf}
+use Rattle.simulation.specs.Words.{takenBase, noPhase, kindW, peerW, valueW, numberW, kindOf}
 use Rattle.simulation.specs.Related.{recordEnd, goes, drops, orph, numberAt, valueAt, Gated, Base}
 use Rattle.simulation.specs.Record.{receivedNumber, receivedValue, faultlessAt}
 use Rattle.simulation.specs.Linking.{atW, epochW, pairW, backW, doneW, mineW, orphanW, goesW, earlyW}
 use Rattle.simulation.specs.Linked.{mine}
-use Rattle.simulation.proofs.Linking.{Tests}
 use Rattle.simulation.proofs.Passes.{Tested}
 use Rattle.simulation.proofs.Records.{no-event}
-use Rattle.simulation.proofs.Matches.{upTo, sent-pos, goes-test, orphan-test, slot-start}
+use Rattle.simulation.proofs.Matches.{upTo, goes-test, orphan-test, slot-start}
 
 and-true : (b : Bool) → (b && true) ≡ b
 and-true true = refl

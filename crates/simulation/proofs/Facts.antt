@@ -1,16 +1,16 @@
 -- What the relation says of channels, of orphans and of gates: the two pointers of a channel tell whether a kept message is left and whether a
 -- message is in it; the least phase of an orphan tells which phases are ready. From the laws of the run and the invariants of the theory.
-use mathlib.Core.Path.{_≡_, refl, sym, _∙_, ap, subst}
-use mathlib.Core.Bool.{Bool, true, false, _&&_, _||_, not}
+use mathlib.Core.Path.{_≡_, refl, sym, _∙_, ap}
+use mathlib.Core.Bool.{Bool, true, false, _&&_}
 use mathlib.Core.List.{List, [], _∷_, _++_, map}
-use Prim.Native.Nat.{ℕ, zero, suc, _+_, _-_, _*_, _≤_, _<_}
+use Prim.Native.Nat.{ℕ, zero, suc, _+_, _-_, _≤_, _<_}
 use native.Mathlib.Omega.{arith}
 use lib.ListN.{length, length-append, getD}
 use lib.Dec.{leb, ltb, eqb}
 use borrow.Author.Tests.{leb-true, leb-false, ltb-true, ltb-false, eqb-true, lt-ltb, le-ltb, lt-leb, eq-eqb, ne-eqb}
 use Rattle.theory.specs.Lists.{pick, iv, keep, no-one, all-below}
-use Rattle.theory.specs.Events.{Kind, send, recv, other, size, at, kind, sends, sent, rcvd}
-use Rattle.theory.specs.Line.{Run, kept, orphan, orphanPhase}
+use Rattle.theory.specs.Events.{Kind, send, recv, other, size, at, kind, sends, sent}
+use Rattle.theory.specs.Line.{Run, orphanPhase}
 use Rattle.theory.specs.Replay.{State, listed, resends, ready}
 use Rattle.theory.specs.Laws.{Laws}
 use Rattle.theory.proofs.Base.{by, on, le?, both, keep-head, keep-keep, keep-some, Each, each-map, each-keep-iv}

@@ -1,7 +1,7 @@
 -- What the tests of the pass mean, where each event's match is that of its message: received up to an event, gone through its channel, an orphan,
 -- the record at the start. From the laws of the run, by counts.
 use mathlib.Core.Path.{_≡_, refl, sym, _∙_, ap}
-use mathlib.Core.Bool.{Bool, true, false, _&&_, _||_}
+use mathlib.Core.Bool.{Bool, true, false, _&&_}
 use mathlib.Core.List.{List, [], _∷_, map}
 use Prim.Native.Nat.{ℕ, zero, suc, _+_, _-_, _≤_, _<_}
 use native.Mathlib.Omega.{arith}
@@ -10,7 +10,7 @@ use lib.Dec.{leb, ltb, eqb}
 use borrow.Author.Tests.{leb-true, leb-false, ltb-true, ltb-false, eqb-true, eqb-false, lt-ltb, le-ltb, le-leb, lt-leb}
 use Rattle.theory.specs.Lists.{pick, iv}
 use Rattle.theory.specs.Events.{send, size, kind, sends, recvs, sent, rcvd, recvOf, value}
-use Rattle.theory.specs.Line.{Run, kept}
+use Rattle.theory.specs.Line.{Run}
 use Rattle.theory.specs.Replay.{takenBy}
 use Rattle.theory.specs.Laws.{Laws}
 use Rattle.theory.proofs.Base.{by, on, le?, length-iv, place-by}

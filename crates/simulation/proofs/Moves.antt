@@ -1,7 +1,7 @@
 -- One choice: the words do what the machine does. One law for each kind of step, that the relation is kept. From Facts and the theory's Flow.
 use mathlib.Core.Path.{_≡_, refl, sym, _∙_, ap, subst}
 use mathlib.Core.Logic.{_≢_}
-use mathlib.Core.Bool.{Bool, true, false, _&&_}
+use mathlib.Core.Bool.{true, false, _&&_}
 use mathlib.Core.List.{List, [], _∷_, _++_, map, append-assoc}
 use Prim.Native.Nat.{ℕ, zero, suc, _+_, _-_, _*_, _≤_, _<_}
 use native.Mathlib.Omega.{arith}
@@ -10,17 +10,17 @@ use lib.Seq.{getD-set-same, getD-set-other, getD-at}
 use lib.Dec.{leb, ltb, eqb}
 use borrow.Author.Tests.{ltb-true, eqb-true, eqb-false, lt-ltb, le-leb, eq-eqb, ne-eqb}
 use Rattle.theory.specs.Lists.{pick, keep, no-one, put, put2}
-use Rattle.theory.specs.Events.{Kind, send, recv, other, size, at, kind, sends, recvs, sent, rcvd, value}
+use Rattle.theory.specs.Events.{Kind, send, recv, other, size, at, kind, recvs, sent, rcvd, value}
 use Rattle.theory.specs.Line.{Run}
 use Rattle.theory.specs.Replay.{State, listed, resends, ready, moved, sending, taking, handing}
 use Rattle.theory.specs.Laws.{Laws}
-use Rattle.theory.proofs.Base.{by, on, clash, le?, both, same2, eqb-self}
+use Rattle.theory.proofs.Base.{by, on, clash, le?, same2, eqb-self}
 use Rattle.theory.proofs.Events.{sendTo, recvFrom, sends-is, recvs-of, rcvd-lt}
 use Rattle.theory.proofs.Classes.{rBefore}
 use Rattle.theory.proofs.Flow.{ahead, ahead-send, ahead-put, put-same, toTake, toTake-recv, Inv, at-head}
 use Rattle.theory.proofs.Loss.{toTake-listed}
 use Rattle.simulation.specs.Words.{takenBase, currentBase, orphanBase, takeBase, putBase, lowPlace, noPhase, valueW, numberW, curW, orpW, takeW, putW, lowW, lowOf, movedW, dropW, putInW, takeOutW}
-use Rattle.simulation.specs.Related.{head0, recordEnd, goes, evs, drops, orph, tookNumber, tookValue, numberAt, valueAt, Cols, Chan, Rel}
+use Rattle.simulation.specs.Related.{head0, recordEnd, drops, orph, tookNumber, tookValue, numberAt, valueAt, Cols, Chan, Rel}
 use Rattle.simulation.proofs.Facts.{goes-send, to-put, to-take, in-list, resends-is, all-same, ready-low}
 
 -- two channels are one where their words are

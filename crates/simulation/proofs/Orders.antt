@@ -1,6 +1,6 @@
 -- A whole order by words: what is still to do from a place on is what there was to do from the start (`Live`); which choices are left; and what
 -- the run area holds at the end (`record-left`). From Choices.
-use mathlib.Core.Path.{_≡_, refl, sym, _∙_, ap, subst}
+use mathlib.Core.Path.{_≡_, refl, sym, _∙_, ap}
 use mathlib.Core.Bool.{Bool, true, false, _&&_, not}
 use mathlib.Core.List.{List, [], _∷_}
 use mathlib.Core.Option.{Option, none, some}
@@ -21,7 +21,7 @@ use Rattle.theory.specs.Laws.{Laws}
 use Rattle.theory.proofs.Base.{on, clash, le?}
 use Rattle.theory.proofs.Flow.{Inv}
 use Rattle.theory.proofs.Loss.{inv-start}
-use Rattle.simulation.specs.Words.{takenBase, currentBase, orphanBase, takeBase, putBase, curW, orpW, takeW, putW, allowedW, applyW, Bounded, noneFrom}
+use Rattle.simulation.specs.Words.{takenBase, currentBase, orphanBase, takeBase, putBase, takeW, putW, allowedW, applyW, Bounded, noneFrom}
 use Rattle.simulation.specs.Related.{head0, recordEnd, evs, orph, Cols, Chan, Rel}
 use Rattle.simulation.specs.Record.{recordAt, Live}
 use Rattle.simulation.proofs.Facts.{evs-head, in-list}

@@ -2,22 +2,22 @@
 -- of the theory: a state has received at most as many messages as the trace, so that numbers that are all there are all that there are.
 use mathlib.Core.Path.{_≡_, refl, sym, _∙_, ap}
 use mathlib.Core.Logic.{_↔_}
-use mathlib.Core.Bool.{Bool, true, false, _&&_}
-use mathlib.Core.List.{List, [], _∷_, map}
+use mathlib.Core.Bool.{true, false, _&&_}
+use mathlib.Core.List.{List, map}
 use Prim.Native.Nat.{ℕ, zero, suc, _+_, _-_, _≤_, _<_}
 use native.Mathlib.Omega.{arith}
-use lib.ListN.{length, length-map, getD, List·getD-eq-default}
+use lib.ListN.{length, getD, List·getD-eq-default}
 use lib.Seq.{ext-getD}
 use lib.Dec.{leb, ltb}
 use borrow.Author.Tests.{leb-true, ltb-true, lt-ltb, le-leb}
 use Rattle.words.specs.Area.{wordsFrom}
 use Rattle.words.proofs.Area.{length-words, getD-words, words-ext}
 use Rattle.trace.specs.declared.Event.the-variants.{Save}
-use Rattle.trace.specs.Trace.{Trace, valueOf}
-use Rattle.theory.specs.Lists.{pick, iv}
-use Rattle.theory.specs.Events.{Kind, send, recv, other, size, eventAt, at, kind, recvs, sent, rcvd, value}
+use Rattle.trace.specs.Trace.{Trace}
+use Rattle.theory.specs.Lists.{iv}
+use Rattle.theory.specs.Events.{Kind, send, recv, other, size, eventAt, at, kind, rcvd, value}
 use Rattle.theory.specs.Line.{Run, LossFree}
-use Rattle.theory.specs.Replay.{State, takenBy, entry, delivered, faultless, SameRecord}
+use Rattle.theory.specs.Replay.{State, entry, delivered, faultless, SameRecord}
 use Rattle.theory.specs.Order.{carriedOut, run, complete}
 use Rattle.theory.specs.Laws.{Laws}
 use Rattle.theory.proofs.Base.{by, on, le?, both, length-iv}
@@ -26,7 +26,7 @@ use Rattle.theory.proofs.Flow.{Inv}
 use Rattle.theory.proofs.Loss.{taken-iv, inv, same-numbers}
 use Rattle.theory.proofs.Orders.{run-reaches, complete-iff, order-iff}
 use Rattle.simulation.specs.Words.{takenBase}
-use Rattle.simulation.specs.Related.{recordEnd, tookNumber, tookValue, numberAt, valueAt}
+use Rattle.simulation.specs.Related.{tookNumber, tookValue, numberAt, valueAt}
 use Rattle.simulation.specs.Record.{recordAt, receivedNumber, receivedValue, faultlessAt}
 use Rattle.simulation.proofs.Matches.{getD-iv, getD-map, getD-past}
 

@@ -2,12 +2,12 @@
 -- rest 0. Definitions only.
 use mathlib.Core.Path.{_≡_}
 use mathlib.Core.List.{List}
-use Prim.Native.Nat.{ℕ, suc, _+_, _-_}
+use Prim.Native.Nat.{ℕ, suc, _-_}
 use lib.ListN.{drop}
 use lib.Dec.{ltb}
 use Rattle.trace.specs.Trace.{Trace, valueOf}
 use Rattle.theory.specs.Lists.{pick}
-use Rattle.theory.specs.Events.{Kind, send, recv, other, size, eventAt, at, kind, rcvd, sendOf}
+use Rattle.theory.specs.Events.{Kind, send, recv, other, eventAt, at, kind, rcvd, sendOf}
 use Rattle.theory.specs.Line.{Run}
 use Rattle.theory.specs.Replay.{State}
 use Rattle.theory.specs.Order.{Outcome, carry}
