@@ -16,10 +16,11 @@ use Rattle.trace.specs.Fit.{wellFormed}
 use Rattle.theory.specs.Lists.{cnt, lastOf}
 use Rattle.theory.specs.Events.{size, sends, recvs, checkpoints, sent, rcvd}
 use Rattle.theory.specs.Epochs.{Rule, past, joined, epochAt, phaseAt, epochOf, phaseOf, loggedBy}
-use Rattle.theory.specs.Line.{Run, undone, lost, orphan, kept, orphanPhase, LossFree, restartIn, recorded, current, reached, Usable, Permitted, Greatest, Above, lower, highest, greatestLine}
+use Rattle.theory.specs.Line.{inSet, Run, undone, lost, orphan, kept, orphanPhase, LossFree, restartIn, recorded, current, reached, Usable, Permitted, Greatest, Above, lower, highest, greatestLine}
 use Rattle.theory.specs.Replay.{State, sentAgain, ready, delivered, faultless, SameRecord}
 use Rattle.theory.specs.Order.{carriedOut, refused, choose, Allowed, run, steps, Complete, complete, lowest, lowestOrder}
 use Rattle.theory.specs.Answers.{names, orphans, keptOnes, lostOnes, lossFree, sameRecord}
+use Rattle.theory.specs.Refusals.{failureFault, lineFault, FitFailure, FitLine}
 use Rattle.theory.specs.Laws.{Laws}
 use Rattle.theory.proofs.Base.{on, by, le?}
 use Rattle.theory.proofs.Events.{partner, sent-lt}
@@ -33,6 +34,7 @@ use Rattle.theory.proofs.Greatest.{highest-above, below-above, greatest
 use Rattle.theory.proofs.Orders.{run-reaches, run-refused, complete-iff, order-iff, order-differs, order-progress, order-done, order-bound}
 use Rattle.theory.proofs.Lowest.{lowest-some, lowest-iff, lowest-order}
 use Rattle.theory.proofs.Answers.{orphans-name, kept-name, lost-name, lossFree-iff, sameRecord-iff, ready-iff}
+use Rattle.theory.proofs.Refusals.{failure-fit, failure-8, failure-9, line-fit, line-8, line-9, line-10}
 
 -- Demand 3. "Take any accepted trace, any step for the failure, any set of zones it takes together, any line that puts each failed zone at a save it
 -- has made, and any order of choices from there, each allowed where it comes, that ends only when no choice is allowed. The delivery record the
@@ -257,5 +259,42 @@ module _ (t : Trace) (w : wellFormed t ≡ true) (cut : ℕ) (cl : cut ≤ size 
       (λ u. let i : leb 1 (current t past cut y) ≡ true = le-leb _ _ n in let j : leb (current t past cut y) (current t past cut z) ≡ true = le-leb _ _ u in inl (rw (i, j)))
       (λ u. inr (by (failed z) (λ v. absurd (omega (arith, c z h v))) (λ v. v), u)))
 
+-- ---- Numbers, "Who names the failure and the replay". "Order: .. for the rest 8, 9, 10, 11."
+
+-- what is wrong with a failure: "8: K is beyond the last event. 9: the set is empty or names a zone N or more."; 0, nothing
+module _ (t : Trace) (step set : ℕ) where
+  pub number-8 : (failureFault t step set ≡ 8) ↔ (size t < step)
+  number-8 = failure-8 t step set
+
+  pub number-9 : (failureFault t step set ≡ 9) ↔ ((step ≤ size t) × ((set ≡ 0) ⊎ ((z : ℕ) × (t .procs ≤ z) × (inSet set z ≡ true))))
+  number-9 = failure-9 t step set
+
+  pub failure-taken : (failureFault t step set ≡ 0) ↔ FitFailure t step set
+  failure-taken = failure-fit t step set
+
+  -- what is wrong with a failure and a line: 8 and 9 as above, and then "10: the line hasn't N numbers, or one isn't permitted."
+  module _ (count : ℕ) (line : ℕ → ℕ) where
+    pub number-8-first : (lineFault t step set count line ≡ 8) ↔ (size t < step)
+    number-8-first = line-8 t step set count line
+
+    pub number-9-next : (lineFault t step set count line ≡ 9) ↔ ((step ≤ size t) × ((set ≡ 0) ⊎ ((z : ℕ) × (t .procs ≤ z) × (inSet set z ≡ true))))
+    number-9-next = line-9 t step set count line
+
+    pub number-10 : (lineFault t step set count line ≡ 10)
+        ↔ (FitFailure t step set × (((count ≡ t .procs) × Permitted t past step (reached t past step) (inSet set) line) → ⊥))
+    number-10 = line-10 t step set count line
+
+    pub line-taken : (lineFault t step set count line ≡ 0) ↔ FitLine t step set count line
+    line-taken = line-fit t step set count line
+
+    -- demand 3, "for every failure and line that isn't refused"
+    pub demand-3-taken : wellFormed t ≡ true → lineFault t step set count line ≡ 0 → (order : List ℕ) (s : State)
+        → run (recorded t past step line) order ≡ carriedOut s → Complete (recorded t past step line) s
+        → SameRecord (recorded t past step line) s ↔ LossFree (recorded t past step line)
+    demand-3-taken w e =
+        let f = (line-taken .0) e in
+        demand-3 t w step (f .failure .step-most) (inSet set) line (f .permitted)
+
 -- Not claims of document 01, but for code that is to meet them: Lines.lost-epochs and epochs-lost (a permitted line loses a message by epochs alone),
--- Counters.counted (a channel is two numbers), Steps.reach-work (each step takes one from the work that is left), Classes (counts).
+-- Counters.counted (a channel is two numbers), Steps.reach-work (each step takes one from the work that is left), Classes (counts),
+-- Refusals.set-shifted (a set names a process N or more if a shift by N leaves something).

@@ -6,3 +6,4 @@ pub mod Replay
 pub mod Order
 pub mod Laws
 pub mod Answers
+pub mod Refusals

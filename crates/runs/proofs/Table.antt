@@ -1,0 +1,249 @@
+-- The runs R1 to R12 of document 01 ("Runs to check"), each computed from its text, and all of them together.
+use mathlib.Core.Path.{_≡_, refl}
+use mathlib.Core.Bool.{true}
+use mathlib.Core.List.{List, [], _∷_, _++_}
+use Prim.Native.Nat.{ℕ, _≤_}
+use Prim.Native.String.{String}
+use native.Mathlib.Omega.{arith}
+use Rattle.text.specs.Key.{startsWith, fieldAt}
+use Rattle.text.specs.Number.{isDigit, pushed, digitsFrom, numberAt, lastDigits}
+use Rattle.trace.specs.declared.Event.{Event}
+use Rattle.trace.specs.declared.Event.the-variants.{Send, Recv, Save}
+use Rattle.trace.specs.Trace.{Trace}
+use Rattle.trace.specs.Fit.{wellFormed}
+use Rattle.reader.specs.Line.{procsOf, sendOf, recvOf, saveOf, failOf, lineOf as lineIn}
+use Rattle.reader.specs.Verdict.{pieces, faultHere, judgeEvent, judge, linesFrom, scanPieces, scan, Verdict, accepted, verdict}
+use Rattle.theory.specs.Events.{size}
+use Rattle.theory.specs.Epochs.{past}
+use Rattle.theory.specs.Line.{inSet, reached, Greatest, greatestLine}
+use Rattle.theory.specs.Answers.{lineOf, Listed}
+use Rattle.theory.specs.Refusals.{failureFault, permits, lineFault}
+use Rattle.theory.proofs.Runs.{opens}
+use Rattle.theory.proofs.Claims.{reached-usable, greatest-line, greatest-only}
+use Rattle.runs.specs.Bytes.{bytesOf, linesOf}
+use Rattle.runs.specs.Texts.{linesH, linesL, linesS, linesT, linesFirst, failing, textH}
+use Rattle.runs.specs.Report.{Answer, refused, given, Failure, failureOf, losses, Replayed, replay, Recovery, engineLine, recoveryBy, recovery, messageLines, printedOf, printed}
+
+-- all that a row computes with, beside what the theory's rows do: `opens`
+unfoldable reads : ℕ
+unfolding bytesOf linesOf failing startsWith fieldAt isDigit pushed digitsFrom numberAt lastDigits procsOf sendOf recvOf saveOf failOf lineIn pieces faultHere judgeEvent judge linesFrom scanPieces scan verdict failureFault permits lineFault failureOf losses replay engineLine recoveryBy recovery messageLines printedOf printed
+reads = 0
+
+-- a trace of two processes
+abbrev pub two : List Event → Trace
+two es = record { procs = 2; events = es }
+
+-- a message as the report lists it: from, to, number, phase
+abbrev pub message : ℕ → ℕ → ℕ → ℕ → Listed
+message p q k r = record { from = p; to = q; number = k; phase = r }
+
+-- what holds of the failure that a text tells; nothing holds of a refusal
+abbrev pub Of : Answer Failure → (Failure → Type 0) → Type 0
+Of (refused n k) P = ⊥
+Of (given f) P = P f
+
+-- a line is the greatest of a failure
+abbrev pub GreatestOf : List ℕ → Failure → Type 0
+GreatestOf l f = Greatest (f .trace) past (f .step) (reached (f .trace) past (f .step)) (inSet (f .set)) (lineOf l)
+
+-- an order of so many steps that is complete and leaves the record of the run without failure
+abbrev pub completed : ℕ → Answer Replayed
+completed n = given (record { complete = true; equal = true; steps = n })
+
+-- ---- The rows
+
+-- "R1: H as above." What is printed, byte for byte; then in parts: the trace and the failure that are read, and the recovery
+abbrev pub traceH : Trace
+traceH = record {
+  procs = 3;
+  events = Send 0 1 5 ∷ Recv 1 0 ∷ Save 1 ∷ Send 1 2 7 ∷ Recv 2 1 ∷ Save 0 ∷ Send 0 1 9 ∷ Recv 1 0 ∷ Send 1 2 4 ∷ [];
+}
+
+abbrev pub printed1 : List String
+printed1 =
+    "out=proc at=0 epoch=2 restart=2 phase=2"
+    ∷ "out=proc at=1 epoch=2 restart=2 phase=2"
+    ∷ "out=proc at=2 epoch=1 restart=32 phase=2"
+    ∷ "out=orphan from=1 to=2 no=1 phase=2"
+    ∷ "out=total back=2 orphans=1 kept=0 steps=4"
+    ∷ []
+
+abbrev pub recovery1 : Recovery
+recovery1 = record { epochs = 2 ∷ 2 ∷ 1 ∷ []; line = 2 ∷ 2 ∷ 32 ∷ []; phases = 2 ∷ 2 ∷ 2 ∷ []; orphans = message 1 2 1 2 ∷ []; kept = []; back = 2; steps = 4 }
+
+abbrev pub R1 : Type 0
+R1 =
+    (printed textH ≡ linesOf printed1)
+    × (verdict (linesOf linesH) ≡ accepted traceH)
+    × (failureOf textH ≡ given (record { trace = traceH; step = 9; set = 2 }))
+    × (recovery textH ≡ given recovery1)
+
+r1 : R1
+unfolding opens reads
+r1 = (refl, refl, refl, refl)
+
+-- "R2: H with line 32,2,32 loses message 2 from 0 to 1."
+abbrev pub R2 : Type 0
+R2 = losses textH (32 ∷ 2 ∷ 32 ∷ []) ≡ given (message 0 1 2 2 ∷ [])
+
+r2 : R2
+unfolding opens reads
+r2 = refl
+
+-- "R3: H with 1,1,32 loses none, and isn't the greatest."
+abbrev pub R3 : Type 0
+R3 = (losses textH (1 ∷ 1 ∷ 32 ∷ []) ≡ given []) × Of (failureOf textH) (λ f. GreatestOf (1 ∷ 1 ∷ 32 ∷ []) f → ⊥)
+
+-- the greatest has 2 for process 0, and there is one only
+not-greatest : GreatestOf (1 ∷ 1 ∷ 32 ∷ []) (record { trace = traceH; step = 9; set = 2 }) → ⊥
+unfolding opens
+not-greatest g =
+    let w : wellFormed traceH ≡ true = refl in
+    let c : 9 ≤ size traceH = omega arith in
+    let usable = reached traceH past 9 in
+    let U = reached-usable traceH w past 9 c in
+    let l = greatestLine traceH past 9 usable (inSet 2) in
+    let top = greatest-line traceH w past 9 c usable U (inSet 2) in
+    let e : _≡_ {A = ℕ} 1 2 = greatest-only traceH w past 9 c usable U (inSet 2) (lineOf (1 ∷ 1 ∷ 32 ∷ [])) l g top 0 (omega arith) in
+    omega arith
+
+r3 : R3
+unfolding opens reads
+r3 = (refl, not-greatest)
+
+-- "R4: H, step 0, set 1: line 1,32,32, 9 steps."
+abbrev pub recovery4 : Recovery
+recovery4 = record { epochs = 1 ∷ 1 ∷ 1 ∷ []; line = 1 ∷ 32 ∷ 32 ∷ []; phases = 1 ∷ 1 ∷ 1 ∷ []; orphans = []; kept = []; back = 1; steps = 9 }
+
+abbrev pub R4 : Type 0
+R4 = recovery (failing linesH "fail=0 set=1") ≡ given recovery4
+
+r4 : R4
+unfolding opens reads
+r4 = refl
+
+-- "Trace L: two zones; send 0 to 1, save 1, receive. R5: step 3, set 2: line 32,2, the message kept in phase 1, order 65,1 complete."
+abbrev pub recovery5 : Recovery
+recovery5 = record { epochs = 1 ∷ 2 ∷ []; line = 32 ∷ 2 ∷ []; phases = 1 ∷ 2 ∷ []; orphans = []; kept = message 0 1 1 1 ∷ []; back = 1; steps = 2 }
+
+abbrev pub R5 : Type 0
+R5 =
+    (verdict (linesOf linesL) ≡ accepted (two (Send 0 1 6 ∷ Save 1 ∷ Recv 1 0 ∷ [])))
+    × (recovery (failing linesL "fail=3 set=2") ≡ given recovery5)
+    × (replay (failing linesL "fail=3 set=2") (32 ∷ 2 ∷ []) (65 ∷ 1 ∷ []) ≡ completed 2)
+
+r5 : R5
+unfolding opens reads
+r5 = (refl, refl, refl)
+
+-- "R6: order 1 alone is 11 at place 1."
+abbrev pub R6 : Type 0
+R6 = replay (failing linesL "fail=3 set=2") (32 ∷ 2 ∷ []) (1 ∷ []) ≡ refused 11 1
+
+r6 : R6
+unfolding opens reads
+r6 = refl
+
+-- "Trace S: two zones; save 0, send 0 to 1, receive. R7: step 3, set 2: line 2,1."
+abbrev pub recovery7 : Recovery
+recovery7 = record { epochs = 2 ∷ 1 ∷ []; line = 2 ∷ 1 ∷ []; phases = 2 ∷ 1 ∷ []; orphans = []; kept = []; back = 2; steps = 2 }
+
+abbrev pub R7 : Type 0
+R7 =
+    (verdict (linesOf linesS) ≡ accepted (two (Save 0 ∷ Send 0 1 6 ∷ Recv 1 0 ∷ [])))
+    × (recovery (failing linesS "fail=3 set=2") ≡ given recovery7)
+
+r7 : R7
+unfolding opens reads
+r7 = (refl, refl)
+
+-- "R8: step 3, set 1: line 2,32, one orphan of phase 2, 1 step."
+abbrev pub recovery8 : Recovery
+recovery8 = record { epochs = 2 ∷ 1 ∷ []; line = 2 ∷ 32 ∷ []; phases = 2 ∷ 2 ∷ []; orphans = message 0 1 1 2 ∷ []; kept = []; back = 1; steps = 1 }
+
+abbrev pub R8 : Type 0
+R8 = recovery (failing linesS "fail=3 set=1") ≡ given recovery8
+
+r8 : R8
+unfolding opens reads
+r8 = refl
+
+-- "Trace T: two zones; send 0 to 1, receive. R9: step 1, set 2: line 32,1, one kept, order 65,1."
+abbrev pub recovery9 : Recovery
+recovery9 = record { epochs = 1 ∷ 1 ∷ []; line = 32 ∷ 1 ∷ []; phases = 1 ∷ 1 ∷ []; orphans = []; kept = message 0 1 1 1 ∷ []; back = 1; steps = 2 }
+
+abbrev pub R9 : Type 0
+R9 =
+    (verdict (linesOf linesT) ≡ accepted (two (Send 0 1 6 ∷ Recv 1 0 ∷ [])))
+    × (recovery (failing linesT "fail=1 set=2") ≡ given recovery9)
+    × (replay (failing linesT "fail=1 set=2") (32 ∷ 1 ∷ []) (65 ∷ 1 ∷ []) ≡ completed 2)
+
+r9 : R9
+unfolding opens reads
+r9 = (refl, refl, refl)
+
+-- "R10: step 1, set 1: line 1,32, none kept, order 0,1."
+abbrev pub recovery10 : Recovery
+recovery10 = record { epochs = 1 ∷ 1 ∷ []; line = 1 ∷ 32 ∷ []; phases = 1 ∷ 1 ∷ []; orphans = []; kept = []; back = 1; steps = 2 }
+
+abbrev pub R10 : Type 0
+R10 =
+    (recovery (failing linesT "fail=1 set=1") ≡ given recovery10)
+    × (replay (failing linesT "fail=1 set=1") (1 ∷ 32 ∷ []) (0 ∷ 1 ∷ []) ≡ completed 2)
+
+r10 : R10
+unfolding opens reads
+r10 = (refl, refl)
+
+-- "R11: H with set 0 or 8 is 9."
+abbrev pub R11 : Type 0
+R11 =
+    (recovery (failing linesH "fail=9 set=0") ≡ refused 9 0)
+    × (recovery (failing linesH "fail=9 set=8") ≡ refused 9 0)
+
+r11 : R11
+unfolding opens reads
+r11 = (refl, refl)
+
+-- "R12: a receive as first event is 5 at line 2." To the library; and to the program, which prints "only `refused=N place=P`"
+abbrev pub R12 : Type 0
+R12 =
+    (verdict (linesOf linesFirst) ≡ Verdict.refused 5 2)
+    × (printed (failing linesFirst "fail=1 set=2") ≡ linesOf ("refused=5 place=2" ∷ []))
+
+r12 : R12
+unfolding opens reads
+r12 = (refl, refl)
+
+-- ---- "Marked R1 to R12, to be proved together in one table"
+
+pub table : R1 × R2 × R3 × R4 × R5 × R6 × R7 × R8 × R9 × R10 × R11 × R12
+table = (r1, r2, r3, r4, r5, r6, r7, r8, r9, r10, r11, r12)
+
+-- ---- Not among them, but of the same texts: the numbers 1, 8 and 10, and which comes first
+
+-- no failure line is 1 at the line after the last; a line after the failure line is 1; H has 9 events, and 8 comes before 9
+abbrev pub Ends : Type 0
+Ends =
+    (recovery (linesOf linesH) ≡ refused 1 11)
+    × (recovery (linesOf (linesT ++ "fail=1 set=1" ∷ "ev=save at=0" ∷ [])) ≡ refused 1 5)
+    × (verdict textH ≡ Verdict.refused 1 11)
+    × (recovery (failing linesH "fail=10 set=0") ≡ refused 8 0)
+
+ends : Ends
+unfolding opens reads
+ends = (refl, refl, refl, refl)
+
+-- a line of two or of four numbers; a number 0; an epoch that process 2 has not reached; a failed process that stays; 9 comes before 10
+abbrev pub Lines : Type 0
+Lines =
+    (losses textH (2 ∷ 2 ∷ []) ≡ refused 10 0)
+    × (losses textH (2 ∷ 2 ∷ 32 ∷ 0 ∷ []) ≡ refused 10 0)
+    × (losses textH (0 ∷ 2 ∷ 32 ∷ []) ≡ refused 10 0)
+    × (losses textH (2 ∷ 2 ∷ 2 ∷ []) ≡ refused 10 0)
+    × (losses textH (32 ∷ 32 ∷ 32 ∷ []) ≡ refused 10 0)
+    × (losses (failing linesH "fail=9 set=8") (2 ∷ 2 ∷ []) ≡ refused 9 0)
+
+lines : Lines
+unfolding opens reads
+lines = (refl, refl, refl, refl, refl, refl)

@@ -1,0 +1,44 @@
+-- The texts of the runs (document 01, "Runs to check"), line by line. H stands as it is printed there. L, S, T and the text of R12 are given
+-- there in words: here they are texts, and the value 6 in them is ours.
+use mathlib.Core.List.{List, [], _∷_, _++_}
+use Prim.Native.Nat.{ℕ}
+use Prim.Native.String.{String}
+use Rattle.runs.specs.Bytes.{linesOf}
+
+-- "The library's reader takes the text without a failure line. The program wants one more line, the last": the text with that line
+unfoldable pub failing : List String → String → List ℕ
+failing ls failure = linesOf (ls ++ failure ∷ [])
+
+-- "Trace H, its failure line included"
+abbrev pub linesH : List String
+linesH =
+    "procs=3"
+    ∷ "ev=send at=0 to=1 val=5"
+    ∷ "ev=recv at=1 from=0"
+    ∷ "ev=save at=1"
+    ∷ "ev=send at=1 to=2 val=7"
+    ∷ "ev=recv at=2 from=1"
+    ∷ "ev=save at=0"
+    ∷ "ev=send at=0 to=1 val=9"
+    ∷ "ev=recv at=1 from=0"
+    ∷ "ev=send at=1 to=2 val=4"
+    ∷ []
+
+abbrev pub textH : List ℕ
+textH = failing linesH "fail=9 set=2"
+
+-- "Trace L: two zones; send 0 to 1, save 1, receive."
+abbrev pub linesL : List String
+linesL = "procs=2" ∷ "ev=send at=0 to=1 val=6" ∷ "ev=save at=1" ∷ "ev=recv at=1 from=0" ∷ []
+
+-- "Trace S: two zones; save 0, send 0 to 1, receive."
+abbrev pub linesS : List String
+linesS = "procs=2" ∷ "ev=save at=0" ∷ "ev=send at=0 to=1 val=6" ∷ "ev=recv at=1 from=0" ∷ []
+
+-- "Trace T: two zones; send 0 to 1, receive."
+abbrev pub linesT : List String
+linesT = "procs=2" ∷ "ev=send at=0 to=1 val=6" ∷ "ev=recv at=1 from=0" ∷ []
+
+-- "a receive as first event"
+abbrev pub linesFirst : List String
+linesFirst = "procs=2" ∷ "ev=recv at=1 from=0" ∷ []
