@@ -137,3 +137,9 @@ pub allowed-lt : (t g a : List ℕ) (c : ℕ) → allowedW t g a c ≡ true → 
 unfolding allowedW
 allowed-lt t g a c h = by-bool (ltb c 64) (λ x. let y = ltb-true c 64 x in omega arith)
     (λ x. by-bool (ltb c 4160) (λ y. ltb-true c 4160 y) (λ y. clash {b = false} (rw (x, y) at h) refl))
+
+-- one word more is 0
+pub zero-more : (a : List ℕ) (from i : ℕ) → i < length a → ((k : ℕ) → from ≤ k → k < i → getD a k 0 ≡ 0) → (k : ℕ) → from ≤ k → k < i + 1 → getD (set a i 0) k 0 ≡ 0
+zero-more a from i h z k p q = by-eq k i
+    (λ e. rw (e, getD-set-same a i 0 0 h))
+    (λ n. rw (getD-set-other a i k 0 0 n) (z k p (omega (arith, n))))

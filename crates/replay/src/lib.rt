@@ -8,13 +8,26 @@ ghost use lib.ListN.{length, getD};
 ghost use Rattle.words.specs.Area.{areaWords};
 ghost use Rattle.simulation.specs.Words.{takenBase, currentBase, orphanBase, takeBase, putBase, lowPlace, numberW, valueW, sendOk, eventOk, processOk, handOk, allowedW, lowerW, lowOf, movedW, dropW, putInW, takeOutW, eventW, processW, applyW, Bounded, Small, noneFrom};
 ghost use Rattle.simulation.specs.Linking.{pairW, backW, mineW, orphanW, goesW, earlyW, chainA, linkL, linkA, linkedL, linkedA};
+ghost use Rattle.theory.specs.Line.{Run};
+ghost use Rattle.theory.specs.Order.{run};
 ghost use Rattle.replay.specs.Shapes.{Readable, Movable, Paired, PairedTo};
+ghost use Rattle.replay.specs.Start.{Started, Left};
+ghost use Rattle.replay.specs.Answer.{answerOf, wordsOf};
 use protocol::EPOCH_BASE;
 use protocol::MATCH_BASE;
 use protocol::NUMBER_BASE;
 use protocol::PHASE_BASE;
 use trace::EVENT_BASE;
 use trace::VALUE_BASE;
+
+// What a replay answers: 0, or 11 with the place of the first choice that is not allowed, from 1; how many choices were carried out,
+// and whether no choice is left.
+pub struct Replayed {
+    pub number: u32,
+    pub place: usize,
+    pub steps: usize,
+    pub complete: bool,
+}
 
 // Words of the run area. Word e is the number of the message that receive e took, word TAKEN + e its value; the working words come
 // after: of each process its next event and the send of its next orphan, of each channel the send of its next message to take and of
@@ -437,4 +450,89 @@ fn link_all(full: &[u32], gates: &[u32], links: &mut [u32], area: &mut [u32], cu
         link_event(full, gates, links, area, cut, x);
         x -= 1;
     }
+}
+
+fn choice(c: u16) -> usize
+    ensures { λ r. ⌜ r ≡ c ⌝ }
+{
+    c as usize
+}
+
+// Carries out an order: the place of its first choice that is not allowed, from 1, or 0.
+fn carry_out(
+    full: &[u32],
+    links: &[u32],
+    gates: &[u32],
+    order: &[u16],
+    area: &mut [u32],
+) -> usize
+    requires { ⌜ (length (now full) ≡ areaWords) × (128 ≤ length (now gates)) × (length (now area) ≡ areaWords) × Small (now links) × ((R : Run) × Started R (now full) (now links) (now gates) (now area)) ⌝ }
+    ensures { λ r. ⌜ ((R : Run) → Started R (now (full .entry)) (now (links .entry)) (now (gates .entry)) (now (area .entry)) → Left R (now (area .exit)) (run R (now (order .entry))) r) ⌝ }
+{
+    let mut i: usize = 0;
+    while i < order.len() {
+        let c = choice(order[i]);
+        if allowed(full, gates, area, c) {
+            apply(full, links, area, c);
+            i += 1;
+        } else {
+            return i + 1;
+        }
+    }
+    0
+}
+
+// Makes every word from a place on 0.
+fn clear(area: &mut [u32], from: usize)
+    requires { ⌜ from ≤ length (now area) ⌝ }
+    ensures below { λ _. ⌜ ((k : ℕ) → k < from → getD (now (area .exit)) k 0 ≡ getD (now (area .entry)) k 0) ⌝ }
+    ensures above { λ _. ⌜ ((k : ℕ) → from ≤ k → k < length (now (area .entry)) → getD (now (area .exit)) k 0 ≡ 0) ⌝ }
+{
+    let mut i = from;
+    while i < area.len() {
+        area[i] = 0;
+        i += 1;
+    }
+}
+
+// The answer to an order that was carried out; the area keeps the record, its working words are 0 again.
+fn finish(full: &[u32], gates: &[u32], area: &mut [u32], steps: usize) -> Replayed
+    requires { ⌜ Readable (now full) (now gates) (now area) ⌝ }
+    ensures answer { λ r. ⌜ r ≡ (record { number = 0; place = 0; steps = steps; complete = noneFrom (now (full .entry)) (now (gates .entry)) (now (area .entry)) 4160 }) ⌝ }
+    ensures kept { λ _. ⌜ ((k : ℕ) → k < currentBase → getD (now (area .exit)) k 0 ≡ getD (now (area .entry)) k 0) ⌝ }
+    ensures zeros { λ _. ⌜ ((k : ℕ) → currentBase ≤ k → k < areaWords → getD (now (area .exit)) k 0 ≡ 0) ⌝ }
+{
+    let done = complete(full, gates, area);
+    clear(area, CURRENT);
+    Replayed {
+        number: 0,
+        place: 0,
+        steps: steps,
+        complete: done,
+    }
+}
+
+// Replays an order from the first state.
+fn replay_in(
+    full: &[u32],
+    links: &[u32],
+    gates: &[u32],
+    order: &[u16],
+    area: &mut [u32],
+) -> Replayed
+    requires { ⌜ (length (now full) ≡ areaWords) × (128 ≤ length (now gates)) × (length (now area) ≡ areaWords) × Small (now links) × ((R : Run) × Started R (now full) (now links) (now gates) (now area)) ⌝ }
+    ensures answer { λ r. ⌜ ((R : Run) → Started R (now (full .entry)) (now (links .entry)) (now (gates .entry)) (now (area .entry)) → r ≡ answerOf R (run R (now (order .entry))) (length (now (order .entry)))) ⌝ }
+    ensures words { λ _. ⌜ ((R : Run) → Started R (now (full .entry)) (now (links .entry)) (now (gates .entry)) (now (area .entry)) → now (area .exit) ≡ wordsOf R (run R (now (order .entry)))) ⌝ }
+{
+    let place = carry_out(full, links, gates, order, area);
+    if place != 0 {
+        words::zero(area);
+        return Replayed {
+            number: 11,
+            place: place,
+            steps: 0,
+            complete: false,
+        };
+    }
+    finish(full, gates, area, order.len())
 }
