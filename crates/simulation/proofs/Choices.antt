@@ -70,7 +70,7 @@ module _ (R : Run) (L : Laws R) (t l g : List ℕ) (K : Cols R t l g) where
       unfolding processOk
       process-ok =
           let n0 : eqb (curW a z) 0 ≡ false = ne-eqb (curW a z) 0 (λ q. omega (arith, e-cur, e-in .0)) in
-          let gt : ltb (getD g z 0) (lowW a) ≡ true = rw (K .base .gates z z-in) (sym (r .low (gate R z) (K .base .gate-lt z z-in)) ∙ b) in
+          let gt : ltb (getD g z 0) (lowW a) ≡ true = rw (K .base .gated .gates z z-in) (sym (r .low (gate R z) (K .base .gate-lt z z-in)) ∙ b) in
           rw (n0, gt, e-cur)
 
       step-event : (k : Kind) → kind (R .trace) e ≡ k → step R s (process z) ≡ eventStep R s z e es k
@@ -93,14 +93,14 @@ module _ (R : Run) (L : Laws R) (t l g : List ℕ) (K : Cols R t l g) where
           let ot : eqb (orpW a z) e ≡ orph R z e = ap (λ x. eqb x e) (r .orp z hz) ∙ orp-test R L t l g K s i z e es h in
           by (orph R z e)
           (λ o. let oo : eqb (orpW a z) e ≡ true = ot ∙ o in
-          allows u (rw (kk .0, kk .1, K .base .places z z-in) ok) (rw (kk .0, oo) (rel-drop R L t l g K a s r i z e es hz h q k o iu)) iu)
+          allows u (rw (kk .0, kk .1, K .base .gated .places z z-in) ok) (rw (kk .0, oo) (rel-drop R L t l g K a s r i z e es hz h q k o iu)) iu)
           (λ o. let oo : eqb (orpW a z) e ≡ false = ot ∙ o in
-          allows u (rw (kk .0, kk .1, K .base .places z z-in) ok) (rw (kk .0, kk .1, oo) (rel-send R L t l g K a s r i z e es hz h q hq k o lf)) iu)
+          allows u (rw (kk .0, kk .1, K .base .gated .places z z-in) ok) (rw (kk .0, kk .1, oo) (rel-send R L t l g K a s r i z e es hz h q hq k o lf)) iu)
       send-agrees q k (m ∷ ms) lf =
           let kk = kind-send (kindW t e) (peerW t e) q (sym (K .base .kinds e (e-in .0) (e-in .1)) ∙ k) in
           let hq : q < 64 = omega (arith, peer-lt, kk .1) in
           let no : sendOk (R .restart z) (putW a (64 * z + q)) ≡ false = left-some R L s i z q _ _ (r .chan z q hz hq) m ms lf in
-          refuses (rw (kk .0, kk .1, K .base .places z z-in) no)
+          refuses (rw (kk .0, kk .1, K .base .gated .places z z-in) no)
 
       recv-agrees : (p : ℕ) → kind (R .trace) e ≡ recv p → (cs : List ℕ) → s .chan p z ≡ cs → Agrees (eventOk t g a z e) (movedW l (eventW t l a z e) z e) (recvStep R s z p es cs)
       unfolding eventOk eventW recvStep
@@ -150,7 +150,7 @@ module _ (R : Run) (L : Laws R) (t l g : List ℕ) (K : Cols R t l g) where
         let z-in : z < R .trace .procs = omega (arith, L .process-lt e (n .0) (n .1), n .2) in
         let c : curW a z ≡ e = r .cur z hz ∙ ap head0 h in
         let n0 : eqb (curW a z) 0 ≡ false = ne-eqb (curW a z) 0 (λ q. omega (arith, c, n .0)) in
-        let gt : ltb (getD g z 0) (lowW a) ≡ false = rw (K .base .gates z z-in) (sym (r .low (gate R z) (K .base .gate-lt z z-in)) ∙ k) in
+        let gt : ltb (getD g z 0) (lowW a) ≡ false = rw (K .base .gated .gates z z-in) (sym (r .low (gate R z) (K .base .gate-lt z z-in)) ∙ k) in
         refuses (shut-gate z n0 gt)
 
     pub process-agrees : (z : ℕ) → z < 64 → Agrees (processOk t g a z) (processW t l a z) (step R s (process z))
@@ -176,7 +176,7 @@ module _ (R : Run) (L : Laws R) (t l g : List ℕ) (K : Cols R t l g) where
     hand-from p q hp hq [] lf =
         let ok : sendOk (R .restart p) (putW a (64 * p + q)) ≡ true = left-none R L s i p q _ _ (r .chan p q hp hq) lf in
         on (channel-in p q hp hq)
-        (λ j. refuses (rw (K .base .places p j, ok)))
+        (λ j. refuses (rw (K .base .gated .places p j, ok)))
         (λ j. let n0 : eqb (putW a (64 * p + q)) 0 ≡ true = eq-eqb (putW a (64 * p + q)) 0 j in refuses (rw n0))
     hand-from p q hp hq (m ∷ ms) lf =
         let no : sendOk (R .restart p) (putW a (64 * p + q)) ≡ false = left-some R L s i p q _ _ (r .chan p q hp hq) m ms lf in
@@ -193,9 +193,9 @@ module _ (R : Run) (L : Laws R) (t l g : List ℕ) (K : Cols R t l g) where
         by (ltb (R .carries p q m) (lowW a))
         (λ b. let rb : ready R s (R .carries p q m) ≡ true = rd ∙ b in
         let so : step R s (hand p q) ≡ some u = step-hand p q m ms lf rb in
-        rw rb (allows u (rw (K .base .places p pj, no, ph) b) (rel-hand R L t l g K a s r i p q m ms hp hq lf) (inv-step R s u (hand p q) so i)))
+        rw rb (allows u (rw (K .base .gated .places p pj, no, ph) b) (rel-hand R L t l g K a s r i p q m ms hp hq lf) (inv-step R s u (hand p q) so i)))
         (λ b. let rb : ready R s (R .carries p q m) ≡ false = rd ∙ b in
-        rw rb (refuses (rw (K .base .places p pj, no, ph) b)))
+        rw rb (refuses (rw (K .base .gated .places p pj, no, ph) b)))
 
     pub hand-agrees : (p q : ℕ) → p < 64 → q < 64 → Agrees (handOk t g a p (64 * p + q)) (putInW l a (64 * p + q)) (step R s (hand p q))
     unfolding step

@@ -8,7 +8,8 @@ use lib.Dec.{leb, ltb, eqb}
 use Rattle.theory.specs.Lists.{pick, iv, keep}
 use Rattle.theory.specs.Events.{Kind, send, recv, other, size, at, kind, sends, sent, rcvd, value}
 use Rattle.theory.specs.Line.{Run, kept}
-use Rattle.theory.specs.Replay.{State, listed, ready, gate}
+use Rattle.theory.specs.Replay.{State, listed, ready, gate, start}
+use Rattle.theory.specs.Laws.{Laws}
 use Rattle.theory.proofs.Flow.{ahead}
 use Rattle.simulation.specs.Words.{takenBase, currentBase, noPhase, kindW, peerW, valueW, phaseW, numberW, kindOf, curW, orpW, takeW, putW, lowW}
 
@@ -57,7 +58,12 @@ module _ (R : Run) where
   unfoldable pub valueAt : State → ℕ → ℕ
   valueAt s e = pick (ltb 0 e && leb e (size (R .trace))) (tookValue (s .got) e (kind (R .trace) e)) 0
 
-  -- the columns of the table and the gates are those of the run. Gates are told of the run's processes only: of any other, no word is asked.
+  -- The gates are those of the run. Only its own processes are told of: no gate of another is asked, since its pointers are 0.
+  pub record Gated (g : List ℕ) : Type 0 where
+    pub gates : (z : ℕ) → z < R .trace .procs → getD g z 0 ≡ gate R z
+    pub places : (z : ℕ) → z < R .trace .procs → getD g (64 + z) 0 ≡ R .restart z
+
+  -- the columns of the table and the gates are those of the run
   pub record Base (t g : List ℕ) : Type 0 where
     pub few : size (R .trace) ≤ 2048
     pub procs-is : getD t 0 0 ≡ R .trace .procs
@@ -67,9 +73,8 @@ module _ (R : Run) where
         → valueW t e ≡ value (R .trace) (at (R .trace) e) q (sent (R .trace) (at (R .trace) e) q e)
     pub phases : (e : ℕ) → 0 < e → e ≤ size (R .trace) → phaseW t e ≡ R .phase (at (R .trace) e) e
     pub phase-lt : (e : ℕ) → 0 < e → e ≤ size (R .trace) → R .phase (at (R .trace) e) e < noPhase
-    pub gates : (z : ℕ) → z < R .trace .procs → getD g z 0 ≡ gate R z
+    pub gated : Gated g
     pub gate-lt : (z : ℕ) → z < R .trace .procs → gate R z < noPhase
-    pub places : (z : ℕ) → z < R .trace .procs → getD g (64 + z) 0 ≡ R .restart z
 
   -- and the links are
   pub record Cols (t l g : List ℕ) : Type 0 where
@@ -104,3 +109,9 @@ module _ (R : Run) where
     pub num : (e : ℕ) → e < 2049 → getD a e 0 ≡ numberAt s e
     pub val : (e : ℕ) → e < 2049 → getD a (takenBase + e) 0 ≡ valueAt s e
     pub gap : (k : ℕ) → recordEnd ≤ k → k < currentBase → getD a k 0 ≡ 0
+
+  -- what a replay begins with
+  pub record Started (t l g a : List ℕ) : Type 0 where
+    pub laws : Laws R
+    pub cols : Cols t l g
+    pub rel : Rel a (start R)

@@ -1,0 +1,81 @@
+-- What the words of a replay promise to the code above: the full table, links and gates of a trace begin the replay of its recorded run; every
+-- choice by words is the machine's; the record that is left tells the machine's record. Each claim is proved in the file that its law comes from.
+use mathlib.Core.Path.{_≡_, refl, sym, _∙_}
+use mathlib.Core.Logic.{_↔_}
+use mathlib.Core.Bool.{Bool, true, false}
+use mathlib.Core.List.{List}
+use Prim.Native.Nat.{ℕ, _+_, _≤_, _<_}
+use native.Mathlib.Omega.{arith}
+use lib.ListN.{length, getD}
+use Rattle.words.specs.Area.{wordsFrom}
+use Rattle.trace.specs.Trace.{Trace}
+use Rattle.trace.specs.Fit.{wellFormed}
+use Rattle.theory.specs.Events.{size}
+use Rattle.theory.specs.Epochs.{past}
+use Rattle.theory.specs.Line.{Run, recorded, LossFree}
+use Rattle.theory.specs.Replay.{State, start, SameRecord}
+use Rattle.theory.specs.Order.{Outcome, carriedOut, refused, run, complete}
+use Rattle.theory.proofs.WellFormed.{valid}
+use Rattle.theory.proofs.Flow.{Inv}
+use Rattle.theory.proofs.Epochs.{laws}
+use Rattle.protocol.specs.Columns.{Columns}
+use Rattle.simulation.specs.Words.{currentBase, allowedW, applyW, noneFrom, Bounded}
+use Rattle.simulation.specs.Related.{Gated, Rel, Started}
+use Rattle.simulation.specs.Record.{recordAt, Live, faultlessAt}
+use Rattle.simulation.specs.Linking.{linkedL, linkedA, beginA}
+use Rattle.simulation.proofs.Orders.{live-start, live-bad, live-next, live-end, none-same, rel-bounded, record-left}
+use Rattle.simulation.proofs.Passes.{linked-cols, linked-rel}
+use Rattle.simulation.proofs.Columns.{few, base, tested}
+use Rattle.simulation.proofs.Records.{order-record, complete-record}
+
+-- The pass over the events sets the links of the recorded run and its first state. The words of processes that the run does not have may hold
+-- anything in the gates.
+module _ (t : Trace) (wf : wellFormed t ≡ true) (full : List ℕ) (C : Columns t full) (cut : ℕ) (line : ℕ → ℕ) (cl : cut ≤ size t) (gates : List ℕ)
+    (G : Gated (recorded t past cut line) gates) where
+  pub started : (links area : List ℕ) → 8197 ≤ length links → length area ≡ 16384 → ((k : ℕ) → getD links k 0 ≡ 0) → ((k : ℕ) → getD area k 0 ≡ 0)
+      → Started (recorded t past cut line) full (linkedL full gates cut (size t) (size t) links area) gates (beginA full (linkedA full gates cut (size t) (size t) area))
+  started links area hl ha zl za =
+      let R = recorded t past cut line in
+      let L = laws t past (valid t wf) cut line cl in
+      let few = few t wf full C in
+      let Q = tested t wf full C cut line cl gates G in
+      let B = base t wf full C cut line cl gates G in
+      record { laws = L; cols = linked-cols R full gates cut few Q links area hl ha zl za L B; rel = linked-rel R full gates cut few Q links area hl ha zl za L B }
+
+-- Orders, from what a replay begins with: `Live` holds before the first choice, each allowed choice keeps it, and the order is refused at the first
+-- that is not allowed.
+module _ (R : Run) (full links gates first : List ℕ) (S : Started R full links gates first) where
+  pub begins : (order : List ℕ) → Live R first 0 order (run R order)
+  begins order = live-start R (S .laws) full links gates (S .cols) first order (S .rel)
+
+  module _ (area : List ℕ) (i : ℕ) (order : List ℕ) (w : Outcome) (v : Live R area i order w) where
+    pub refuses-here : i < length order → allowedW full gates area (getD order i 0) ≡ false → w ≡ refused (i + 1)
+    refuses-here = live-bad R (S .laws) full links gates (S .cols) area i order w v
+
+    pub goes-on : i < length order → allowedW full gates area (getD order i 0) ≡ true → Live R (applyW full links area (getD order i 0)) (i + 1) order w
+    goes-on = live-next R (S .laws) full links gates (S .cols) area i order w v
+
+    pub ends : length order ≤ i → (s : State) × Rel R area s × Inv R s × (w ≡ carriedOut s)
+    ends = live-end R (S .laws) full links gates (S .cols) area i order w v
+
+    -- every pointer is an event
+    pub bounded : Bounded area
+    bounded = rel-bounded R (S .laws) full links gates (S .cols) area (v .0) (v .1) (v .2)
+
+  module _ (area : List ℕ) (s : State) (r : Rel R area s) (i : Inv R s) where
+    -- "An order is complete when no choice is allowed"
+    pub complete-words : noneFrom full gates area 4160 ≡ complete R s
+    complete-words = none-same R (S .laws) full links gates (S .cols) area s r i
+
+    -- with its working words 0 again, the run area holds the record
+    pub record-words : (b : List ℕ) → length b ≡ 16384 → ((k : ℕ) → k < currentBase → getD b k 0 ≡ getD area k 0)
+        → ((k : ℕ) → currentBase ≤ k → k < 16384 → getD b k 0 ≡ 0) → b ≡ wordsFrom (recordAt R s) 0 16384
+    record-words b = record-left R (S .laws) full links gates (S .cols) area b s r
+
+  -- The words of the record are those of the run without failure exactly if the record is; after a complete order exactly if no message is lost.
+  module _ (order : List ℕ) (s : State) (h : run R order ≡ carriedOut s) where
+    pub same-words : (wordsFrom (recordAt R s) 0 16384 ≡ wordsFrom (faultlessAt (R .trace)) 0 16384) ↔ SameRecord R s
+    same-words = order-record R (S .laws) (S .cols .base .few) order s h
+
+    pub same-complete : complete R s ≡ true → (wordsFrom (recordAt R s) 0 16384 ≡ wordsFrom (faultlessAt (R .trace)) 0 16384) ↔ LossFree R
+    same-complete = complete-record R (S .laws) (S .cols .base .few) order s h
