@@ -12,7 +12,8 @@ use Rattle.simulation.specs.Words.{currentBase, allowedW, applyW, Bounded, none
 use Rattle.simulation.specs.Record.{Live}
 use Rattle.simulation.proofs.Orders.{live-bad, live-next, live-end, live-start, none-same, rel-bounded, record-left}
 use Rattle.replay.specs.declared.Replayed.{Replayed}
-use Rattle.replay.specs.Start.{Started, Left}
+use Rattle.simulation.specs.Related.{Started}
+use Rattle.replay.specs.Left.{Left}
 use Rattle.replay.specs.Answer.{answerOf, wordsOf}
 
 module _ (R : Run) (t l g a₀ : List ℕ) (S : Started R t l g a₀) where

@@ -1,3 +1,6 @@
-pub mod Shapes
+-- public
+pub mod Given
 pub mod Answer
-pub mod Start
+-- of single functions
+pub mod Shapes
+pub mod Left

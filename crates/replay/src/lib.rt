@@ -7,11 +7,15 @@ ghost use Prim.Native.Nat.{ℕ, _+_, _-_, _*_, _/_, _%_, _≤_, _<_};
 ghost use lib.ListN.{length, getD};
 ghost use Rattle.words.specs.Area.{areaWords};
 ghost use Rattle.simulation.specs.Words.{takenBase, currentBase, orphanBase, takeBase, putBase, lowPlace, numberW, valueW, sendOk, eventOk, processOk, handOk, allowedW, lowerW, lowOf, movedW, dropW, putInW, takeOutW, eventW, processW, applyW, Bounded, Small, noneFrom};
-ghost use Rattle.simulation.specs.Linking.{pairW, backW, mineW, orphanW, goesW, earlyW, chainA, linkL, linkA, linkedL, linkedA};
-ghost use Rattle.theory.specs.Line.{Run};
+ghost use Rattle.simulation.specs.Linking.{pairW, backW, mineW, orphanW, goesW, earlyW, chainA, linkL, linkA, linkedL, linkedA, beginA};
+ghost use Rattle.theory.specs.Line.{Run, recorded};
+ghost use Rattle.simulation.specs.Related.{Started};
 ghost use Rattle.theory.specs.Order.{run};
-ghost use Rattle.replay.specs.Shapes.{Readable, Movable, Paired, PairedTo};
-ghost use Rattle.replay.specs.Start.{Started, Left};
+ghost use Rattle.replay.specs.Shapes.{Readable, Movable, Paired, PairedTo, Linkable};
+ghost use Rattle.trace.specs.Trace.{Trace};
+ghost use Rattle.theory.specs.Epochs.{past};
+ghost use Rattle.replay.specs.Left.{Left};
+ghost use Rattle.replay.specs.Given.{Given};
 ghost use Rattle.replay.specs.Answer.{answerOf, wordsOf};
 use protocol::EPOCH_BASE;
 use protocol::MATCH_BASE;
@@ -49,6 +53,10 @@ const NO_PHASE: u32 = 4294967295;
 
 // Words of the gates: word z is the gate of process z, word RESTART + z the event that it restarts after.
 const RESTART: usize = 64;
+
+// Words of the links: word 4 e is the next event of the process of event e, 4 e + 1 the next send whose message goes through its
+// channel, 4 e + 2 the next orphan's send of its process.
+const LINK_WORDS: usize = 8200;
 
 // Choices: below HANDS a process, then for each channel that its oldest kept message is handed over; CHOICES and above are none.
 const HANDS: usize = 64;
@@ -459,13 +467,7 @@ fn choice(c: u16) -> usize
 }
 
 // Carries out an order: the place of its first choice that is not allowed, from 1, or 0.
-fn carry_out(
-    full: &[u32],
-    links: &[u32],
-    gates: &[u32],
-    order: &[u16],
-    area: &mut [u32],
-) -> usize
+fn carry_out(full: &[u32], links: &[u32], gates: &[u32], order: &[u16], area: &mut [u32]) -> usize
     requires { ⌜ (length (now full) ≡ areaWords) × (128 ≤ length (now gates)) × (length (now area) ≡ areaWords) × Small (now links) × ((R : Run) × Started R (now full) (now links) (now gates) (now area)) ⌝ }
     ensures { λ r. ⌜ ((R : Run) → Started R (now (full .entry)) (now (links .entry)) (now (gates .entry)) (now (area .entry)) → Left R (now (area .exit)) (run R (now (order .entry))) r) ⌝ }
 {
@@ -535,4 +537,29 @@ fn replay_in(
         };
     }
     finish(full, gates, area, order.len())
+}
+
+// The links and the first state: all events linked, then the least phase of an orphan.
+fn begin(full: &[u32], gates: &[u32], links: &mut [u32], area: &mut [u32], cut: usize)
+    requires { ⌜ (length (now full) ≡ areaWords) × (128 ≤ length (now gates)) × (8197 ≤ length (now links)) × (length (now area) ≡ areaWords) × Linkable (now full) (now gates) cut (now area) ⌝ }
+    ensures links { λ _. ⌜ now (links .exit) ≡ linkedL (now (full .entry)) (now (gates .entry)) cut (getD (now (full .entry)) 1 0) (getD (now (full .entry)) 1 0) (now (links .entry)) (now (area .entry)) ⌝ }
+    ensures words { λ _. ⌜ now (area .exit) ≡ beginA (now (full .entry)) (linkedA (now (full .entry)) (now (gates .entry)) cut (getD (now (full .entry)) 1 0) (getD (now (full .entry)) 1 0) (now (area .entry))) ⌝ }
+{
+    let n = wide(full[1]);
+    link_all(full, gates, links, area, cut, n);
+    let procs = wide(full[0]);
+    let low = lowest_phase(full, area, procs);
+    area[LOW] = low;
+}
+
+// Replays an order from the line that the gates stand for, in an area of exactly 16,384 words.
+pub fn replay(full: &[u32], gates: &[u32], order: &[u16], area: &mut [u32], cut: usize) -> Replayed
+    requires { ⌜ (length (now area) ≡ areaWords) × (128 ≤ length (now gates)) × ((t : Trace) × (line : (ℕ → ℕ)) × Given t line cut (now full) (now gates)) ⌝ }
+    ensures answer { λ r. ⌜ ((t : Trace) (line : ℕ → ℕ) → Given t line cut (now (full .entry)) (now (gates .entry)) → r ≡ answerOf (recorded t past cut line) (run (recorded t past cut line) (now (order .entry))) (length (now (order .entry)))) ⌝ }
+    ensures words { λ _. ⌜ ((t : Trace) (line : ℕ → ℕ) → Given t line cut (now (full .entry)) (now (gates .entry)) → now (area .exit) ≡ wordsOf (recorded t past cut line) (run (recorded t past cut line) (now (order .entry)))) ⌝ }
+{
+    let mut links = [0u32; LINK_WORDS];
+    words::zero(area);
+    begin(full, gates, &mut links, area, cut);
+    replay_in(full, &links, gates, order, area)
 }

@@ -8,7 +8,7 @@ use Rattle.replay.proofs.Ordering.{run-starts, live-bound, procs-few, l
 use Rattle.simulation.specs.Record.{Live}
 use Rattle.theory.specs.Line.{Run}
 use Rattle.theory.specs.Order.{run}
-use Rattle.replay.specs.Start.{Started}
+use Rattle.simulation.specs.Related.{Started}
 use borrow.Author.Needs.{needs}
 use Rattle.replay.proofs.carry_out.Statement.{statement}
 use Rattle.replay.proofs.carry_out.Tie as tie
