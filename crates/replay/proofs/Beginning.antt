@@ -1,0 +1,116 @@
+-- What a replay is given begins it: the words of the first state are in their ranges and stand for the run, for every trace and line that are given.
+use mathlib.Core.Path.{_≡_, refl, sym, _∙_, ap, subst}
+use mathlib.Core.Bool.{Bool, true, false}
+use mathlib.Core.List.{List}
+use Prim.Native.Nat.{ℕ, zero, suc, _+_, _-_, _*_, _≤_, _<_}
+use native.Mathlib.Omega.{arith}
+use lib.ListN.{length, getD, set, replicate, length-replicate}
+use lib.Seq.{getD-set-other}
+use lib.Dec.{eqb}
+use borrow.Author.Tests.{eq-eqb, ne-eqb}
+use Rattle.words.specs.Area.{areaWords}
+use Rattle.trace.specs.Trace.{Trace}
+use Rattle.theory.specs.Events.{send, size, at, kind, recvs, sent, recvOf}
+use Rattle.theory.specs.Epochs.{past}
+use Rattle.theory.specs.Line.{Run, recorded}
+use Rattle.theory.specs.Replay.{start}
+use Rattle.theory.proofs.Base.{place-le}
+use Rattle.theory.proofs.Events.{sends-of}
+use Rattle.theory.proofs.WellFormed.{valid}
+use Rattle.theory.proofs.Epochs.{laws}
+use Rattle.theory.proofs.Loss.{inv-start}
+use Rattle.simulation.specs.Words.{currentBase, lowPlace, kindW, peerW, kindOf, lowOf, Bounded, Small}
+use Rattle.simulation.specs.Related.{Started}
+use Rattle.simulation.specs.Linking.{pairW, linkedL, linkedA, beginA}
+use Rattle.simulation.proofs.Orders.{rel-bounded}
+use Rattle.simulation.proofs.Passes.{linked-small}
+use Rattle.simulation.proofs.Columns.{few, count-is, kind-is, pair-lt, base, tested}
+use Rattle.simulation.proofs.Claims.{started}
+use Rattle.replay.specs.Given.{Given}
+use Rattle.replay.specs.Shapes.{Paired, PairedTo, Linkable}
+
+getD-zeros : (n k : ℕ) → _≡_ {A = ℕ} (getD (replicate n 0) k 0) 0
+getD-zeros zero k = refl
+getD-zeros (suc n) zero = refl
+getD-zeros (suc n) (suc k) = getD-zeros n k
+
+pub zeros : (a b : List ℕ) → length a ≡ areaWords → b ≡ replicate (length a) 0 → b ≡ replicate areaWords 0
+zeros a b h e = e ∙ ap (λ n. replicate n 0) h
+
+pub links-long : 8197 ≤ length (replicate {A = ℕ} 8200 0)
+links-long = omega (arith, length-replicate {A = ℕ} 8200 0)
+
+-- the least phase is no pointer
+bounded-back : (a : List ℕ) (v : ℕ) → Bounded (set a lowPlace v) → Bounded a
+unfolding Bounded
+bounded-back a v b k h j = rw (getD-set-other a lowPlace k v 0 (λ q. omega arith)) at (b k h j)
+
+pub low-set : (full a b : List ℕ) (procs low : ℕ) → procs ≡ getD full 0 0 → low ≡ lowOf full a procs → b ≡ a → set a lowPlace low ≡ beginA full b
+unfolding beginA
+low-set full a b procs low ep el eb = rw (el, ep, eb)
+
+module _ (t : Trace) (line : ℕ → ℕ) (cut : ℕ) (full gates : List ℕ) (H : Given t line cut full gates) where
+  abbrev R : Run
+  R = recorded t past cut line
+
+  full-long : length full ≡ areaWords
+  full-long = H .columns .whole
+
+  count : getD full 1 0 ≡ size t
+  count = count-is t (H .formed) full (H .columns)
+
+  few-events : size t ≤ 2048
+  few-events = few t (H .formed) full (H .columns)
+
+  pub pairs : PairedTo full (getD full 1 0)
+  unfolding PairedTo recvOf
+  pairs e h k =
+      let le : e ≤ size t = omega (arith, k, count) in (
+        λ c. let q = peerW full e in
+            let i : kind t e ≡ send q = kind-is t (H .formed) full (H .columns) e h le ∙ (unfold kindOf in rw (eq-eqb (kindW full e) 1 c)) in
+            let m = H .columns .match-send (at t e) q e (sends-of t (at t e) q e refl i) h le in
+            omega (arith, m, place-le (recvs t (at t e) q) (sent t (at t e) q e) (size t), few-events),
+        λ c. omega (arith, (pair-lt t (H .formed) full (H .columns) e h le (eq-eqb (kindW full e) 2 c)) .1, few-events),
+      )
+
+  module _ (l a : List ℕ) (el : l ≡ replicate 8200 0) (ea : a ≡ replicate areaWords 0) where
+    abbrev linksOf : ℕ → List ℕ
+    linksOf n = linkedL full gates cut n n l a
+
+    abbrev wordsAt : ℕ → List ℕ
+    wordsAt n = linkedA full gates cut n n a
+
+    l-long : 8197 ≤ length l
+    l-long = rw el (omega (arith, length-replicate {A = ℕ} 8200 0))
+
+    a-long : length a ≡ 16384
+    a-long = rw ea (length-replicate {A = ℕ} 16384 0)
+
+    l-zero : (k : ℕ) → getD l k 0 ≡ 0
+    l-zero k = rw el (getD-zeros 8200 k)
+
+    a-zero : (k : ℕ) → getD a k 0 ≡ 0
+    a-zero k = rw ea (getD-zeros 16384 k)
+
+    pub begun : Started R full (linksOf (getD full 1 0)) gates (beginA full (wordsAt (getD full 1 0)))
+    begun = rw count (started t (H .formed) full (H .columns) cut line (H .cut-le) gates (H .gated) l a l-long a-long l-zero a-zero)
+
+    pub small : Small (linksOf (getD full 1 0))
+    small =
+        rw count (linked-small R full gates cut few-events (tested t (H .formed) full (H .columns) cut line (H .cut-le) gates (H .gated)) l a l-long a-long l-zero a-zero
+        (laws t past (valid t (H .formed)) cut line (H .cut-le)) (base t (H .formed) full (H .columns) cut line (H .cut-le) gates (H .gated)))
+
+    pub linkable : Linkable full gates cut a
+    unfolding beginA
+    linkable = (
+      omega (arith, begun .cols .base .procs-is, begun .laws .few),
+      omega (arith, count, few-events),
+      pairs,
+      bounded-back _ _ (rel-bounded R (begun .laws) full (linksOf (getD full 1 0)) gates (begun .cols) (beginA full (wordsAt (getD full 1 0))) (start R) (begun .rel) (inv-start R (begun .laws))),
+    )
+
+    pub small-in : (l′ : List ℕ) → l′ ≡ linksOf (getD full 1 0) → Small l′
+    small-in l′ e = rw e small
+
+    pub begun-in : (l′ a′ : List ℕ) → l′ ≡ linksOf (getD full 1 0) → a′ ≡ beginA full (wordsAt (getD full 1 0)) → Started R full l′ gates a′
+    begun-in l′ a′ e f = rw (e, f) begun

@@ -1,0 +1,8 @@
+-- one choice
+pub mod Steps
+-- the links
+pub mod Passing
+-- an order
+pub mod Ordering
+-- the first state
+pub mod Beginning

@@ -1,0 +1,145 @@
+-- One law for each way out of the functions that test a choice or take it, over the values that the code has there.
+use mathlib.Core.Path.{_≡_, refl, sym, _∙_}
+use mathlib.Core.Bool.{Bool, true, false, _&&_, not}
+use mathlib.Core.List.{List}
+use Prim.Native.Nat.{ℕ, zero, suc, _+_, _-_, _*_, _/_, _≤_, _<_}
+use native.Mathlib.Omega.{arith}
+use native.Mathlib.Numerals.{add-one}
+use lib.ListN.{length, getD, set}
+use lib.Seq.{getD-set-same, getD-set-other}
+use lib.Dec.{ltb, eqb}
+use borrow.Author.Tests.{lt-ltb, le-ltb, eq-eqb, ne-eqb, ltb-true}
+use Rattle.words.proofs.Cases.{by-bool, by-eq, clash}
+use Rattle.simulation.specs.Words.{currentBase, lowPlace, kindW, peerW, phaseW, curW, orpW, takeW, putW, lowW, sendOk, eventOk, processOk, handOk, allowedW, lowerW, lowOf, movedW, dropW, putInW, takeOutW, eventW, processW, applyW, Bounded, Small, noneFrom}
+
+pub bound : (a : List ℕ) (k : ℕ) → Bounded a → currentBase ≤ k → k < lowPlace → getD a k 0 < 2049
+unfolding Bounded
+bound a k b h j = b k h j
+
+module _ (t g a : List ℕ) (z e : ℕ) where
+  pub event-send : (m : ℕ) (r : Bool) → kindW t e ≡ 1 → m ≡ putW a (64 * z + peerW t e) → r ≡ sendOk (getD g (64 + z) 0) m → r ≡ eventOk t g a z e
+  unfolding eventOk
+  event-send m r k em er = rw (eq-eqb (kindW t e) 1 k) (rw em at er)
+
+  pub event-recv : (kindW t e ≡ 1 → ⊥) → kindW t e ≡ 2 → not (eqb (takeW a (64 * peerW t e + z)) (putW a (64 * peerW t e + z))) ≡ eventOk t g a z e
+  unfolding eventOk
+  event-recv n k = rw (ne-eqb (kindW t e) 1 n, eq-eqb (kindW t e) 2 k)
+
+  pub event-other : (kindW t e ≡ 1 → ⊥) → (kindW t e ≡ 2 → ⊥) → true ≡ eventOk t g a z e
+  unfolding eventOk
+  event-other n k = rw (ne-eqb (kindW t e) 1 n, ne-eqb (kindW t e) 2 k)
+
+module _ (t g a : List ℕ) (z e : ℕ) (ee : e ≡ curW a z) where
+  pub process-none : e ≡ 0 → false ≡ processOk t g a z
+  unfolding processOk
+  process-none h = rw (eq-eqb (curW a z) 0 (sym ee ∙ h))
+
+  pub process-shut : (e ≡ 0 → ⊥) → lowW a ≤ getD g z 0 → false ≡ processOk t g a z
+  unfolding processOk
+  process-shut n h = rw (ne-eqb (curW a z) 0 (λ q. n (ee ∙ q)), le-ltb (getD g z 0) (lowW a) h)
+
+  pub process-open : (e ≡ 0 → ⊥) → getD g z 0 < lowW a → (r : Bool) → r ≡ eventOk t g a z e → r ≡ processOk t g a z
+  unfolding processOk
+  process-open n h r er = rw (ne-eqb (curW a z) 0 (λ q. n (ee ∙ q)), lt-ltb (getD g z 0) (lowW a) h, ← ee) er
+
+module _ (t g a : List ℕ) (p c m : ℕ) (r : Bool) (em : m ≡ putW a c) (er : r ≡ sendOk (getD g (64 + p) 0) m) where
+  pub hand-none : r ≡ true → false ≡ handOk t g a p c
+  unfolding handOk
+  hand-none h = rw (← em, ← er, h)
+
+  pub hand-some : r ≡ false → ltb (phaseW t m) (lowW a) ≡ handOk t g a p c
+  unfolding handOk
+  hand-some h = rw (← em, ← er, h)
+
+module _ (t g a : List ℕ) (c : ℕ) where
+  pub allowed-process : c < 64 → (r : Bool) → r ≡ processOk t g a c → r ≡ allowedW t g a c
+  unfolding allowedW
+  allowed-process h r er = rw (lt-ltb c 64 h) er
+
+  pub allowed-hand : 64 ≤ c → c < 4160 → (r : Bool) → r ≡ handOk t g a ((c - 64) / 64) (c - 64) → r ≡ allowedW t g a c
+  unfolding allowedW
+  allowed-hand h k r er = rw (le-ltb c 64 h, lt-ltb c 4160 k) er
+
+  pub allowed-none : 4160 ≤ c → false ≡ allowedW t g a c
+  unfolding allowedW
+  allowed-none k = rw (le-ltb c 64 (omega arith), le-ltb c 4160 k)
+
+-- the loop over the processes
+pub low-next : (t a : List ℕ) (z o low r : ℕ) → o ≡ orpW a z → low ≡ lowOf t a z → r ≡ lowerW t o low → r ≡ lowOf t a (z + 1)
+unfolding lowOf
+low-next t a z o low r eo el er = rw (add-one z, ← eo, ← el) er
+
+-- a new pointer is an event
+pub bounded-set : (l a : List ℕ) (k j : ℕ) → Bounded a → Small l → k < length a → Bounded (set a k (getD l j 0))
+unfolding Bounded Small
+bounded-set l a k j b s h x p q = by-eq x k
+    (λ e. rw (e, getD-set-same a k (getD l j 0) 0 h) (s j))
+    (λ n. rw (getD-set-other a k x (getD l j 0) 0 n) (b x p q))
+
+module _ (t l a : List ℕ) (z e : ℕ) where
+  pub event-drop : (b : List ℕ) → kindW t e ≡ 1 → (o : ℕ) → o ≡ orpW a z → o ≡ e → b ≡ dropW t l a z e → b ≡ eventW t l a z e
+  unfolding eventW
+  event-drop b k o eo h eb = rw (eq-eqb (kindW t e) 1 k, ← eo, eq-eqb o e h) eb
+
+  pub event-put : (b : List ℕ) → kindW t e ≡ 1 → (o : ℕ) → o ≡ orpW a z → (o ≡ e → ⊥) → b ≡ putInW l a (64 * z + peerW t e) → b ≡ eventW t l a z e
+  unfolding eventW
+  event-put b k o eo h eb = rw (eq-eqb (kindW t e) 1 k, ← eo, ne-eqb o e h) eb
+
+  pub event-take : (b : List ℕ) → (kindW t e ≡ 1 → ⊥) → kindW t e ≡ 2 → b ≡ takeOutW t l a (64 * peerW t e + z) e → b ≡ eventW t l a z e
+  unfolding eventW
+  event-take b n k eb = rw (ne-eqb (kindW t e) 1 n, eq-eqb (kindW t e) 2 k) eb
+
+  pub event-move : (kindW t e ≡ 1 → ⊥) → (kindW t e ≡ 2 → ⊥) → a ≡ eventW t l a z e
+  unfolding eventW
+  event-move n k = rw (ne-eqb (kindW t e) 1 n, ne-eqb (kindW t e) 2 k)
+
+pub process-done : (t l a b : List ℕ) (z e : ℕ) → e ≡ curW a z → b ≡ eventW t l a z e → set b (currentBase + z) (getD l (4 * e) 0) ≡ processW t l a z
+unfolding processW movedW
+process-done t l a b z e ee eb = rw (← ee, ← eb)
+
+module _ (t l a b : List ℕ) (c : ℕ) where
+  pub apply-process : c < 64 → b ≡ processW t l a c → b ≡ applyW t l a c
+  unfolding applyW
+  apply-process h eb = rw (lt-ltb c 64 h) eb
+
+  pub apply-hand : 64 ≤ c → b ≡ putInW l a (c - 64) → b ≡ applyW t l a c
+  unfolding applyW
+  apply-hand h eb = rw (le-ltb c 64 h) eb
+
+and-false : (b : Bool) → false ≡ (b && false)
+and-false true = refl
+and-false false = refl
+
+module _ (t g a : List ℕ) (c : ℕ) (r : Bool) (er : r ≡ allowedW t g a c) where
+  pub none-next : true ≡ noneFrom t g a c → r ≡ false → true ≡ noneFrom t g a (c + 1)
+  unfolding noneFrom
+  none-next h k = rw (add-one c, ← h, ← er, k)
+
+  none-here : r ≡ true → false ≡ noneFrom t g a (suc c)
+  unfolding noneFrom
+  none-here k = rw (← er, k) (and-false (noneFrom t g a c))
+
+  pub none-at : (m : ℕ) → c < m → r ≡ true → false ≡ noneFrom t g a m
+  none-at m h k = let e : m ≡ suc c + (m - suc c) = omega arith in rw e (none-up (suc c) (m - suc c) (none-here k))
+    where
+      none-up : (x d : ℕ) → false ≡ noneFrom t g a x → false ≡ noneFrom t g a (x + d)
+      none-up x d h = go d
+        where
+          go : (d : ℕ) → false ≡ noneFrom t g a (x + d)
+          go zero = let e : x + zero ≡ x = omega arith in rw e h
+          go (suc d) = let e : x + suc d ≡ suc (x + d) = omega arith in rw e (more (x + d) (go d))
+            where
+              more : (y : ℕ) → false ≡ noneFrom t g a y → false ≡ noneFrom t g a (suc y)
+              more y k = unfold noneFrom in rw (← k)
+
+-- an allowed choice is a number below 4,160
+pub allowed-lt : (t g a : List ℕ) (c : ℕ) → allowedW t g a c ≡ true → c < 4160
+unfolding allowedW
+allowed-lt t g a c h = by-bool (ltb c 64) (λ x. let y = ltb-true c 64 x in omega arith)
+    (λ x. by-bool (ltb c 4160) (λ y. ltb-true c 4160 y) (λ y. clash {b = false} (rw (x, y) at h) refl))
+
+-- one word more is 0
+pub zero-more : (a : List ℕ) (from i : ℕ) → i < length a → ((k : ℕ) → from ≤ k → k < i → getD a k 0 ≡ 0) → (k : ℕ) → from ≤ k → k < i + 1 → getD (set a i 0) k 0 ≡ 0
+zero-more a from i h z k p q = by-eq k i
+    (λ e. rw (e, getD-set-same a i 0 0 h))
+    (λ n. rw (getD-set-other a i k 0 0 n) (z k p (omega (arith, n))))

@@ -1,0 +1,25 @@
+-- `replay::take_out` meets its contract: the stores themselves.
+use mathlib.Core.Path.{_≡_}
+use native.Mathlib.Omega.{arith}
+use lib.ListN.{length-set}
+use Rattle.simulation.specs.Words.{takeOutW}
+use borrow.Author.Needs.{needs}
+use Rattle.replay.proofs.take_out.Statement.{statement}
+use Rattle.replay.proofs.take_out.Tie as tie
+
+slice-write-area-2 : tie.Need-slice-write-area-2
+slice-write-area-2 c = simp length-set (omega arith)
+
+slice-write-area-3 : tie.Need-slice-write-area-3
+slice-write-area-3 c = simp length-set (omega arith)
+
+returns : tie.Need-returns
+unfolding takeOutW
+returns c =
+    let pointer = c .before .before .before .pointer in
+    rw (pointer .ensures .0)
+
+pub take-out-spec : {M : Type 1} → statement M
+take-out-spec =
+    tie.close
+    (tie.spec (λ c. search needs) (λ c κs. search needs) (λ c. search needs) (λ c. search needs) (λ c. search needs) (λ c. search needs) (λ c. search needs) (λ c. search needs) (λ c. search needs) (λ c. search needs) (λ c. search needs) (λ c. search needs) (λ c. search needs) slice-write-area-2 (λ c. search needs) (λ c. search needs) (λ c. search needs) (λ c. search needs) (λ c. search needs) slice-write-area-3 (λ c. search needs) returns)

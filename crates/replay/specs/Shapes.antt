@@ -1,0 +1,29 @@
+-- Sizes and ranges of the words that the replay reads and writes: what index safety needs.
+use Prim.Native.Nat.{ℕ, _≤_, _<_}
+use mathlib.Core.Path.{_≡_}
+use mathlib.Core.List.{List}
+use lib.ListN.{length, getD}
+use Rattle.words.specs.Area.{areaWords}
+use Rattle.simulation.specs.Words.{kindW, Bounded, Small}
+use Rattle.simulation.specs.Linking.{pairW, linkedA}
+
+-- what a test reads
+abbrev pub Readable : List ℕ → List ℕ → List ℕ → Type 0
+Readable full gates area = (length full ≡ areaWords) × (128 ≤ length gates) × (length area ≡ areaWords) × Bounded area
+
+-- what a step reads and writes
+abbrev pub Movable : List ℕ → List ℕ → List ℕ → Type 0
+Movable full links area =
+    (length full ≡ areaWords) × (getD full 0 0 ≤ 64) × (8197 ≤ length links) × Small links × (length area ≡ areaWords) × Bounded area
+
+-- the event that a send's or a receive's message is matched with is one of the trace, or 0
+abbrev pub Paired : List ℕ → ℕ → Type 0
+Paired full e = (kindW full e ≡ 1 → pairW full e < 2049) × (kindW full e ≡ 2 → pairW full e < 2049)
+
+unfoldable pub PairedTo : List ℕ → ℕ → Type 0
+PairedTo full n = (e : ℕ) → 0 < e → e ≤ n → Paired full e
+
+-- the counts of the table and the matched events are in their ranges, and so is every pointer once all events are linked
+abbrev pub Linkable : List ℕ → List ℕ → ℕ → List ℕ → Type 0
+Linkable full gates cut area =
+    (getD full 0 0 ≤ 64) × (getD full 1 0 < 2049) × PairedTo full (getD full 1 0) × Bounded (linkedA full gates cut (getD full 1 0) (getD full 1 0) area)

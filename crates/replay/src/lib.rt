@@ -1,0 +1,565 @@
+// The replay of an order of choices, in words: a test for each choice, that writes nothing, and a step for each choice, that tests
+// nothing. Every message is its send event, every queue the stretch between two pointers into events, so a choice costs the same
+// however long the run is. specs/Answer says what a replay answers and leaves, by the theory's machine. Assumes nothing.
+ghost use mathlib.Core.Path.{_≡_};
+ghost use mathlib.Core.Bool.{true};
+ghost use Prim.Native.Nat.{ℕ, _+_, _-_, _*_, _/_, _%_, _≤_, _<_};
+ghost use lib.ListN.{length, getD};
+ghost use Rattle.words.specs.Area.{areaWords};
+ghost use Rattle.simulation.specs.Words.{takenBase, currentBase, orphanBase, takeBase, putBase, lowPlace, numberW, valueW, sendOk, eventOk, processOk, handOk, allowedW, lowerW, lowOf, movedW, dropW, putInW, takeOutW, eventW, processW, applyW, Bounded, Small, noneFrom};
+ghost use Rattle.simulation.specs.Linking.{pairW, backW, mineW, orphanW, goesW, earlyW, chainA, linkL, linkA, linkedL, linkedA, beginA};
+ghost use Rattle.theory.specs.Line.{Run, recorded};
+ghost use Rattle.simulation.specs.Related.{Started};
+ghost use Rattle.theory.specs.Order.{run};
+ghost use Rattle.replay.specs.Shapes.{Readable, Movable, Paired, PairedTo, Linkable};
+ghost use Rattle.trace.specs.Trace.{Trace};
+ghost use Rattle.theory.specs.Epochs.{past};
+ghost use Rattle.replay.specs.Left.{Left};
+ghost use Rattle.replay.specs.Given.{Given};
+ghost use Rattle.replay.specs.Answer.{answerOf, wordsOf};
+use protocol::EPOCH_BASE;
+use protocol::MATCH_BASE;
+use protocol::NUMBER_BASE;
+use protocol::PHASE_BASE;
+use trace::EVENT_BASE;
+use trace::VALUE_BASE;
+
+// What a replay answers: 0, or 11 with the place of the first choice that is not allowed, from 1; how many choices were carried out,
+// and whether no choice is left.
+pub struct Replayed {
+    pub number: u32,
+    pub place: usize,
+    pub steps: usize,
+    pub complete: bool,
+}
+
+// Words of the run area. Word e is the number of the message that receive e took, word TAKEN + e its value; the working words come
+// after: of each process its next event and the send of its next orphan, of each channel the send of its next message to take and of
+// its next message to put in, and the least phase of an orphan that is not sent again.
+const TAKEN: usize = 2049;
+
+const CURRENT: usize = 6147;
+
+const ORPHAN: usize = 6211;
+
+const TAKE: usize = 6275;
+
+const PUT: usize = 10371;
+
+const LOW: usize = 14467;
+
+// The word that stands for no phase: above that of every orphan.
+const NO_PHASE: u32 = 4294967295;
+
+// Words of the gates: word z is the gate of process z, word RESTART + z the event that it restarts after.
+const RESTART: usize = 64;
+
+// Words of the links: word 4 e is the next event of the process of event e, 4 e + 1 the next send whose message goes through its
+// channel, 4 e + 2 the next orphan's send of its process.
+const LINK_WORDS: usize = 8200;
+
+// Choices: below HANDS a process, then for each channel that its oldest kept message is handed over; CHOICES and above are none.
+const HANDS: usize = 64;
+
+const CHOICES: usize = 4160;
+
+// A pointer of the area: an event, or 0.
+fn pointer(area: &[u32], k: usize) -> usize
+    requires { ⌜ (currentBase ≤ k) × (k < lowPlace) × (length (now area) ≡ areaWords) × Bounded (now area) ⌝ }
+    ensures word { λ r. ⌜ r ≡ getD (now (area .entry)) k 0 ⌝ }
+    ensures bound { λ r. ⌜ r < 2049 ⌝ }
+{
+    area[k] as usize
+}
+
+// Is no kept message left on a channel whose next message to put in is sent by event m, and whose sender restarts after event x.
+fn send_ok(x: u32, m: usize) -> bool
+    ensures { λ r. ⌜ r ≡ sendOk x m ⌝ }
+{
+    if m == 0 {
+        return true;
+    }
+    (x as usize) < m
+}
+
+// May process z do event e: a send waits for the kept messages of its channel, a receive needs a message in its channel.
+fn event_ok(full: &[u32], gates: &[u32], area: &[u32], z: usize, e: usize) -> bool
+    requires { ⌜ (z < 64) × (e < 2049) × Readable (now full) (now gates) (now area) ⌝ }
+    ensures { λ r. ⌜ r ≡ eventOk (now (full .entry)) (now (gates .entry)) (now (area .entry)) z e ⌝ }
+{
+    let w = full[EVENT_BASE + e];
+    let kind = w / 4096 % 4;
+    let peer = (w / 64 % 64) as usize;
+    if kind == 1 {
+        return send_ok(gates[RESTART + z], pointer(area, PUT + (64 * z + peer)));
+    }
+    if kind == 2 {
+        return area[TAKE + (64 * peer + z)] != area[PUT + (64 * peer + z)];
+    }
+    true
+}
+
+// May process z do its next event: there is one, and the phase of its gate is ready.
+fn process_ok(full: &[u32], gates: &[u32], area: &[u32], z: usize) -> bool
+    requires { ⌜ (z < 64) × Readable (now full) (now gates) (now area) ⌝ }
+    ensures { λ r. ⌜ r ≡ processOk (now (full .entry)) (now (gates .entry)) (now (area .entry)) z ⌝ }
+{
+    let e = pointer(area, CURRENT + z);
+    if e == 0 {
+        return false;
+    }
+    if gates[z] >= area[LOW] {
+        return false;
+    }
+    event_ok(full, gates, area, z, e)
+}
+
+// May the oldest kept message of channel c, of sender p, be handed over: there is one, and its own phase is ready.
+fn hand_ok(full: &[u32], gates: &[u32], area: &[u32], p: usize, c: usize) -> bool
+    requires { ⌜ (p < 64) × (c < 4096) × Readable (now full) (now gates) (now area) ⌝ }
+    ensures { λ r. ⌜ r ≡ handOk (now (full .entry)) (now (gates .entry)) (now (area .entry)) p c ⌝ }
+{
+    let m = pointer(area, PUT + c);
+    if send_ok(gates[RESTART + p], m) {
+        return false;
+    }
+    full[PHASE_BASE + m] < area[LOW]
+}
+
+// Is the choice allowed.
+fn allowed(full: &[u32], gates: &[u32], area: &[u32], c: usize) -> bool
+    requires { ⌜ Readable (now full) (now gates) (now area) ⌝ }
+    ensures { λ r. ⌜ r ≡ allowedW (now (full .entry)) (now (gates .entry)) (now (area .entry)) c ⌝ }
+{
+    if c < HANDS {
+        return process_ok(full, gates, area, c);
+    }
+    if c < CHOICES {
+        return hand_ok(full, gates, area, (c - HANDS) / 64, c - HANDS);
+    }
+    false
+}
+
+// The lesser of a phase and that of the orphan sent by event o, if there is one.
+fn lower(full: &[u32], o: usize, low: u32) -> u32
+    requires { ⌜ (o < 2049) × (length (now full) ≡ areaWords) ⌝ }
+    ensures { λ r. ⌜ r ≡ lowerW (now (full .entry)) o low ⌝ }
+{
+    if o == 0 {
+        return low;
+    }
+    let f = full[PHASE_BASE + o];
+    if f < low {
+        return f;
+    }
+    low
+}
+
+// The least phase of an orphan that is not sent again: of each process the next one is looked at, since its phases never fall.
+fn lowest_phase(full: &[u32], area: &[u32], procs: usize) -> u32
+    requires { ⌜ (procs ≤ 64) × (length (now full) ≡ areaWords) × (length (now area) ≡ areaWords) × Bounded (now area) ⌝ }
+    ensures { λ r. ⌜ r ≡ lowOf (now (full .entry)) (now (area .entry)) procs ⌝ }
+{
+    let mut low: u32 = NO_PHASE;
+    let mut z = 0;
+    while z < procs {
+        low = lower(full, pointer(area, ORPHAN + z), low);
+        z += 1;
+    }
+    low
+}
+
+// A message goes into channel c, by its send or handed over.
+fn put_in(links: &[u32], area: &mut [u32], c: usize)
+    requires { ⌜ (c < 4096) × (8197 ≤ length (now links)) × (length (now area) ≡ areaWords) × Bounded (now area) ⌝ }
+    ensures { λ _. ⌜ now (area .exit) ≡ putInW (now (links .entry)) (now (area .entry)) c ⌝ }
+{
+    let m = pointer(area, PUT + c);
+    area[PUT + c] = links[4 * m + 1];
+}
+
+// The receive e takes the oldest message of channel c: its number and value go on record.
+fn take_out(full: &[u32], links: &[u32], area: &mut [u32], c: usize, e: usize)
+    requires { ⌜ (c < 4096) × (e < 2049) × Movable (now full) (now links) (now area) ⌝ }
+    ensures { λ _. ⌜ now (area .exit) ≡ takeOutW (now (full .entry)) (now (links .entry)) (now (area .entry)) c e ⌝ }
+{
+    let m = pointer(area, TAKE + c);
+    area[TAKE + c] = links[4 * m + 1];
+    area[e] = full[NUMBER_BASE + m];
+    area[TAKEN + e] = full[VALUE_BASE + m];
+}
+
+// The send e of process z is an orphan's: its message is dropped, and counts as sent again.
+fn drop_orphan(full: &[u32], links: &[u32], area: &mut [u32], z: usize, e: usize)
+    requires { ⌜ (z < 64) × (e < 2049) × Movable (now full) (now links) (now area) ⌝ }
+    ensures { λ _. ⌜ now (area .exit) ≡ dropW (now (full .entry)) (now (links .entry)) (now (area .entry)) z e ⌝ }
+{
+    area[ORPHAN + z] = links[4 * e + 2];
+    let procs = full[0] as usize;
+    let low = lowest_phase(full, area, procs);
+    area[LOW] = low;
+}
+
+// Process z does event e, which may be done.
+fn do_event(full: &[u32], links: &[u32], area: &mut [u32], z: usize, e: usize)
+    requires { ⌜ (z < 64) × (e < 2049) × Movable (now full) (now links) (now area) ⌝ }
+    ensures { λ _. ⌜ now (area .exit) ≡ eventW (now (full .entry)) (now (links .entry)) (now (area .entry)) z e ⌝ }
+{
+    let w = full[EVENT_BASE + e];
+    let kind = w / 4096 % 4;
+    let peer = (w / 64 % 64) as usize;
+    if kind == 1 {
+        let o = pointer(area, ORPHAN + z);
+        if o == e {
+            drop_orphan(full, links, area, z, e);
+            return;
+        }
+        put_in(links, area, 64 * z + peer);
+        return;
+    }
+    if kind == 2 {
+        take_out(full, links, area, 64 * peer + z, e);
+    }
+}
+
+// Process z does its next event, which may be done, and moves on.
+fn do_process(full: &[u32], links: &[u32], area: &mut [u32], z: usize)
+    requires { ⌜ (z < 64) × Movable (now full) (now links) (now area) ⌝ }
+    ensures { λ _. ⌜ now (area .exit) ≡ processW (now (full .entry)) (now (links .entry)) (now (area .entry)) z ⌝ }
+{
+    let e = pointer(area, CURRENT + z);
+    do_event(full, links, area, z, e);
+    area[CURRENT + z] = links[4 * e];
+}
+
+// Carries out a choice that is allowed.
+fn apply(full: &[u32], links: &[u32], area: &mut [u32], c: usize)
+    requires { ⌜ (c < 4160) × Movable (now full) (now links) (now area) ⌝ }
+    ensures { λ _. ⌜ now (area .exit) ≡ applyW (now (full .entry)) (now (links .entry)) (now (area .entry)) c ⌝ }
+{
+    if c < HANDS {
+        do_process(full, links, area, c);
+        return;
+    }
+    put_in(links, area, c - HANDS);
+}
+
+// Is no choice allowed.
+fn complete(full: &[u32], gates: &[u32], area: &[u32]) -> bool
+    requires { ⌜ Readable (now full) (now gates) (now area) ⌝ }
+    ensures { λ r. ⌜ r ≡ noneFrom (now (full .entry)) (now (gates .entry)) (now (area .entry)) 4160 ⌝ }
+{
+    let mut c: usize = 0;
+    while c < CHOICES {
+        if allowed(full, gates, area, c) {
+            return false;
+        }
+        c += 1;
+    }
+    true
+}
+
+// The event that event e is matched with: the receive of the message that it sends, or the send of the message that it receives.
+fn pair(full: &[u32], e: usize) -> usize
+    requires { ⌜ (e < 2049) × (length (now full) ≡ areaWords) × (pairW (now full) e < 2049) ⌝ }
+    ensures word { λ r. ⌜ r ≡ pairW (now (full .entry)) e ⌝ }
+    ensures bound { λ r. ⌜ r < 2049 ⌝ }
+{
+    full[MATCH_BASE + e] as usize
+}
+
+fn wide(x: u32) -> usize
+    ensures { λ r. ⌜ r ≡ x ⌝ }
+{
+    x as usize
+}
+
+// Is event e after the restart of its process.
+fn mine(full: &[u32], gates: &[u32], e: usize) -> bool
+    requires { ⌜ (e < 2049) × (length (now full) ≡ areaWords) × (128 ≤ length (now gates)) ⌝ }
+    ensures { λ r. ⌜ r ≡ mineW (now (full .entry)) (now (gates .entry)) e ⌝ }
+{
+    let z = (full[EVENT_BASE + e] % 64) as usize;
+    wide(gates[RESTART + z]) < e
+}
+
+// Was the message that event e sends received before its receiver's restart.
+fn back(full: &[u32], gates: &[u32], e: usize) -> bool
+    requires { ⌜ (e < 2049) × (length (now full) ≡ areaWords) × (128 ≤ length (now gates)) × (pairW (now full) e < 2049) ⌝ }
+    ensures { λ r. ⌜ r ≡ backW (now (full .entry)) (now (gates .entry)) e ⌝ }
+{
+    let q = (full[EVENT_BASE + e] / 64 % 64) as usize;
+    let m = pair(full, e);
+    if m == 0 {
+        return false;
+    }
+    m <= wide(gates[RESTART + q])
+}
+
+// Does event e send an orphan again.
+fn orphan(full: &[u32], gates: &[u32], e: usize) -> bool
+    requires { ⌜ (e < 2049) × (length (now full) ≡ areaWords) × (128 ≤ length (now gates)) × Paired (now full) e ⌝ }
+    ensures { λ r. ⌜ r ≡ orphanW (now (full .entry)) (now (gates .entry)) e ⌝ }
+{
+    let kind = full[EVENT_BASE + e] / 4096 % 4;
+    if kind != 1 {
+        return false;
+    }
+    if mine(full, gates, e) {
+        return back(full, gates, e);
+    }
+    false
+}
+
+// Does event e send a message that goes through its channel: it was not received before the receiver's restart; and it is sent after
+// the sender's, or was not received by the cut, or is logged.
+fn goes(full: &[u32], gates: &[u32], cut: usize, e: usize) -> bool
+    requires { ⌜ (e < 2049) × (length (now full) ≡ areaWords) × (128 ≤ length (now gates)) × Paired (now full) e ⌝ }
+    ensures { λ r. ⌜ r ≡ goesW (now (full .entry)) (now (gates .entry)) cut e ⌝ }
+{
+    let kind = full[EVENT_BASE + e] / 4096 % 4;
+    if kind != 1 {
+        return false;
+    }
+    if back(full, gates, e) {
+        return false;
+    }
+    if mine(full, gates, e) {
+        return true;
+    }
+    let m = pair(full, e);
+    if m == 0 {
+        return true;
+    }
+    if m > cut {
+        return true;
+    }
+    full[EPOCH_BASE + e] < full[EPOCH_BASE + m]
+}
+
+// Is event e a receive before the restart of its process.
+fn early(full: &[u32], gates: &[u32], e: usize) -> bool
+    requires { ⌜ (e < 2049) × (length (now full) ≡ areaWords) × (128 ≤ length (now gates)) ⌝ }
+    ensures { λ r. ⌜ r ≡ earlyW (now (full .entry)) (now (gates .entry)) e ⌝ }
+{
+    let w = full[EVENT_BASE + e];
+    let kind = w / 4096 % 4;
+    if kind != 2 {
+        return false;
+    }
+    let z = (w % 64) as usize;
+    e <= wide(gates[RESTART + z])
+}
+
+// A link is the pointer of the area, where the test holds.
+fn link(links: &mut [u32], area: &[u32], b: bool, slot: usize, k: usize)
+    requires { ⌜ (slot < length (now links)) × (k < length (now area)) ⌝ }
+    ensures { λ _. ⌜ now (links .exit) ≡ chainA b (now (links .entry)) slot (getD (now (area .entry)) k 0) ⌝ }
+{
+    if b {
+        links[slot] = area[k];
+    }
+}
+
+// A word of the area is v, where the test holds.
+fn mark(area: &mut [u32], b: bool, k: usize, v: u32)
+    requires { ⌜ k < length (now area) ⌝ }
+    ensures { λ _. ⌜ now (area .exit) ≡ chainA b (now (area .entry)) k v ⌝ }
+{
+    if b {
+        area[k] = v;
+    }
+}
+
+// The links of event e, of process z on channel c: to do, sending an orphan, sending a message that goes through.
+fn link_words(
+    links: &mut [u32],
+    area: &[u32],
+    z: usize,
+    c: usize,
+    e: usize,
+    listed: bool,
+    resends: bool,
+    through: bool,
+)
+    requires { ⌜ (z < 64) × (c < 4096) × (e < 2049) × (8197 ≤ length (now links)) × (length (now area) ≡ areaWords) ⌝ }
+    ensures { λ _. ⌜ now (links .exit) ≡ chainA through (chainA resends (chainA listed (now (links .entry)) (4 * e) (getD (now (area .entry)) (currentBase + z) 0)) (4 * e + 2) (getD (now (area .entry)) (orphanBase + z) 0)) (4 * e + 1) (getD (now (area .entry)) (putBase + c) 0) ⌝ }
+{
+    link(links, area, listed, 4 * e, CURRENT + z);
+    link(links, area, resends, 4 * e + 2, ORPHAN + z);
+    link(links, area, through, 4 * e + 1, PUT + c);
+}
+
+// The pointers of the area at event e, in the same way.
+fn mark_words(
+    area: &mut [u32],
+    z: usize,
+    c: usize,
+    e: usize,
+    listed: bool,
+    resends: bool,
+    through: bool,
+)
+    requires { ⌜ (z < 64) × (c < 4096) × (e < 2049) × (length (now area) ≡ areaWords) ⌝ }
+    ensures { λ _. ⌜ now (area .exit) ≡ chainA through (chainA through (chainA resends (chainA listed (now (area .entry)) (currentBase + z) e) (orphanBase + z) e) (putBase + c) e) (takeBase + c) e ⌝ }
+{
+    let at = e as u32;
+    mark(area, listed, CURRENT + z, at);
+    mark(area, resends, ORPHAN + z, at);
+    mark(area, through, PUT + c, at);
+    mark(area, through, TAKE + c, at);
+}
+
+// The record of receive e, where it is before the restart: the message that it took in the trace.
+fn mark_record(full: &[u32], area: &mut [u32], e: usize, before: bool)
+    requires { ⌜ (e < 2049) × (length (now full) ≡ areaWords) × (length (now area) ≡ areaWords) × (before ≡ true → pairW (now full) e < 2049) ⌝ }
+    ensures { λ _. ⌜ now (area .exit) ≡ chainA before (chainA before (now (area .entry)) e (numberW (now (full .entry)) e)) (takenBase + e) (valueW (now (full .entry)) (pairW (now (full .entry)) e)) ⌝ }
+{
+    if before {
+        let m = pair(full, e);
+        area[e] = full[NUMBER_BASE + e];
+        area[TAKEN + e] = full[VALUE_BASE + m];
+    }
+}
+
+// Event e linked: what the pass over the events does there.
+fn link_event(
+    full: &[u32],
+    gates: &[u32],
+    links: &mut [u32],
+    area: &mut [u32],
+    cut: usize,
+    e: usize,
+)
+    requires { ⌜ (e < 2049) × (length (now full) ≡ areaWords) × (128 ≤ length (now gates)) × (8197 ≤ length (now links)) × (length (now area) ≡ areaWords) × Paired (now full) e ⌝ }
+    ensures links { λ _. ⌜ now (links .exit) ≡ linkL (now (full .entry)) (now (gates .entry)) cut (now (links .entry)) (now (area .entry)) e ⌝ }
+    ensures words { λ _. ⌜ now (area .exit) ≡ linkA (now (full .entry)) (now (gates .entry)) cut (now (area .entry)) e ⌝ }
+{
+    let w = full[EVENT_BASE + e];
+    let z = (w % 64) as usize;
+    let q = (w / 64 % 64) as usize;
+    let listed = mine(full, gates, e);
+    let resends = orphan(full, gates, e);
+    let through = goes(full, gates, cut, e);
+    let before = early(full, gates, e);
+    link_words(links, area, z, 64 * z + q, e, listed, resends, through);
+    mark_words(area, z, 64 * z + q, e, listed, resends, through);
+    mark_record(full, area, e, before);
+}
+
+// All n events linked, from the last to the first.
+fn link_all(full: &[u32], gates: &[u32], links: &mut [u32], area: &mut [u32], cut: usize, n: usize)
+    requires { ⌜ (n < 2049) × (length (now full) ≡ areaWords) × (128 ≤ length (now gates)) × (8197 ≤ length (now links)) × (length (now area) ≡ areaWords) × PairedTo (now full) n ⌝ }
+    ensures links { λ _. ⌜ now (links .exit) ≡ linkedL (now (full .entry)) (now (gates .entry)) cut n n (now (links .entry)) (now (area .entry)) ⌝ }
+    ensures words { λ _. ⌜ now (area .exit) ≡ linkedA (now (full .entry)) (now (gates .entry)) cut n n (now (area .entry)) ⌝ }
+{
+    let mut x = n;
+    while x > 0 {
+        link_event(full, gates, links, area, cut, x);
+        x -= 1;
+    }
+}
+
+fn choice(c: u16) -> usize
+    ensures { λ r. ⌜ r ≡ c ⌝ }
+{
+    c as usize
+}
+
+// Carries out an order: the place of its first choice that is not allowed, from 1, or 0.
+fn carry_out(full: &[u32], links: &[u32], gates: &[u32], order: &[u16], area: &mut [u32]) -> usize
+    requires { ⌜ (length (now full) ≡ areaWords) × (128 ≤ length (now gates)) × (length (now area) ≡ areaWords) × Small (now links) × ((R : Run) × Started R (now full) (now links) (now gates) (now area)) ⌝ }
+    ensures { λ r. ⌜ ((R : Run) → Started R (now (full .entry)) (now (links .entry)) (now (gates .entry)) (now (area .entry)) → Left R (now (area .exit)) (run R (now (order .entry))) r) ⌝ }
+{
+    let mut i: usize = 0;
+    while i < order.len() {
+        let c = choice(order[i]);
+        if allowed(full, gates, area, c) {
+            apply(full, links, area, c);
+            i += 1;
+        } else {
+            return i + 1;
+        }
+    }
+    0
+}
+
+// Makes every word from a place on 0.
+fn clear(area: &mut [u32], from: usize)
+    requires { ⌜ from ≤ length (now area) ⌝ }
+    ensures below { λ _. ⌜ ((k : ℕ) → k < from → getD (now (area .exit)) k 0 ≡ getD (now (area .entry)) k 0) ⌝ }
+    ensures above { λ _. ⌜ ((k : ℕ) → from ≤ k → k < length (now (area .entry)) → getD (now (area .exit)) k 0 ≡ 0) ⌝ }
+{
+    let mut i = from;
+    while i < area.len() {
+        area[i] = 0;
+        i += 1;
+    }
+}
+
+// The answer to an order that was carried out; the area keeps the record, its working words are 0 again.
+fn finish(full: &[u32], gates: &[u32], area: &mut [u32], steps: usize) -> Replayed
+    requires { ⌜ Readable (now full) (now gates) (now area) ⌝ }
+    ensures answer { λ r. ⌜ r ≡ (record { number = 0; place = 0; steps = steps; complete = noneFrom (now (full .entry)) (now (gates .entry)) (now (area .entry)) 4160 }) ⌝ }
+    ensures kept { λ _. ⌜ ((k : ℕ) → k < currentBase → getD (now (area .exit)) k 0 ≡ getD (now (area .entry)) k 0) ⌝ }
+    ensures zeros { λ _. ⌜ ((k : ℕ) → currentBase ≤ k → k < areaWords → getD (now (area .exit)) k 0 ≡ 0) ⌝ }
+{
+    let done = complete(full, gates, area);
+    clear(area, CURRENT);
+    Replayed {
+        number: 0,
+        place: 0,
+        steps: steps,
+        complete: done,
+    }
+}
+
+// Replays an order from the first state.
+fn replay_in(
+    full: &[u32],
+    links: &[u32],
+    gates: &[u32],
+    order: &[u16],
+    area: &mut [u32],
+) -> Replayed
+    requires { ⌜ (length (now full) ≡ areaWords) × (128 ≤ length (now gates)) × (length (now area) ≡ areaWords) × Small (now links) × ((R : Run) × Started R (now full) (now links) (now gates) (now area)) ⌝ }
+    ensures answer { λ r. ⌜ ((R : Run) → Started R (now (full .entry)) (now (links .entry)) (now (gates .entry)) (now (area .entry)) → r ≡ answerOf R (run R (now (order .entry))) (length (now (order .entry)))) ⌝ }
+    ensures words { λ _. ⌜ ((R : Run) → Started R (now (full .entry)) (now (links .entry)) (now (gates .entry)) (now (area .entry)) → now (area .exit) ≡ wordsOf R (run R (now (order .entry)))) ⌝ }
+{
+    let place = carry_out(full, links, gates, order, area);
+    if place != 0 {
+        words::zero(area);
+        return Replayed {
+            number: 11,
+            place: place,
+            steps: 0,
+            complete: false,
+        };
+    }
+    finish(full, gates, area, order.len())
+}
+
+// The links and the first state: all events linked, then the least phase of an orphan.
+fn begin(full: &[u32], gates: &[u32], links: &mut [u32], area: &mut [u32], cut: usize)
+    requires { ⌜ (length (now full) ≡ areaWords) × (128 ≤ length (now gates)) × (8197 ≤ length (now links)) × (length (now area) ≡ areaWords) × Linkable (now full) (now gates) cut (now area) ⌝ }
+    ensures links { λ _. ⌜ now (links .exit) ≡ linkedL (now (full .entry)) (now (gates .entry)) cut (getD (now (full .entry)) 1 0) (getD (now (full .entry)) 1 0) (now (links .entry)) (now (area .entry)) ⌝ }
+    ensures words { λ _. ⌜ now (area .exit) ≡ beginA (now (full .entry)) (linkedA (now (full .entry)) (now (gates .entry)) cut (getD (now (full .entry)) 1 0) (getD (now (full .entry)) 1 0) (now (area .entry))) ⌝ }
+{
+    let n = wide(full[1]);
+    link_all(full, gates, links, area, cut, n);
+    let procs = wide(full[0]);
+    let low = lowest_phase(full, area, procs);
+    area[LOW] = low;
+}
+
+// Replays an order from the line that the gates stand for, in an area of exactly 16,384 words.
+pub fn replay(full: &[u32], gates: &[u32], order: &[u16], area: &mut [u32], cut: usize) -> Replayed
+    requires { ⌜ (length (now area) ≡ areaWords) × (128 ≤ length (now gates)) × ((t : Trace) × (line : (ℕ → ℕ)) × Given t line cut (now full) (now gates)) ⌝ }
+    ensures answer { λ r. ⌜ ((t : Trace) (line : ℕ → ℕ) → Given t line cut (now (full .entry)) (now (gates .entry)) → r ≡ answerOf (recorded t past cut line) (run (recorded t past cut line) (now (order .entry))) (length (now (order .entry)))) ⌝ }
+    ensures words { λ _. ⌜ ((t : Trace) (line : ℕ → ℕ) → Given t line cut (now (full .entry)) (now (gates .entry)) → now (area .exit) ≡ wordsOf (recorded t past cut line) (run (recorded t past cut line) (now (order .entry)))) ⌝ }
+{
+    let mut links = [0u32; LINK_WORDS];
+    words::zero(area);
+    begin(full, gates, &mut links, area, cut);
+    replay_in(full, &links, gates, order, area)
+}
