@@ -1,0 +1,113 @@
+// Recovery lines of a trace, from its full table (crate protocol): the greatest line without a lost message after a failure.
+// specs/Given says what a function is given and how a line stands in words; the contracts are the theory's definitions.
+// Assumes nothing.
+ghost use mathlib.Core.Path.{_≡_};
+ghost use mathlib.Core.Bool.{true, false};
+ghost use Prim.Native.Nat.{ℕ, _+_, _*_, _/_, _%_, _≤_, _<_};
+ghost use lib.ListN.{length, getD, set};
+ghost use Rattle.words.specs.Area.{areaWords, wordsFrom};
+ghost use Rattle.trace.specs.Trace.{Trace};
+ghost use Rattle.theory.specs.Lists.{pick};
+ghost use Rattle.theory.specs.Events.{size};
+ghost use Rattle.theory.specs.Epochs.{past};
+ghost use Rattle.theory.specs.Line.{inSet, current, reached, Greatest, highest, greatestLine};
+ghost use Rattle.line.specs.Given.{Tabled, each, lineIn, lineTo};
+ghost use Rattle.line.specs.Words.{kindW, peerW, atW, epochW, matchW, Sized, lostW, lowerAt, passW, flagW, Lowered};
+use protocol::EPOCH_BASE;
+use protocol::MATCH_BASE;
+use trace::EVENT_BASE;
+
+// A recovery line: for each process the epoch that it restarts in, or STAYS, and how many processes there are.
+pub struct Line {
+    pub epochs: [u32; 64],
+    pub count: usize,
+}
+
+// A process that stays as it was at the cut.
+pub const STAYS: u32 = 32;
+
+// The kind of an event's word.
+const RECEIVE: u32 = 2;
+
+// The parts of an event's word.
+fn kind(w: u32) -> u32
+    ensures { λ r. ⌜ r ≡ w / 4096 % 4 ⌝ }
+{
+    w / 4096 % 4
+}
+
+fn process(w: u32) -> usize
+    ensures { λ r. ⌜ (r ≡ w % 64) × (r < 64) ⌝ }
+{
+    (w % 64) as usize
+}
+
+fn peer(w: u32) -> usize
+    ensures { λ r. ⌜ (r ≡ w / 64 % 64) × (r < 64) ⌝ }
+{
+    (w / 64 % 64) as usize
+}
+
+// The event that event e is matched with.
+fn matched(full: &[u32], e: usize) -> usize
+    requires { ⌜ (length (now full) ≡ areaWords) × (e ≤ 2048) × (matchW (now full) e ≤ 2048) ⌝ }
+    ensures { λ r. ⌜ (r ≡ matchW (now (full .entry)) e) × (r ≤ 2048) ⌝ }
+{
+    full[MATCH_BASE + e] as usize
+}
+
+// Where event e receives a message that the line loses, its sender is lowered to the epoch of the send.
+fn lower_at(full: &[u32], epochs: &mut [u32], e: usize) -> bool
+    requires { ⌜ (length (now full) ≡ areaWords) × (length (now epochs) ≡ 64) × (e ≤ 2048) × (kindW (now full) e ≡ 2 → matchW (now full) e ≤ 2048) ⌝ }
+    ensures lost { λ r. ⌜ r ≡ lostW (now (full .entry)) (now (epochs .entry)) e ⌝ }
+    ensures line { λ r. ⌜ now (epochs .exit) ≡ lowerAt (now (full .entry)) (now (epochs .entry)) e ⌝ }
+{
+    let w = full[EVENT_BASE + e];
+    if kind(w) != RECEIVE {
+        return false;
+    }
+    let q = process(w);
+    let p = peer(w);
+    let d = matched(full, e);
+    let taken = full[EPOCH_BASE + e];
+    let sent = full[EPOCH_BASE + d];
+    if epochs[q] > taken {
+        return false;
+    }
+    if epochs[p] <= sent {
+        return false;
+    }
+    if sent < taken {
+        return false;
+    }
+    epochs[p] = sent;
+    true
+}
+
+// One pass over the events up to the cut; whether it lowered the line.
+fn pass(full: &[u32], epochs: &mut [u32], cut: usize) -> bool
+    requires { ⌜ Sized (now full) cut × (length (now epochs) ≡ 64) ⌝ }
+    ensures lowered { λ r. ⌜ r ≡ flagW (now (full .entry)) (now (epochs .entry)) cut ⌝ }
+    ensures line { λ r. ⌜ now (epochs .exit) ≡ passW (now (full .entry)) (now (epochs .entry)) cut ⌝ }
+{
+    let mut any = false;
+    let mut e: usize = 0;
+    while e < cut {
+        e += 1;
+        if lower_at(full, epochs, e) {
+            any = true;
+        }
+    }
+    any
+}
+
+// Passes until one lowers nothing.
+fn lower(full: &[u32], epochs: &mut [u32], cut: usize)
+    requires { ⌜ Sized (now full) cut × (length (now epochs) ≡ 64) ⌝ }
+    ensures { λ _. ⌜ Lowered (now (full .entry)) cut (now (epochs .entry)) (now (epochs .exit)) ⌝ }
+{
+    let mut again = true;
+    while again {
+        again = pass(full, epochs, cut);
+    }
+}
