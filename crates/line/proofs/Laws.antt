@@ -2,14 +2,16 @@
 use mathlib.Core.Path.{_≡_, refl, sym, _∙_, ap, subst}
 use mathlib.Core.Bool.{Bool, true, false, _&&_, _||_, not}
 use mathlib.Core.List.{List, [], _∷_}
-use Prim.Native.Nat.{ℕ, zero, suc, _+_, _-_, _*_, _/_, _%_, _≤_, _<_}
+use Prim.Native.Nat.{ℕ, zero, suc, _+_, _-_, _*_, _/_, _%_, _^_, _≤_, _<_}
 use native.Mathlib.Omega.{arith}
 use native.Mathlib.Numerals.{add-one}
 use lib.ListN.{length, getD, set, length-set}
+use lib.Seq.{getD-set-same, getD-set-other}
 use lib.Dec.{leb, ltb, eqb}
 use borrow.Author.Tests.{lt-ltb, le-ltb, le-leb, lt-leb, eq-eqb, ne-eqb, leb-true, ltb-true, eqb-true}
 use Rattle.words.proofs.Cases.{by-bool, by-lt, by-eq, clash, and-left, and-right}
 use Rattle.theory.specs.Lists.{pick}
+use Rattle.theory.specs.Line.{inSet}
 use Rattle.line.specs.Words.{atW, peerW, kindW, epochW, matchW, Sized, lostE, lostW, lowerAt, passW, flagW, passes, Lowered}
 
 -- ---- `lower_at`
@@ -183,3 +185,37 @@ module _ (t : List ℕ) (cut : ℕ) (l m n : List ℕ) (again r : Bool) (P : Pas
 
 pub passing-ends : (t : List ℕ) (cut : ℕ) (l m : List ℕ) (again : Bool) → Passing t cut l m again → again ≡ false → Lowered t cut l m
 passing-ends t cut l m again P f = (P .passed .0, P .passed .1, P .done f)
+
+-- ---- Loops over the processes
+
+-- one place more by a rule
+module _ (f : ℕ → ℕ) (l : List ℕ) (i v : ℕ) (h : i < length l) (e : v ≡ f i) where
+  pub rule-next : ((k : ℕ) → k < i → getD l k 0 ≡ f k) → (k : ℕ) → k < i + 1 → getD (set l i v) k 0 ≡ f k
+  rule-next below k q =
+      by-eq k i
+      (λ x. rw x (getD-set-same l i v 0 h ∙ e))
+      (λ n. getD-set-other l i k v 0 n ∙ below k (omega arith))
+
+  pub rule-rest : (d : List ℕ) → ((k : ℕ) → i ≤ k → getD l k 0 ≡ getD d k 0) → (k : ℕ) → i + 1 ≤ k → getD (set l i v) k 0 ≡ getD d k 0
+  rule-rest d rest k q = getD-set-other l i k v 0 (λ x. omega arith) ∙ rest k (omega arith)
+
+-- ---- `first_number`
+
+pub is-failed : (set z epoch : ℕ) → set / 2 ^ z % 2 ≡ 1 → epoch ≡ pick (inSet set z) epoch 32
+is-failed set z epoch h = rw (eq-eqb (set / 2 ^ z % 2) 1 h)
+
+pub not-failed : (set z epoch : ℕ) → (set / 2 ^ z % 2 ≡ 1 → ⊥) → 32 ≡ pick (inSet set z) epoch 32
+not-failed set z epoch h = rw (ne-eqb (set / 2 ^ z % 2) 1 h)
+
+-- ---- `first_line`
+
+module _ (d l : List ℕ) (m i v : ℕ) (h : i < length l) (e : v ≡ pick (inSet m i) (getD l i 0) 32) (rest : (k : ℕ) → i ≤ k → getD l k 0 ≡ getD d k 0) where
+  same-number : v ≡ pick (inSet m i) (getD d i 0) 32
+  same-number = e ∙ ap (λ (x : ℕ). pick (inSet m i) x 32) (rest i (omega arith))
+
+  pub first-next : ((k : ℕ) → k < i → getD l k 0 ≡ pick (inSet m k) (getD d k 0) 32) → (k : ℕ) → k < i + 1
+      → getD (set l i v) k 0 ≡ pick (inSet m k) (getD d k 0) 32
+  first-next = rule-next (λ k. pick (inSet m k) (getD d k 0) 32) l i v h same-number
+
+  pub first-rest : (k : ℕ) → i + 1 ≤ k → getD (set l i v) k 0 ≡ getD d k 0
+  first-rest k q = getD-set-other l i k v 0 (λ x. omega arith) ∙ rest k (omega arith)

@@ -66,3 +66,7 @@ passes t cut (suc n) m = passW t (passes t cut n m) cut
 -- passes until one lowers nothing
 abbrev pub Lowered : List ℕ → ℕ → List ℕ → List ℕ → Type 0
 Lowered t cut m r = (n : ℕ) × (r ≡ passes t cut n m) × (flagW t r cut ≡ false)
+
+-- 1 for each of so many processes, and 0 past the last
+pub record Begun (count : ℕ) (l : List ℕ) : Type 0 where
+  pub words : (z : ℕ) → z < 64 → getD l z 0 ≡ pick (ltb z count) 1 0

@@ -12,7 +12,7 @@ ghost use Rattle.theory.specs.Events.{size};
 ghost use Rattle.theory.specs.Epochs.{past};
 ghost use Rattle.theory.specs.Line.{inSet, current, reached, Greatest, highest, greatestLine};
 ghost use Rattle.line.specs.Given.{Tabled, each, lineIn, lineTo};
-ghost use Rattle.line.specs.Words.{kindW, peerW, atW, epochW, matchW, Sized, lostW, lowerAt, passW, flagW, Lowered};
+ghost use Rattle.line.specs.Words.{kindW, peerW, atW, epochW, matchW, Sized, lostW, lowerAt, passW, flagW, Lowered, Begun};
 use protocol::EPOCH_BASE;
 use protocol::MATCH_BASE;
 use trace::EVENT_BASE;
@@ -54,6 +54,67 @@ fn matched(full: &[u32], e: usize) -> usize
     ensures { λ r. ⌜ (r ≡ matchW (now (full .entry)) e) × (r ≤ 2048) ⌝ }
 {
     full[MATCH_BASE + e] as usize
+}
+
+// How many processes the trace has.
+fn processes(full: &[u32]) -> usize
+    requires { ⌜ (length (now full) ≡ areaWords) × (getD (now full) 0 0 ≤ 64) ⌝ }
+    ensures { λ r. ⌜ (r ≡ getD (now (full .entry)) 0 0) × (r ≤ 64) ⌝ }
+{
+    full[0] as usize
+}
+
+fn one_if(yes: bool) -> u32
+    ensures { λ r. ⌜ r ≡ pick yes 1 0 ⌝ }
+{
+    if yes { 1 } else { 0 }
+}
+
+// Every process begins in epoch 1; places past the last are 0.
+fn begin(epochs: &mut [u32], count: usize)
+    requires { ⌜ length (now epochs) ≡ 64 ⌝ }
+    ensures { λ _. ⌜ Begun count (now (epochs .exit)) ⌝ }
+{
+    let mut z = 0;
+    while z < 64 {
+        epochs[z] = one_if(z < count);
+        z += 1;
+    }
+}
+
+// The epochs of the processes at the cut.
+pub fn epochs_at(full: &[u32], cut: usize, epochs: &mut [u32])
+    requires { ⌜ Sized (now full) cut × (length (now epochs) ≡ 64) ⌝ }
+    ensures { λ _. ⌜ ((t : Trace) → Tabled t (now (full .entry)) → cut ≤ size t → now (epochs .exit) ≡ wordsFrom (each t (current t past cut)) 0 64) ⌝ }
+{
+    begin(epochs, processes(full));
+    let mut e: usize = 0;
+    while e < cut {
+        e += 1;
+        let z = process(full[EVENT_BASE + e]);
+        epochs[z] = full[EPOCH_BASE + e];
+    }
+}
+
+// A process's number in the first line: a failed one may not stay.
+fn first_number(set: u64, z: u32, epoch: u32) -> u32
+    requires { ⌜ z < 64 ⌝ }
+    ensures { λ r. ⌜ r ≡ pick (inSet set z) epoch 32 ⌝ }
+{
+    if (set >> z) % 2 == 1 { epoch } else { STAYS }
+}
+
+// The first line, from the epochs at the cut.
+fn first_line(epochs: &mut [u32], count: usize, set: u64)
+    requires { ⌜ (length (now epochs) ≡ 64) × (count ≤ 64) ⌝ }
+    ensures below { λ _. ⌜ ((z : ℕ) → z < count → getD (now (epochs .exit)) z 0 ≡ pick (inSet set z) (getD (now (epochs .entry)) z 0) 32) ⌝ }
+    ensures others { λ _. ⌜ ((z : ℕ) → count ≤ z → getD (now (epochs .exit)) z 0 ≡ getD (now (epochs .entry)) z 0) ⌝ }
+{
+    let mut z: usize = 0;
+    while z < count {
+        epochs[z] = first_number(set, z as u32, epochs[z]);
+        z += 1;
+    }
 }
 
 // Where event e receives a message that the line loses, its sender is lowered to the epoch of the send.
@@ -109,5 +170,22 @@ fn lower(full: &[u32], epochs: &mut [u32], cut: usize)
     let mut again = true;
     while again {
         again = pass(full, epochs, cut);
+    }
+}
+
+// The greatest permitted line without a lost message, for a failure of a set of processes right after event `cut`.
+pub fn greatest(full: &[u32], cut: usize, set: u64) -> Line
+    requires { ⌜ Sized (now full) cut ⌝ }
+    ensures line { λ r. ⌜ ((t : Trace) → Tabled t (now (full .entry)) → cut ≤ size t → r ≡ lineTo t (greatestLine t past cut (reached t past cut) (inSet set))) ⌝ }
+    ensures means { λ r. ⌜ ((t : Trace) → Tabled t (now (full .entry)) → cut ≤ size t → Greatest t past cut (reached t past cut) (inSet set) (lineIn r)) ⌝ }
+{
+    let count = processes(full);
+    let mut epochs = [0u32; 64];
+    epochs_at(full, cut, &mut epochs);
+    first_line(&mut epochs, count, set);
+    lower(full, &mut epochs, cut);
+    Line {
+        epochs: epochs,
+        count: count,
     }
 }
