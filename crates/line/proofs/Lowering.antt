@@ -1,31 +1,32 @@
 -- The words of a line, lowered pass by pass, become the greatest line without a lost message: `greatest-words`.
-use mathlib.Core.Path.{_≡_, refl, sym, _∙_, ap, subst}
+use mathlib.Core.Path.{_≡_, refl, sym, _∙_, ap, subst, fun-ext}
 use mathlib.Core.Logic.{_≢_}
 use mathlib.Core.Bool.{Bool, true, false, _&&_, not}
 use mathlib.Core.List.{List}
 use Prim.Native.Nat.{ℕ, zero, suc, _+_, _-_, _*_, _≤_, _<_}
 use native.Mathlib.Omega.{arith}
-use lib.ListN.{length, getD, set}
+use lib.ListN.{length, getD, set, List·getD-eq-default}
 use lib.Seq.{getD-set-same, getD-set-other}
 use lib.Dec.{leb, ltb, eqb}
 use borrow.Author.Tests.{leb-true, ltb-true, ltb-false, lt-ltb, le-ltb, le-leb, eq-eqb, ne-eqb, eqb-true, eqb-false}
 use Rattle.words.specs.Area.{wordsFrom}
-use Rattle.words.proofs.Area.{words-ext}
+use Rattle.words.proofs.Area.{length-words, getD-words, words-ext}
 use Rattle.words.proofs.Cases.{by-bool, by-lt, clash, and-left, and-right}
 use Rattle.trace.specs.Trace.{Trace}
 use Rattle.theory.specs.Lists.{pick, lastOf, put}
 use Rattle.theory.specs.Events.{size, at, sends, recvs, sent, rcvd, sendOf}
 use Rattle.theory.specs.Epochs.{past, epochAt, epochOf, loggedBy}
-use Rattle.theory.specs.Line.{lost, LossFree, recorded, current, reached, Usable, Permitted, Greatest, Above, lower, highest, greatestLine}
+use Rattle.theory.specs.Line.{inSet, lost, LossFree, recorded, current, reached, Usable, Permitted, Greatest, Above, lower, highest, greatestLine}
 use Rattle.theory.specs.Answers.{lineOf}
 use Rattle.theory.proofs.Base.{lastOf-le, lastOf-top}
 use Rattle.theory.proofs.Events.{sends-is, recvs-is, partner, sendOf-at}
 use Rattle.theory.proofs.Epochs.{epochOf-at, logged-is}
 use Rattle.theory.proofs.Lines.{Number, ByEpochs, now-is, epoch-le, number-of, lost-in, lost-epochs, epochs-lost, past-unlogged}
 use Rattle.theory.proofs.Claims.{epoch-counts, reached-usable, lowering-begins, lowering-goes-on, lowering-ends, greatest-line, greatest-only}
-use Rattle.line.specs.Given.{Tabled, each}
+use Rattle.line.specs.declared.Line.{Line}
+use Rattle.line.specs.Given.{Tabled, each, lineIn, lineTo}
 use Rattle.line.specs.Words.{atW, peerW, kindW, epochW, matchW, lostE, lostW, lowerAt, passW, flagW, passes, Lowered}
-use Rattle.line.proofs.Table.{fit, few, kind-receive, receive-kind}
+use Rattle.line.proofs.Table.{fit, procs-is, kind-receive, receive-kind}
 use Rattle.line.proofs.Laws.{length-lower, length-pass, pass-same}
 
 not-true : (b : Bool) → not b ≡ true → b ≡ false
@@ -247,3 +248,52 @@ module _ (t : Trace) (full : List ℕ) (G : Tabled t full) (cut : ℕ) (cl : cut
           (greatest-line t (G .formed) past cut cl (reached t past cut) U failed) z l
           ∙ rw (lt-ltb z (t .procs) l))
           (λ l. ap (λ (x : List ℕ). getD x z 0) (L .1) ∙ all .1 z l ∙ past-zero z l ∙ rw (le-ltb z (t .procs) l)))
+
+-- ---- `greatest`: the epochs at the cut d, the first line m, the last line r
+
+module _ (t : Trace) (full : List ℕ) (cut set count : ℕ) (d m r : List ℕ) (G : Tabled t full) (cl : cut ≤ size t) (ec : count ≡ getD full 0 0)
+    (ed : d ≡ wordsFrom (each t (current t past cut)) 0 64) (len : length m ≡ 64)
+    (below : (z : ℕ) → z < count → getD m z 0 ≡ pick (inSet set z) (getD d z 0) 32) (others : (z : ℕ) → count ≤ z → getD m z 0 ≡ getD d z 0) (L : Lowered full cut m r) where
+  count-is : count ≡ t .procs
+  count-is = ec ∙ procs-is t full G
+
+  cut-at : (z : ℕ) → z < 64 → getD d z 0 ≡ each t (current t past cut) z
+  cut-at z h = ap (λ (l : List ℕ). getD l z 0) ed ∙ getD-words (each t (current t past cut)) 0 64 z h ∙ ap (each t (current t past cut)) (let e : 0 + z ≡ z = omega arith in e)
+
+  first-is : (z : ℕ) → z < t .procs → getD m z 0 ≡ pick (inSet set z) (current t past cut z) 32
+  first-is z h =
+      let s : ltb z (t .procs) ≡ true = lt-ltb z (t .procs) h in
+      below z (omega (arith, count-is)) ∙ ap (λ (x : ℕ). pick (inSet set z) x 32) (cut-at z (omega (arith, fit t full G .few)) ∙ rw s)
+
+  past-is : (z : ℕ) → t .procs ≤ z → getD m z 0 ≡ 0
+  past-is z h =
+      by-lt z 64
+      (λ l. others z (omega (arith, count-is)) ∙ cut-at z l ∙ rw (le-ltb z (t .procs) h))
+      (λ l. List·getD-eq-default m 0 {n = z} (omega (arith, len)))
+
+  abbrev made : Line
+  made = record { epochs = r; count = count }
+
+  r-is : r ≡ wordsFrom (each t (greatestLine t past cut (reached t past cut) (inSet set))) 0 64
+  r-is = greatest-list t full G cut cl (inSet set) m r len first-is past-is L
+
+  pub greatest-made : made ≡ lineTo t (greatestLine t past cut (reached t past cut) (inSet set))
+  greatest-made = ap (λ (x : List ℕ). record { epochs = x; count = count }) r-is ∙ ap (λ (x : ℕ). record { epochs = wordsFrom (each t (greatestLine t past cut (reached t past cut) (inSet set))) 0 64; count = x }) count-is
+
+  r-past : (z : ℕ) → count ≤ z → getD r z 0 ≡ 0
+  r-past z h =
+      by-lt z 64
+      (λ l. ap (λ (x : List ℕ). getD x z 0) r-is ∙ getD-words (each t (greatestLine t past cut (reached t past cut) (inSet set))) 0 64 z l
+      ∙ (let s : ltb (0 + z) (t .procs) ≡ false = le-ltb (0 + z) (t .procs) (omega (arith, count-is)) in rw s))
+      (λ l. List·getD-eq-default r 0 {n = z} (omega (arith, ap length r-is, length-words (each t (greatestLine t past cut (reached t past cut) (inSet set))) 0 64)))
+
+  numbers-same : (z : ℕ) → lineOf r z ≡ lineIn made z
+  numbers-same z =
+      by-lt z count
+      (λ l. rw (lt-ltb z count l))
+      (λ l. rw (le-ltb z count l) (r-past z l))
+
+  pub greatest-means : Greatest t past cut (reached t past cut) (inSet set) (lineIn made)
+  greatest-means =
+      subst (Greatest t past cut (reached t past cut) (inSet set)) (fun-ext numbers-same)
+      (greatest-words t full G cut cl (inSet set) m r len first-is past-is L)

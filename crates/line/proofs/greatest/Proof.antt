@@ -1,3 +1,7 @@
+use mathlib.Core.Path.{_≡_}
+use lib.ListN.{length}
+use mathlib.Core.Path.{_∙_}
+use Rattle.line.proofs.Lowering.{greatest-made, greatest-means}
 use native.Mathlib.Omega.{arith}
 use borrow.Author.Needs.{needs}
 use Rattle.line.proofs.greatest.Statement.{statement}
@@ -31,7 +35,12 @@ lower-requires : tie.Need-lower-requires
 lower-requires c κs = search needs
 
 returns : tie.Need-returns
-returns c = ?
+returns c =
+    let first-line = c .before .before .before .before .first-line in
+    let processes = c .before .before .before .before .before .before .before .before .before .processes in
+    let epochs-at = c .before .before .before .before .before .before .before .epochs-at in
+    let lower = c .before .lower in
+    let len : length (first-line .last .0) ≡ 64 = search needs in (λ t g h. greatest-made t _ _ _ _ _ _ _ g h (processes .ensures .0) ((epochs-at .ensures) t g h) len (first-line .ensures .0) (first-line .ensures .1) (lower .ensures), λ t g h. greatest-means t _ _ _ _ _ _ _ g h (processes .ensures .0) ((epochs-at .ensures) t g h) len (first-line .ensures .0) (first-line .ensures .1) (lower .ensures))
 
 pub greatest-spec : {M : Type 1} → statement M
 greatest-spec =
