@@ -2,3 +2,4 @@ pub mod Laws
 pub mod Table
 pub mod Lowering
 pub mod Cut
+pub mod Places

@@ -1,5 +1,5 @@
 -- What the functions of this crate are given, and what they give: the full table of a trace, and a line as a struct.
-use Prim.Native.Nat.{ℕ}
+use Prim.Native.Nat.{ℕ, _-_}
 use mathlib.Core.Path.{_≡_}
 use mathlib.Core.Bool.{Bool, true}
 use mathlib.Core.List.{List}
@@ -10,6 +10,9 @@ use Rattle.trace.specs.Trace.{Trace}
 use Rattle.trace.specs.Fit.{wellFormed}
 use Rattle.protocol.specs.Columns.{Columns}
 use Rattle.theory.specs.Lists.{pick}
+use Rattle.theory.specs.Epochs.{past, phaseAt}
+use Rattle.theory.specs.Line.{staysIn, restartIn, recorded}
+use Rattle.theory.specs.Replay.{gate}
 use Rattle.line.specs.declared.Line.{Line}
 
 -- the full table of a well-formed trace
@@ -28,3 +31,21 @@ lineIn l z = pick (ltb z (l .count)) (getD (l .epochs) z 0) 0
 -- the line of a trace with these numbers; places past them are 0
 abbrev pub lineTo : Trace → (ℕ → ℕ) → Line
 lineTo t f = record { epochs = wordsFrom (each t f) 0 64; count = t .procs }
+
+-- ---- The words of each process in `gates`: word z its phase at the restart or its gate, word 64 + z the event that it restarts after,
+-- word 128 + z 1 if it stays
+
+abbrev pub planes : (ℕ → ℕ) → (ℕ → ℕ) → (ℕ → ℕ) → ℕ → ℕ
+planes a b c k = pick (ltb k 64) (a k) (pick (ltb k 128) (b (k - 64)) (c (k - 128)))
+
+abbrev pub stayWord : (ℕ → ℕ) → ℕ → ℕ
+stayWord line z = pick (staysIn line z) 1 0
+
+-- with the phase at the restart, "or at the cut for 32"
+abbrev pub restartWord : Trace → ℕ → (ℕ → ℕ) → ℕ → ℕ
+restartWord t cut line =
+    planes (each t (λ z. phaseAt t past z (restartIn t cut line z))) (each t (restartIn t cut line)) (each t (stayWord line))
+
+-- with the gate
+abbrev pub gateWord : Trace → ℕ → (ℕ → ℕ) → ℕ → ℕ
+gateWord t cut line = planes (each t (gate (recorded t past cut line))) (each t (restartIn t cut line)) (each t (stayWord line))

@@ -11,10 +11,11 @@ ghost use Rattle.theory.specs.Lists.{pick};
 ghost use Rattle.theory.specs.Events.{size};
 ghost use Rattle.theory.specs.Epochs.{past};
 ghost use Rattle.theory.specs.Line.{inSet, current, reached, Greatest, highest, greatestLine};
-ghost use Rattle.line.specs.Given.{Tabled, each, lineIn, lineTo};
-ghost use Rattle.line.specs.Words.{kindW, peerW, atW, epochW, matchW, Sized, lostW, lowerAt, passW, flagW, Lowered, Begun};
+ghost use Rattle.line.specs.Given.{Tabled, each, lineIn, lineTo, restartWord, gateWord};
+ghost use Rattle.line.specs.Words.{kindW, peerW, atW, epochW, matchW, Sized, lostW, lowerAt, passW, flagW, Lowered, Begun, staysW, RestartsBegun, restartW, gateW, Gated};
 use protocol::EPOCH_BASE;
 use protocol::MATCH_BASE;
+use protocol::PHASE_BASE;
 use trace::EVENT_BASE;
 
 // A recovery line: for each process the epoch that it restarts in, or STAYS, and how many processes there are.
@@ -26,8 +27,17 @@ pub struct Line {
 // A process that stays as it was at the cut.
 pub const STAYS: u32 = 32;
 
-// The kind of an event's word.
+// The kinds of an event's word.
 const RECEIVE: u32 = 2;
+
+const CHECKPOINT: u32 = 3;
+
+// The words of each process in `gates`: its gate, the event that it restarts after, and whether it stays.
+pub const GATE_WORDS: usize = 192;
+
+const RESTARTS: usize = 64;
+
+const STAYING: usize = 128;
 
 // The parts of an event's word.
 fn kind(w: u32) -> u32
@@ -188,4 +198,103 @@ pub fn greatest(full: &[u32], cut: usize, set: u64) -> Line
         epochs: epochs,
         count: count,
     }
+}
+
+// Does process z stay.
+fn stays(numbers: &[u32], count: usize, z: usize) -> bool
+    requires { ⌜ (length (now numbers) ≡ 64) × (z < 64) ⌝ }
+    ensures { λ r. ⌜ r ≡ staysW (now (numbers .entry)) count z ⌝ }
+{
+    if z < count {
+        numbers[z] == STAYS
+    } else {
+        false
+    }
+}
+
+fn or_zero(yes: bool, v: u32) -> u32
+    ensures { λ r. ⌜ r ≡ pick yes v 0 ⌝ }
+{
+    if yes { v } else { 0 }
+}
+
+// Before the first event: phase 1, the cut for a process that stays, the start for others.
+fn begin_restarts(numbers: &[u32], count: usize, cut: usize, gates: &mut [u32])
+    requires { ⌜ (length (now numbers) ≡ 64) × (length (now gates) ≡ 192) × (cut ≤ 2048) ⌝ }
+    ensures { λ _. ⌜ RestartsBegun (now (numbers .entry)) count cut 64 (now (gates .exit)) ⌝ }
+{
+    let mut z: usize = 0;
+    while z < 64 {
+        let staying = stays(numbers, count, z);
+        gates[z] = one_if(z < count);
+        gates[RESTARTS + z] = or_zero(staying, cut as u32);
+        gates[STAYING + z] = one_if(staying);
+        z += 1;
+    }
+}
+
+// Event e of its process.
+fn note_restart(full: &[u32], numbers: &[u32], gates: &mut [u32], e: usize)
+    requires { ⌜ (length (now full) ≡ areaWords) × (length (now numbers) ≡ 64) × (length (now gates) ≡ 192) × (e ≤ 2048) ⌝ }
+    ensures { λ _. ⌜ now (gates .exit) ≡ restartW (now (full .entry)) (now (numbers .entry)) (now (gates .entry)) e ⌝ }
+{
+    let w = full[EVENT_BASE + e];
+    let z = process(w);
+    let number = numbers[z];
+    if number == STAYS {
+        gates[z] = full[PHASE_BASE + e];
+        return;
+    }
+    if kind(w) != CHECKPOINT {
+        return;
+    }
+    if full[EPOCH_BASE + e] != number {
+        return;
+    }
+    gates[z] = full[PHASE_BASE + e];
+    gates[RESTARTS + z] = e as u32;
+}
+
+// Of each process its phase at the restart, or at the cut where it stays, the event that it restarts after, and whether it stays.
+pub fn restarts(full: &[u32], line: Line, cut: usize, gates: &mut [u32])
+    requires { ⌜ Sized (now full) cut × (length (now gates) ≡ 192) ⌝ }
+    ensures { λ _. ⌜ ((t : Trace) → Tabled t (now (full .entry)) → cut ≤ size t → line .count ≡ t .procs → now (gates .exit) ≡ wordsFrom (restartWord t cut (lineIn line)) 0 192) ⌝ }
+{
+    let numbers = line.epochs;
+    begin_restarts(&numbers, processes(full), cut, gates);
+    let mut e: usize = 0;
+    while e < cut {
+        e += 1;
+        note_restart(full, &numbers, gates, e);
+    }
+}
+
+// "A zone that goes back may run when its phase at restart, less 1, is ready. A zone that stays may run when its phase at the cut is ready."
+fn gate(stay: u32, phase: u32) -> u32
+    ensures { λ r. ⌜ r ≡ gateW stay phase ⌝ }
+{
+    if stay == 1 {
+        return phase;
+    }
+    if phase == 0 { 0 } else { phase - 1 }
+}
+
+fn set_gates(gates: &mut [u32], count: usize)
+    requires { ⌜ (length (now gates) ≡ 192) × (count ≤ 64) ⌝ }
+    ensures { λ _. ⌜ Gated count (now (gates .entry)) (now (gates .exit)) ⌝ }
+{
+    let mut z: usize = 0;
+    while z < count {
+        gates[z] = gate(gates[STAYING + z], gates[z]);
+        z += 1;
+    }
+}
+
+// Of each process its gate, the event that it restarts after, and whether it stays.
+pub fn gates(full: &[u32], line: Line, cut: usize, gates: &mut [u32])
+    requires { ⌜ Sized (now full) cut × (length (now gates) ≡ 192) ⌝ }
+    ensures { λ _. ⌜ ((t : Trace) → Tabled t (now (full .entry)) → cut ≤ size t → line .count ≡ t .procs → now (gates .exit) ≡ wordsFrom (gateWord t cut (lineIn line)) 0 192) ⌝ }
+{
+    restarts(full, line, cut, gates);
+    set_gates(gates, processes(full));
 }
