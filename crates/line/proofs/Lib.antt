@@ -1,0 +1,5 @@
+pub mod Laws
+pub mod Table
+pub mod Lowering
+pub mod Cut
+pub mod Places

@@ -1,0 +1,36 @@
+use mathlib.Core.Path.{_∙_}
+use Rattle.line.proofs.Places.{gated-list}
+use native.Mathlib.Omega.{arith}
+use borrow.Author.Needs.{needs}
+use Rattle.line.proofs.gates.Statement.{statement}
+use Rattle.line.proofs.gates.Tie as tie
+use Rattle.line.proofs.gates.Reads as reads
+use Rattle.line.proofs.gates.Lts as lts
+use Rattle.line.proofs.processes.Reads as processes-reads
+use Rattle.line.proofs.restarts.Reads as restarts-reads
+use Rattle.line.proofs.set_gates.Reads as set-gates-reads
+
+restarts-requires : tie.Need-restarts-requires
+restarts-requires c κs = search needs
+
+processes-requires : tie.Need-processes-requires
+processes-requires c κs = search needs
+
+set-gates-requires : tie.Need-set-gates-requires
+set-gates-requires c κs = search needs
+
+same-length : tie.Need-same-length
+same-length c = search needs
+
+returns : tie.Need-returns
+returns c =
+    let processes = c .before .before .before .processes in
+    let set-gates = c .before .before .set-gates in
+    let restarts = c .before .before .before .before .before .before .before .restarts in
+    let pre = c .before .before .before .before .before .before .before .before .before .before .before .pre in
+    λ t g h k. gated-list t _ g _ _ _ _ _ (processes .ensures .0) ((set-gates .kept .0) ∙ (restarts .kept .1 .1 .1 .0) ∙ (pre .1)) ((restarts .ensures) t g h k) (set-gates .ensures)
+
+pub gates-spec : {M : Type 1} → statement M
+gates-spec =
+    tie.close
+    (tie.spec restarts-requires processes-requires set-gates-requires same-length returns)

@@ -1,0 +1,95 @@
+use mathlib.Core.Path.{_≡_, refl, sym, _∙_}
+use Prim.Native.Nat.{ℕ, _+_, _-_, _≤_, _<_}
+use lib.ListN.{length, getD, set, length-set}
+use Rattle.trace.specs.Trace.{Trace}
+use Rattle.theory.specs.Events.{size}
+use Rattle.line.specs.Given.{Tabled, lineIn}
+use Rattle.line.proofs.Places.{Restarting, restarting-begins, restarting-next, restarting-done, line-at}
+use native.Mathlib.Omega.{arith}
+use borrow.Author.Needs.{needs}
+use Rattle.line.proofs.restarts.Statement.{statement}
+use Rattle.line.proofs.restarts.Tie as tie
+use Rattle.line.proofs.restarts.Reads as reads
+use Rattle.line.proofs.restarts.Lts as lts
+use Rattle.line.proofs.begin_restarts.Reads as begin-restarts-reads
+use Rattle.line.proofs.note_restart.Reads as note-restart-reads
+use Rattle.line.proofs.processes.Reads as processes-reads
+
+abbrev Inv-loop : tie.InvT-loop
+Inv-loop full cut gates₀ numbers e₀ gates e = (e ≤ cut) × (length gates ≡ 192) × ((t : Trace) (line : ℕ → ℕ) → Tabled t full → cut ≤ size t → ((z : ℕ) → z < t .procs → line z ≡ getD numbers z 0) → Restarting t cut line e gates)
+
+abbrev μ-loop : tie.MeasureT-loop
+μ-loop full cut gates₀ numbers e₀ gates e = cut - e
+
+slice-aggregate-begin-restarts : tie.Need-slice-aggregate-begin-restarts Inv-loop μ-loop
+slice-aggregate-begin-restarts c = search needs
+
+processes-requires : tie.Need-processes-requires Inv-loop μ-loop
+processes-requires c κs =
+    let pre = c .before .before .before .before .pre in
+    ((pre .0 .whole), (pre .0 .procs-few))
+
+begin-restarts-requires : tie.Need-begin-restarts-requires Inv-loop μ-loop
+begin-restarts-requires c κs =
+    let pre = c .before .before .before .before .before .before .pre in
+    (search needs, (pre .1), (pre .0 .cut-few))
+
+loop-holds : tie.Need-loop-holds Inv-loop μ-loop
+loop-holds c =
+    let begin-restarts = c .before .before .begin-restarts in
+    let pre = c .before .before .before .before .before .before .before .before .before .pre in
+    let args = c .before .before .before .before .before .before .before .before .before .args in
+    let processes = c .before .before .before .before .processes in
+    (omega arith, (begin-restarts .kept .1 .1 .1 .0) ∙ (pre .1), λ t line g h ln. restarting-begins t _ g _ line (args .line .epochs) ln _ _ (processes .ensures .0) (begin-restarts .ensures))
+
+add-e : tie.Need-add-e Inv-loop μ-loop
+add-e c = search needs
+
+slice-aggregate-note-restart : tie.Need-slice-aggregate-note-restart Inv-loop μ-loop
+slice-aggregate-note-restart c = search needs
+
+note-restart-requires : tie.Need-note-restart-requires Inv-loop μ-loop
+note-restart-requires c κs =
+    let pre = c .before .before .before .before .before .before .before .before .before .before .before .before .before .pre in
+    let loop = c .before .before .before .loop in
+    ((pre .0 .whole), search needs, (loop .inv .1), omega (arith, (pre .0 .cut-few)))
+
+loop-less : tie.Need-loop-less Inv-loop μ-loop
+loop-less c = search needs
+
+loop-again : tie.Need-loop-again Inv-loop μ-loop
+loop-again c =
+    let loop = c .before .before .before .before .before .before .loop in
+    let args = c .before .before .before .before .before .before .before .before .before .before .before .before .before .before .before .before .args in
+    let note-restart = c .before .before .note-restart in
+    let l : (loop .e) + 1 ≤ (args .cut) = omega arith in (l, (note-restart .kept .1 .1 .0) ∙ (loop .inv .1), λ t line g h ln. let b : (loop .e) + 1 ≤ size t = omega arith in restarting-next t (args .full .now) g _ line _ ln _ (loop .gates) _ b (loop .inv .1) (note-restart .ensures) ((loop .inv .2) t line g h ln))
+
+same-length : tie.Need-same-length Inv-loop μ-loop
+same-length c =
+    let loop = c .before .loop in
+    let pre = c .before .before .before .before .before .before .before .before .before .before .before .pre in
+    (loop .inv .1) ∙ sym (pre .1)
+
+returns : tie.Need-returns Inv-loop μ-loop
+returns c =
+    let loop = c .before .loop in
+    let args = c .before .before .before .before .before .before .before .before .before .before .before .args in
+    let e : (loop .e) ≡ (args .cut) = omega arith in λ t g h k. restarting-done t _ _ _ (loop .gates) (loop .inv .1) e ((loop .inv .2) t (lineIn (args .line)) g h (line-at (args .line) _ k))
+
+pub restarts-spec : {M : Type 1} → statement M
+restarts-spec =
+    tie.close
+    (tie.spec
+    Inv-loop
+    μ-loop
+    slice-aggregate-begin-restarts
+    processes-requires
+    begin-restarts-requires
+    loop-holds
+    add-e
+    slice-aggregate-note-restart
+    note-restart-requires
+    loop-less
+    loop-again
+    same-length
+    returns)

@@ -1,0 +1,28 @@
+use Rattle.line.proofs.Laws.{stays-below, stays-past}
+use native.Mathlib.Omega.{arith}
+use borrow.Author.Needs.{needs}
+use Rattle.line.proofs.stays.Statement.{statement}
+use Rattle.line.proofs.stays.Tie as tie
+use Rattle.line.proofs.stays.Reads as reads
+use Rattle.line.proofs.stays.Lts as lts
+
+mul-result : tie.Need-mul-result
+mul-result c = search needs
+
+shared-slice-read-result : tie.Need-shared-slice-read-result
+shared-slice-read-result c = search needs
+
+returns : tie.Need-returns
+returns c =
+    let args = c .before .before .args in
+    let if1 = c .before .if1 in
+    stays-below (args .numbers .now) _ _ (if1 .taken)
+
+returns-2 : tie.Need-returns-2
+returns-2 c =
+    let args = c .before .args in
+    let if1 = c .if1 in
+    stays-past (args .numbers .now) _ _ (if1 .left)
+
+pub stays-spec : {M : Type 1} → statement M
+stays-spec = tie.close (tie.spec mul-result shared-slice-read-result returns returns-2)

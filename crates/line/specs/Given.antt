@@ -1,0 +1,51 @@
+-- What the functions of this crate are given, and what they give: the full table of a trace, and a line as a struct.
+use Prim.Native.Nat.{ℕ, _-_}
+use mathlib.Core.Path.{_≡_}
+use mathlib.Core.Bool.{Bool, true}
+use mathlib.Core.List.{List}
+use lib.ListN.{getD}
+use lib.Dec.{ltb}
+use Rattle.words.specs.Area.{wordsFrom}
+use Rattle.trace.specs.Trace.{Trace}
+use Rattle.trace.specs.Fit.{wellFormed}
+use Rattle.protocol.specs.Columns.{Columns}
+use Rattle.theory.specs.Lists.{pick}
+use Rattle.theory.specs.Epochs.{past, phaseAt}
+use Rattle.theory.specs.Line.{staysIn, restartIn, recorded}
+use Rattle.theory.specs.Replay.{gate}
+use Rattle.line.specs.declared.Line.{Line}
+
+-- the full table of a well-formed trace
+pub record Tabled (t : Trace) (full : List ℕ) : Type 0 where
+  pub formed : wellFormed t ≡ true
+  pub columns : Columns t full
+
+-- what a rule says of each process of the trace, and 0 past the last
+abbrev pub each : Trace → (ℕ → ℕ) → ℕ → ℕ
+each t f z = pick (ltb z (t .procs)) (f z) 0
+
+-- "A restart line holds one number for each zone": the numbers of a line. Places past its count aren't read.
+abbrev pub lineIn : Line → ℕ → ℕ
+lineIn l z = pick (ltb z (l .count)) (getD (l .epochs) z 0) 0
+
+-- the line of a trace with these numbers; places past them are 0
+abbrev pub lineTo : Trace → (ℕ → ℕ) → Line
+lineTo t f = record { epochs = wordsFrom (each t f) 0 64; count = t .procs }
+
+-- ---- The words of each process in `gates`: word z its phase at the restart or its gate, word 64 + z the event that it restarts after,
+-- word 128 + z 1 if it stays
+
+abbrev pub planes : (ℕ → ℕ) → (ℕ → ℕ) → (ℕ → ℕ) → ℕ → ℕ
+planes a b c k = pick (ltb k 64) (a k) (pick (ltb k 128) (b (k - 64)) (c (k - 128)))
+
+abbrev pub stayWord : (ℕ → ℕ) → ℕ → ℕ
+stayWord line z = pick (staysIn line z) 1 0
+
+-- with the phase at the restart, "or at the cut for 32"
+abbrev pub restartWord : Trace → ℕ → (ℕ → ℕ) → ℕ → ℕ
+restartWord t cut line =
+    planes (each t (λ z. phaseAt t past z (restartIn t cut line z))) (each t (restartIn t cut line)) (each t (stayWord line))
+
+-- with the gate
+abbrev pub gateWord : Trace → ℕ → (ℕ → ℕ) → ℕ → ℕ
+gateWord t cut line = planes (each t (gate (recorded t past cut line))) (each t (restartIn t cut line)) (each t (stayWord line))

@@ -1,0 +1,105 @@
+-- A line in words, lowered by one pass over the events after another. No public contract cites these.
+use Prim.Native.Nat.{ℕ, zero, suc, _+_, _-_, _*_, _/_, _%_, _<_, _≤_}
+use mathlib.Core.Path.{_≡_}
+use mathlib.Core.Bool.{Bool, true, false, _&&_, _||_, not}
+use mathlib.Core.List.{List, [], _∷_}
+use lib.ListN.{length, getD, set}
+use lib.Dec.{leb, ltb, eqb}
+use Rattle.words.specs.Area.{areaWords}
+use Rattle.trace.specs.Table.{eventBase}
+use Rattle.protocol.specs.Columns.{epochBase, phaseBase, matchBase}
+use Rattle.theory.specs.Lists.{pick}
+
+-- of event e: its process, its peer, its kind (1 send, 2 receive, 3 checkpoint), its epoch, its phase, and the event it is matched with
+abbrev pub atW : List ℕ → ℕ → ℕ
+atW t e = getD t (eventBase + e) 0 % 64
+
+abbrev pub peerW : List ℕ → ℕ → ℕ
+peerW t e = getD t (eventBase + e) 0 / 64 % 64
+
+abbrev pub kindW : List ℕ → ℕ → ℕ
+kindW t e = getD t (eventBase + e) 0 / 4096 % 4
+
+abbrev pub epochW : List ℕ → ℕ → ℕ
+epochW t e = getD t (epochBase + e) 0
+
+abbrev pub phaseW : List ℕ → ℕ → ℕ
+phaseW t e = getD t (phaseBase + e) 0
+
+abbrev pub matchW : List ℕ → ℕ → ℕ
+matchW t e = getD t (matchBase + e) 0
+
+-- the words that are read are in their range, so that no index is past its end
+pub record Sized (full : List ℕ) (cut : ℕ) : Type 0 where
+  pub whole : length full ≡ areaWords
+  pub procs-few : getD full 0 0 ≤ 64
+  pub cut-few : cut ≤ 2048
+  pub matched : (e : ℕ) → 0 < e → e ≤ cut → kindW full e ≡ 2 → matchW full e ≤ 2048
+
+-- Does the line lose a message from p to q, sent by event d and received by event e: q restarts in no later epoch than the receive's, p in a
+-- later one than the send's, and the message is not logged.
+unfoldable pub lostE : List ℕ → List ℕ → ℕ → ℕ → ℕ → ℕ → Bool
+lostE t m p q d e = leb (getD m q 0) (epochW t e) && (ltb (epochW t d) (getD m p 0) && not (ltb (epochW t d) (epochW t e)))
+
+-- does event e receive a message that the line loses
+unfoldable pub lostW : List ℕ → List ℕ → ℕ → Bool
+lostW t m e = pick (eqb (kindW t e) 2) (lostE t m (peerW t e) (atW t e) (matchW t e) e) false
+
+-- then its sender is lowered to the epoch of the send
+unfoldable pub lowerAt : List ℕ → List ℕ → ℕ → List ℕ
+lowerAt t m e = pick (lostW t m e) (set m (peerW t e) (epochW t (matchW t e))) m
+
+-- a pass over the events 1 .. x, and whether it lowered the line
+unfoldable pub passW : List ℕ → List ℕ → ℕ → List ℕ
+passW t m zero = m
+passW t m (suc x) = lowerAt t (passW t m x) (suc x)
+
+unfoldable pub flagW : List ℕ → List ℕ → ℕ → Bool
+flagW t m zero = false
+flagW t m (suc x) = flagW t m x || lostW t (passW t m x) (suc x)
+
+-- n passes over the events up to the cut
+unfoldable pub passes : List ℕ → ℕ → ℕ → List ℕ → List ℕ
+passes t cut zero m = m
+passes t cut (suc n) m = passW t (passes t cut n m) cut
+
+-- passes until one lowers nothing
+abbrev pub Lowered : List ℕ → ℕ → List ℕ → List ℕ → Type 0
+Lowered t cut m r = (n : ℕ) × (r ≡ passes t cut n m) × (flagW t r cut ≡ false)
+
+-- 1 for each of so many processes, and 0 past the last
+pub record Begun (count : ℕ) (l : List ℕ) : Type 0 where
+  pub words : (z : ℕ) → z < 64 → getD l z 0 ≡ pick (ltb z count) 1 0
+
+-- of the first i processes the three words
+pub record Planes (a b c : ℕ → ℕ) (i : ℕ) (g : List ℕ) : Type 0 where
+  pub first : (z : ℕ) → z < i → getD g z 0 ≡ a z
+  pub second : (z : ℕ) → z < i → getD g (64 + z) 0 ≡ b z
+  pub third : (z : ℕ) → z < i → getD g (128 + z) 0 ≡ c z
+
+-- does a process stay
+abbrev pub staysW : List ℕ → ℕ → ℕ → Bool
+staysW numbers count z = pick (ltb z count) (eqb (getD numbers z 0) 32) false
+
+-- before the first event
+abbrev pub RestartsBegun : List ℕ → ℕ → ℕ → ℕ → List ℕ → Type 0
+RestartsBegun numbers count cut =
+    Planes (λ z. pick (ltb z count) 1 0) (λ z. pick (staysW numbers count z) cut 0) (λ z. pick (staysW numbers count z) 1 0)
+
+-- Event e: the phase of a process that stays is the latest; a process that goes back restarts after its checkpoint that raised it to its number.
+abbrev pub raises : List ℕ → List ℕ → ℕ → Bool
+raises full numbers e = eqb (kindW full e) 3 && eqb (epochW full e) (getD numbers (atW full e) 0)
+
+unfoldable pub restartW : List ℕ → List ℕ → List ℕ → ℕ → List ℕ
+restartW full numbers g e =
+    pick (eqb (getD numbers (atW full e) 0) 32) (set g (atW full e) (phaseW full e))
+    (pick (raises full numbers e) (set (set g (atW full e) (phaseW full e)) (64 + atW full e) e) g)
+
+-- a gate, from the word that says whether the process stays and its phase at the restart
+abbrev pub gateW : ℕ → ℕ → ℕ
+gateW stay phase = pick (eqb stay 1) phase (phase - 1)
+
+-- the gates of the first i processes
+pub record Gated (i : ℕ) (g h : List ℕ) : Type 0 where
+  pub below : (z : ℕ) → z < i → getD h z 0 ≡ gateW (getD g (128 + z) 0) (getD g z 0)
+  pub others : (k : ℕ) → i ≤ k → getD h k 0 ≡ getD g k 0

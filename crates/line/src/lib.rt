@@ -1,0 +1,300 @@
+// Recovery lines of a trace, from its full table (crate protocol): the greatest line without a lost message after a failure.
+// specs/Given says what a function is given and how a line stands in words; the contracts are the theory's definitions.
+// Assumes nothing.
+ghost use mathlib.Core.Path.{_≡_};
+ghost use mathlib.Core.Bool.{true, false};
+ghost use Prim.Native.Nat.{ℕ, _+_, _*_, _/_, _%_, _≤_, _<_};
+ghost use lib.ListN.{length, getD, set};
+ghost use Rattle.words.specs.Area.{areaWords, wordsFrom};
+ghost use Rattle.trace.specs.Trace.{Trace};
+ghost use Rattle.theory.specs.Lists.{pick};
+ghost use Rattle.theory.specs.Events.{size};
+ghost use Rattle.theory.specs.Epochs.{past};
+ghost use Rattle.theory.specs.Line.{inSet, current, reached, Greatest, highest, greatestLine};
+ghost use Rattle.line.specs.Given.{Tabled, each, lineIn, lineTo, restartWord, gateWord};
+ghost use Rattle.line.specs.Words.{kindW, peerW, atW, epochW, matchW, Sized, lostW, lowerAt, passW, flagW, Lowered, Begun, staysW, RestartsBegun, restartW, gateW, Gated};
+use protocol::EPOCH_BASE;
+use protocol::MATCH_BASE;
+use protocol::PHASE_BASE;
+use trace::EVENT_BASE;
+
+// A recovery line: for each process the epoch that it restarts in, or STAYS, and how many processes there are.
+pub struct Line {
+    pub epochs: [u32; 64],
+    pub count: usize,
+}
+
+// A process that stays as it was at the cut.
+pub const STAYS: u32 = 32;
+
+// The kinds of an event's word.
+const RECEIVE: u32 = 2;
+
+const CHECKPOINT: u32 = 3;
+
+// The words of each process in `gates`: its gate, the event that it restarts after, and whether it stays.
+pub const GATE_WORDS: usize = 192;
+
+const RESTARTS: usize = 64;
+
+const STAYING: usize = 128;
+
+// The parts of an event's word.
+fn kind(w: u32) -> u32
+    ensures { λ r. ⌜ r ≡ w / 4096 % 4 ⌝ }
+{
+    w / 4096 % 4
+}
+
+fn process(w: u32) -> usize
+    ensures { λ r. ⌜ (r ≡ w % 64) × (r < 64) ⌝ }
+{
+    (w % 64) as usize
+}
+
+fn peer(w: u32) -> usize
+    ensures { λ r. ⌜ (r ≡ w / 64 % 64) × (r < 64) ⌝ }
+{
+    (w / 64 % 64) as usize
+}
+
+// The event that event e is matched with.
+fn matched(full: &[u32], e: usize) -> usize
+    requires { ⌜ (length (now full) ≡ areaWords) × (e ≤ 2048) × (matchW (now full) e ≤ 2048) ⌝ }
+    ensures { λ r. ⌜ (r ≡ matchW (now (full .entry)) e) × (r ≤ 2048) ⌝ }
+{
+    full[MATCH_BASE + e] as usize
+}
+
+// How many processes the trace has.
+fn processes(full: &[u32]) -> usize
+    requires { ⌜ (length (now full) ≡ areaWords) × (getD (now full) 0 0 ≤ 64) ⌝ }
+    ensures { λ r. ⌜ (r ≡ getD (now (full .entry)) 0 0) × (r ≤ 64) ⌝ }
+{
+    full[0] as usize
+}
+
+fn one_if(yes: bool) -> u32
+    ensures { λ r. ⌜ r ≡ pick yes 1 0 ⌝ }
+{
+    if yes { 1 } else { 0 }
+}
+
+// Every process begins in epoch 1; places past the last are 0.
+fn begin(epochs: &mut [u32], count: usize)
+    requires { ⌜ length (now epochs) ≡ 64 ⌝ }
+    ensures { λ _. ⌜ Begun count (now (epochs .exit)) ⌝ }
+{
+    let mut z = 0;
+    while z < 64 {
+        epochs[z] = one_if(z < count);
+        z += 1;
+    }
+}
+
+// The epochs of the processes at the cut.
+pub fn epochs_at(full: &[u32], cut: usize, epochs: &mut [u32])
+    requires { ⌜ Sized (now full) cut × (length (now epochs) ≡ 64) ⌝ }
+    ensures { λ _. ⌜ ((t : Trace) → Tabled t (now (full .entry)) → cut ≤ size t → now (epochs .exit) ≡ wordsFrom (each t (current t past cut)) 0 64) ⌝ }
+{
+    begin(epochs, processes(full));
+    let mut e: usize = 0;
+    while e < cut {
+        e += 1;
+        let z = process(full[EVENT_BASE + e]);
+        epochs[z] = full[EPOCH_BASE + e];
+    }
+}
+
+// A process's number in the first line: a failed one may not stay.
+fn first_number(set: u64, z: u32, epoch: u32) -> u32
+    requires { ⌜ z < 64 ⌝ }
+    ensures { λ r. ⌜ r ≡ pick (inSet set z) epoch 32 ⌝ }
+{
+    if (set >> z) % 2 == 1 { epoch } else { STAYS }
+}
+
+// The first line, from the epochs at the cut.
+fn first_line(epochs: &mut [u32], count: usize, set: u64)
+    requires { ⌜ (length (now epochs) ≡ 64) × (count ≤ 64) ⌝ }
+    ensures below { λ _. ⌜ ((z : ℕ) → z < count → getD (now (epochs .exit)) z 0 ≡ pick (inSet set z) (getD (now (epochs .entry)) z 0) 32) ⌝ }
+    ensures others { λ _. ⌜ ((z : ℕ) → count ≤ z → getD (now (epochs .exit)) z 0 ≡ getD (now (epochs .entry)) z 0) ⌝ }
+{
+    let mut z: usize = 0;
+    while z < count {
+        epochs[z] = first_number(set, z as u32, epochs[z]);
+        z += 1;
+    }
+}
+
+// Where event e receives a message that the line loses, its sender is lowered to the epoch of the send.
+fn lower_at(full: &[u32], epochs: &mut [u32], e: usize) -> bool
+    requires { ⌜ (length (now full) ≡ areaWords) × (length (now epochs) ≡ 64) × (e ≤ 2048) × (kindW (now full) e ≡ 2 → matchW (now full) e ≤ 2048) ⌝ }
+    ensures lost { λ r. ⌜ r ≡ lostW (now (full .entry)) (now (epochs .entry)) e ⌝ }
+    ensures line { λ r. ⌜ now (epochs .exit) ≡ lowerAt (now (full .entry)) (now (epochs .entry)) e ⌝ }
+{
+    let w = full[EVENT_BASE + e];
+    if kind(w) != RECEIVE {
+        return false;
+    }
+    let q = process(w);
+    let p = peer(w);
+    let d = matched(full, e);
+    let taken = full[EPOCH_BASE + e];
+    let sent = full[EPOCH_BASE + d];
+    if epochs[q] > taken {
+        return false;
+    }
+    if epochs[p] <= sent {
+        return false;
+    }
+    if sent < taken {
+        return false;
+    }
+    epochs[p] = sent;
+    true
+}
+
+// One pass over the events up to the cut; whether it lowered the line.
+fn pass(full: &[u32], epochs: &mut [u32], cut: usize) -> bool
+    requires { ⌜ Sized (now full) cut × (length (now epochs) ≡ 64) ⌝ }
+    ensures lowered { λ r. ⌜ r ≡ flagW (now (full .entry)) (now (epochs .entry)) cut ⌝ }
+    ensures line { λ r. ⌜ now (epochs .exit) ≡ passW (now (full .entry)) (now (epochs .entry)) cut ⌝ }
+{
+    let mut any = false;
+    let mut e: usize = 0;
+    while e < cut {
+        e += 1;
+        if lower_at(full, epochs, e) {
+            any = true;
+        }
+    }
+    any
+}
+
+// Passes until one lowers nothing.
+fn lower(full: &[u32], epochs: &mut [u32], cut: usize)
+    requires { ⌜ Sized (now full) cut × (length (now epochs) ≡ 64) ⌝ }
+    ensures { λ _. ⌜ Lowered (now (full .entry)) cut (now (epochs .entry)) (now (epochs .exit)) ⌝ }
+{
+    let mut again = true;
+    while again {
+        again = pass(full, epochs, cut);
+    }
+}
+
+// The greatest permitted line without a lost message, for a failure of a set of processes right after event `cut`.
+pub fn greatest(full: &[u32], cut: usize, set: u64) -> Line
+    requires { ⌜ Sized (now full) cut ⌝ }
+    ensures line { λ r. ⌜ ((t : Trace) → Tabled t (now (full .entry)) → cut ≤ size t → r ≡ lineTo t (greatestLine t past cut (reached t past cut) (inSet set))) ⌝ }
+    ensures means { λ r. ⌜ ((t : Trace) → Tabled t (now (full .entry)) → cut ≤ size t → Greatest t past cut (reached t past cut) (inSet set) (lineIn r)) ⌝ }
+{
+    let count = processes(full);
+    let mut epochs = [0u32; 64];
+    epochs_at(full, cut, &mut epochs);
+    first_line(&mut epochs, count, set);
+    lower(full, &mut epochs, cut);
+    Line {
+        epochs: epochs,
+        count: count,
+    }
+}
+
+// Does process z stay.
+fn stays(numbers: &[u32], count: usize, z: usize) -> bool
+    requires { ⌜ (length (now numbers) ≡ 64) × (z < 64) ⌝ }
+    ensures { λ r. ⌜ r ≡ staysW (now (numbers .entry)) count z ⌝ }
+{
+    if z < count {
+        numbers[z] == STAYS
+    } else {
+        false
+    }
+}
+
+fn or_zero(yes: bool, v: u32) -> u32
+    ensures { λ r. ⌜ r ≡ pick yes v 0 ⌝ }
+{
+    if yes { v } else { 0 }
+}
+
+// Before the first event: phase 1, the cut for a process that stays, the start for others.
+fn begin_restarts(numbers: &[u32], count: usize, cut: usize, gates: &mut [u32])
+    requires { ⌜ (length (now numbers) ≡ 64) × (length (now gates) ≡ 192) × (cut ≤ 2048) ⌝ }
+    ensures { λ _. ⌜ RestartsBegun (now (numbers .entry)) count cut 64 (now (gates .exit)) ⌝ }
+{
+    let mut z: usize = 0;
+    while z < 64 {
+        let staying = stays(numbers, count, z);
+        gates[z] = one_if(z < count);
+        gates[RESTARTS + z] = or_zero(staying, cut as u32);
+        gates[STAYING + z] = one_if(staying);
+        z += 1;
+    }
+}
+
+// Event e of its process.
+fn note_restart(full: &[u32], numbers: &[u32], gates: &mut [u32], e: usize)
+    requires { ⌜ (length (now full) ≡ areaWords) × (length (now numbers) ≡ 64) × (length (now gates) ≡ 192) × (e ≤ 2048) ⌝ }
+    ensures { λ _. ⌜ now (gates .exit) ≡ restartW (now (full .entry)) (now (numbers .entry)) (now (gates .entry)) e ⌝ }
+{
+    let w = full[EVENT_BASE + e];
+    let z = process(w);
+    let number = numbers[z];
+    if number == STAYS {
+        gates[z] = full[PHASE_BASE + e];
+        return;
+    }
+    if kind(w) != CHECKPOINT {
+        return;
+    }
+    if full[EPOCH_BASE + e] != number {
+        return;
+    }
+    gates[z] = full[PHASE_BASE + e];
+    gates[RESTARTS + z] = e as u32;
+}
+
+// Of each process its phase at the restart, or at the cut where it stays, the event that it restarts after, and whether it stays.
+pub fn restarts(full: &[u32], line: Line, cut: usize, gates: &mut [u32])
+    requires { ⌜ Sized (now full) cut × (length (now gates) ≡ 192) ⌝ }
+    ensures { λ _. ⌜ ((t : Trace) → Tabled t (now (full .entry)) → cut ≤ size t → line .count ≡ t .procs → now (gates .exit) ≡ wordsFrom (restartWord t cut (lineIn line)) 0 192) ⌝ }
+{
+    let numbers = line.epochs;
+    begin_restarts(&numbers, processes(full), cut, gates);
+    let mut e: usize = 0;
+    while e < cut {
+        e += 1;
+        note_restart(full, &numbers, gates, e);
+    }
+}
+
+// "A zone that goes back may run when its phase at restart, less 1, is ready. A zone that stays may run when its phase at the cut is ready."
+fn gate(stay: u32, phase: u32) -> u32
+    ensures { λ r. ⌜ r ≡ gateW stay phase ⌝ }
+{
+    if stay == 1 {
+        return phase;
+    }
+    if phase == 0 { 0 } else { phase - 1 }
+}
+
+fn set_gates(gates: &mut [u32], count: usize)
+    requires { ⌜ (length (now gates) ≡ 192) × (count ≤ 64) ⌝ }
+    ensures { λ _. ⌜ Gated count (now (gates .entry)) (now (gates .exit)) ⌝ }
+{
+    let mut z: usize = 0;
+    while z < count {
+        gates[z] = gate(gates[STAYING + z], gates[z]);
+        z += 1;
+    }
+}
+
+// Of each process its gate, the event that it restarts after, and whether it stays.
+pub fn gates(full: &[u32], line: Line, cut: usize, gates: &mut [u32])
+    requires { ⌜ Sized (now full) cut × (length (now gates) ≡ 192) ⌝ }
+    ensures { λ _. ⌜ ((t : Trace) → Tabled t (now (full .entry)) → cut ≤ size t → line .count ≡ t .procs → now (gates .exit) ≡ wordsFrom (gateWord t cut (lineIn line)) 0 192) ⌝ }
+{
+    restarts(full, line, cut, gates);
+    set_gates(gates, processes(full));
+}
