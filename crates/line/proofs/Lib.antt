@@ -3,3 +3,4 @@ pub mod Table
 pub mod Lowering
 pub mod Cut
 pub mod Places
+pub mod Faults

@@ -9,6 +9,7 @@ use Rattle.words.specs.Area.{areaWords}
 use Rattle.trace.specs.Table.{eventBase}
 use Rattle.protocol.specs.Columns.{epochBase, phaseBase, matchBase}
 use Rattle.theory.specs.Lists.{pick}
+use Rattle.theory.specs.Line.{inSet}
 
 -- of event e: its process, its peer, its kind (1 send, 2 receive, 3 checkpoint), its epoch, its phase, and the event it is matched with
 abbrev pub atW : List ℕ → ℕ → ℕ
@@ -103,3 +104,13 @@ gateW stay phase = pick (eqb stay 1) phase (phase - 1)
 pub record Gated (i : ℕ) (g h : List ℕ) : Type 0 where
   pub below : (z : ℕ) → z < i → getD h z 0 ≡ gateW (getD g (128 + z) 0) (getD g z 0)
   pub others : (k : ℕ) → i ≤ k → getD h k 0 ≡ getD g k 0
+
+-- may a line hold n for process z, whose epoch at the cut is `epoch`
+abbrev pub reachedW : ℕ → ℕ → Bool
+reachedW epoch n = leb 1 n && leb n epoch
+
+abbrev pub mayStayW : ℕ → ℕ → ℕ → Bool
+mayStayW failed z n = eqb n 32 && not (inSet failed z)
+
+abbrev pub mayW : ℕ → List ℕ → List ℕ → ℕ → Bool
+mayW failed epochs numbers z = reachedW (getD epochs z 0) (getD numbers z 0) || mayStayW failed z (getD numbers z 0)

@@ -1,0 +1,93 @@
+use mathlib.Core.Path.{_∙_}
+use Rattle.line.proofs.Table.{procs-is, size-is}
+use Rattle.line.proofs.Places.{line-at}
+use Rattle.line.proofs.Faults.{sized-less, fault-first, fault-count, fault-fit, fault-10}
+use native.Mathlib.Omega.{arith}
+use borrow.Author.Needs.{needs}
+use Rattle.line.proofs.line_fault.Statement.{statement}
+use Rattle.line.proofs.line_fault.Tie as tie
+use Rattle.line.proofs.line_fault.Reads as reads
+use Rattle.line.proofs.line_fault.Lts as lts
+use Rattle.line.proofs.epochs_at.Reads as epochs-at-reads
+use Rattle.line.proofs.failure_fault.Reads as failure-fault-reads
+use Rattle.line.proofs.permitted.Reads as permitted-reads
+use Rattle.line.proofs.processes.Reads as processes-reads
+
+failure-fault-requires : tie.Need-failure-fault-requires
+failure-fault-requires c κs = search needs
+
+returns : tie.Need-returns
+returns c =
+    let failure-fault = c .before .failure-fault in
+    let if1 = c .if1 in
+    λ t g. fault-first t _ g _ _ _ _ _ ((failure-fault .ensures .0) t g) (if1 .taken)
+
+processes-requires : tie.Need-processes-requires
+processes-requires c κs = search needs
+
+returns-2 : tie.Need-returns-2
+returns-2 c =
+    let failure-fault = c .before .before .before .before .failure-fault in
+    let if1 = c .before .before .before .if1 in
+    let processes = c .before .before .processes in
+    let if2 = c .if2 in
+    λ t g. fault-count t _ g _ _ _ _ _ ((failure-fault .ensures .0) t g) (if1 .left) _ (processes .ensures .0) (if2 .taken)
+
+slice-aggregate-epochs-at : tie.Need-slice-aggregate-epochs-at
+slice-aggregate-epochs-at c = search needs
+
+epochs-at-requires : tie.Need-epochs-at-requires
+epochs-at-requires c κs =
+    let pre = c .before .before .before .before .before .before .before .pre in
+    let failure-fault = c .before .before .before .before .before .failure-fault in
+    let if1 = c .before .before .before .before .if1 in
+    (sized-less _ _ _ pre ((failure-fault .ensures .1) (if1 .left)), search needs)
+
+slice-aggregate-permitted : tie.Need-slice-aggregate-permitted
+slice-aggregate-permitted c = search needs
+
+slice-aggregate-permitted-2 : tie.Need-slice-aggregate-permitted-2
+slice-aggregate-permitted-2 c = search needs
+
+permitted-requires : tie.Need-permitted-requires
+permitted-requires c κs = search needs
+
+returns-3 : tie.Need-returns-3
+returns-3 c =
+    let failure-fault = c .before .before .before .before .before .before .before .before .before .before .before .before .failure-fault in
+    let if1 = c .before .before .before .before .before .before .before .before .before .before .before .if1 in
+    let processes = c .before .before .before .before .before .before .before .before .before .before .processes in
+    let if2 = c .before .before .before .before .before .before .before .before .if2 in
+    let args = c .before .before .before .before .before .before .before .before .before .before .before .before .before .before .args in
+    let epochs-at = c .before .before .before .before .before .before .epochs-at in
+    let permitted = c .before .permitted in
+    let if3 = c .if3 in
+    λ t g. fault-fit t _ g _ _ _ _ _ ((failure-fault .ensures .0) t g) (if1 .left) _ (processes .ensures .0) (if2 .left) _ (args .line .epochs) ((epochs-at .ensures) t g (rw (← size-is t _ g) ((failure-fault .ensures .1) (if1 .left)))) (λ z l. line-at (args .line) _ ((if2 .left) ∙ (processes .ensures .0) ∙ procs-is t _ g) z l) _ (permitted .ensures) (if3 .taken)
+
+returns-4 : tie.Need-returns-4
+returns-4 c =
+    let failure-fault = c .before .before .before .before .before .before .before .before .before .before .before .before .failure-fault in
+    let if1 = c .before .before .before .before .before .before .before .before .before .before .before .if1 in
+    let processes = c .before .before .before .before .before .before .before .before .before .before .processes in
+    let if2 = c .before .before .before .before .before .before .before .before .if2 in
+    let args = c .before .before .before .before .before .before .before .before .before .before .before .before .before .before .args in
+    let epochs-at = c .before .before .before .before .before .before .epochs-at in
+    let permitted = c .before .permitted in
+    let if3 = c .if3 in
+    λ t g. fault-10 t _ g _ _ _ _ _ ((failure-fault .ensures .0) t g) (if1 .left) _ (processes .ensures .0) (if2 .left) _ (args .line .epochs) ((epochs-at .ensures) t g (rw (← size-is t _ g) ((failure-fault .ensures .1) (if1 .left)))) (λ z l. line-at (args .line) _ ((if2 .left) ∙ (processes .ensures .0) ∙ procs-is t _ g) z l) _ (permitted .ensures) (if3 .left)
+
+pub line-fault-spec : {M : Type 1} → statement M
+line-fault-spec =
+    tie.close
+    (tie.spec
+    failure-fault-requires
+    returns
+    processes-requires
+    returns-2
+    slice-aggregate-epochs-at
+    epochs-at-requires
+    slice-aggregate-permitted
+    slice-aggregate-permitted-2
+    permitted-requires
+    returns-3
+    returns-4)

@@ -1,0 +1,62 @@
+use mathlib.Core.Path.{_≡_, refl, sym, _∙_}
+use Prim.Native.Nat.{ℕ, _+_, _-_, _≤_, _<_}
+use Rattle.theory.specs.Lists.{all-below}
+use Rattle.line.specs.Words.{mayW}
+use Rattle.line.proofs.Faults.{all-none, all-next}
+use native.Mathlib.Omega.{arith}
+use borrow.Author.Needs.{needs}
+use Rattle.line.proofs.permitted.Statement.{statement}
+use Rattle.line.proofs.permitted.Tie as tie
+use Rattle.line.proofs.permitted.Reads as reads
+use Rattle.line.proofs.permitted.Lts as lts
+use Rattle.line.proofs.both.Reads as both-reads
+use Rattle.line.proofs.may_hold.Reads as may-hold-reads
+
+abbrev Inv-loop : tie.InvT-loop
+Inv-loop epochs numbers count set all₀ z₀ all z = (z ≤ count) × (all ≡ all-below z (mayW set epochs numbers))
+
+abbrev μ-loop : tie.MeasureT-loop
+μ-loop epochs numbers count set all₀ z₀ all z = count - z
+
+loop-holds : tie.Need-loop-holds Inv-loop μ-loop
+loop-holds c = (omega arith, all-none _)
+
+may-hold-requires : tie.Need-may-hold-requires Inv-loop μ-loop
+may-hold-requires c κs = search needs
+
+both-requires : tie.Need-both-requires Inv-loop μ-loop
+both-requires c κs = search needs
+
+add-z : tie.Need-add-z Inv-loop μ-loop
+add-z c = search needs
+
+loop-less : tie.Need-loop-less Inv-loop μ-loop
+loop-less c = search needs
+
+loop-again : tie.Need-loop-again Inv-loop μ-loop
+loop-again c =
+    let args = c .before .before .before .before .before .before .args in
+    let may-hold = c .before .may-hold in
+    let loop = c .before .before .before .loop in
+    let both = c .both in
+    (omega arith, all-next (mayW (args .set) (args .epochs .now) (args .numbers .now)) _ _ _ _ (may-hold .ensures) (loop .inv .1) (both .ensures))
+
+returns : tie.Need-returns Inv-loop μ-loop
+returns c =
+    let loop = c .before .loop in
+    let args = c .before .before .before .before .args in
+    let e : (loop .z) ≡ (args .count) = omega arith in rw (← e) (loop .inv .1)
+
+pub permitted-spec : {M : Type 1} → statement M
+permitted-spec =
+    tie.close
+    (tie.spec
+    Inv-loop
+    μ-loop
+    loop-holds
+    may-hold-requires
+    both-requires
+    add-z
+    loop-less
+    loop-again
+    returns)
