@@ -19,7 +19,7 @@ use Rattle.trace.specs.Fit.{allFit, wellFormed}
 use Rattle.trace.specs.Table.{tableWord}
 use Rattle.table.specs.Held.{heldEvent, heldEvents, held, holdsTrace}
 use Rattle.table.proofs.Places.{length-held}
-use Rattle.table.proofs.Holding.{trace-words, words-of}
+use Rattle.table.proofs.Holding.{held-self, words-of}
 use Rattle.theory.specs.Lists.{pick, cnt, place}
 use Rattle.theory.specs.Events.{size, eventAt, at, kind, sends, recvs, sent, rcvd, sendOf, recvOf}
 use Rattle.theory.specs.Epochs.{past, notes, epochAt, phaseAt}
@@ -51,7 +51,7 @@ well-few t w =
 
 module _ (a : List ℕ) (h : holdsTrace a ≡ true) where
   facts : (16384 ≤ length a) × (wellFormed (held a) ≡ true) × (take 16384 a ≡ wordsFrom (tableWord (held a)) 0 16384)
-  facts = words-of a (held a) (trace-words a h)
+  facts = words-of a (held a) (held-self a h)
 
   pub held-long : 16384 ≤ length a
   held-long = facts .0
