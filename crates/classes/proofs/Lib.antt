@@ -1,0 +1,9 @@
+pub mod Classes
+pub mod Turns
+pub mod Chains
+pub mod Rows
+pub mod Following
+pub mod Room
+pub mod Laying
+pub mod Channels
+pub mod Whole
