@@ -333,6 +333,10 @@ module _ (R : Run) (L : Laws R) (t l g : List ℕ) (K : Cols R t l g) where
         let gl = got-length p k in
         let gl₂ : length (s .got p z) ≡ rcvd (R .trace) p z e - 1 = omega (arith, gl) in
         let in-e : (ltb 0 e && leb e (size (R .trace))) ≡ true = rw (lt-ltb 0 e (n .0), le-leb e (size (R .trace)) (n .1)) in
+        let f₂ = value (R .trace) p z in
+        let vs : getD (map f₂ (s .got p z ++ m ∷ [])) (rcvd (R .trace) p z e - 1) 0 ≡ f₂ m =
+        ap (λ x. getD x (rcvd (R .trace) p z e - 1) 0) (map-snoc f₂ (s .got p z) m)
+        ∙ getD-at (map f₂ (s .got p z)) (f₂ m) [] 0 (rcvd (R .trace) p z e - 1) (length-map (s .got p z) f₂ ∙ gl₂) in
         rel-move b u refl (λ y hy. far (currentBase + y) (λ q. omega arith) (λ q. omega arith) (λ q. omega arith)) (record {
           room = rw (length-set, length-set, length-set) (r .room);
           orp = λ y hy. far (orphanBase + y) (λ q. omega arith) (λ q. omega arith) (λ q. omega arith) ∙ r .orp y hy ∙ ap head0 (sym (orp-skip s i z e es h no y));
@@ -361,9 +365,7 @@ module _ (R : Run) (L : Laws R) (t l g : List ℕ) (K : Cols R t l g) where
           val = λ y hy. by (eqb y e)
               (λ f. let j : y ≡ e = eqb-true y e f in
               rw (j, in-e, k, n .2, eqb-self p, eqb-self z)
-              (getD-set-same a₂ (takenBase + e) (valueW t (takeW a c₀)) 0 (omega (arith, l₂, r .room)) ∙ vd
-              ∙ sym (ap (λ x. getD x (rcvd (R .trace) p z e - 1) 0) (map-snoc (value (R .trace) p z) (s .got p z) m)
-              ∙ getD-at (map (value (R .trace) p z) (s .got p z)) (value (R .trace) p z m) [] 0 (rcvd (R .trace) p z e - 1) (length-map (s .got p z) (value (R .trace) p z) ∙ gl₂))))
+              (getD-set-same a₂ (takenBase + e) (valueW t (takeW a c₀)) 0 (omega (arith, l₂, r .room)) ∙ vd ∙ sym vs))
               (λ f. let ne : y ≢ e = eqb-false y e f in
               far (takenBase + y) (λ q. omega arith) (λ q. omega arith) (λ q. ne (omega arith)) ∙ r .val y hy ∙ in-range y (λ hy₀. (slot-same p m y k hy₀ ne) .1));
           gap = λ y h₁ h₂. far y (λ q. omega arith) (λ q. omega arith) (λ q. omega arith) ∙ r .gap y h₁ h₂;
