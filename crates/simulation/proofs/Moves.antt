@@ -41,6 +41,10 @@ pub map-snoc : (f : ℕ → ℕ) (xs : List ℕ) (x : ℕ) → map f (xs ++ x �
 map-snoc f [] x = refl
 map-snoc f (y ∷ ys) x = ap (λ r. f y ∷ r) (map-snoc f ys x)
 
+-- the value of what is received last
+value-slot : (f : ℕ → ℕ) (xs : List ℕ) (m k : ℕ) → length xs ≡ k → getD (map f (xs ++ m ∷ [])) k 0 ≡ f m
+value-slot f xs m k h = ap (λ x. getD x k 0) (map-snoc f xs m) ∙ getD-at (map f xs) (f m) [] 0 k (length-map xs f ∙ h)
+
 module _ (R : Run) (L : Laws R) (t l g : List ℕ) (K : Cols R t l g) where
   -- what a process's next event is
   pub at-next : (s : State) → Inv R s → (z e : ℕ) (es : List ℕ) → s .todo z ≡ e ∷ es → (0 < e) × (e ≤ size (R .trace)) × (at (R .trace) e ≡ z) × (es ≡ listed R z e) × (R .restart z < e)
@@ -333,10 +337,7 @@ module _ (R : Run) (L : Laws R) (t l g : List ℕ) (K : Cols R t l g) where
         let gl = got-length p k in
         let gl₂ : length (s .got p z) ≡ rcvd (R .trace) p z e - 1 = omega (arith, gl) in
         let in-e : (ltb 0 e && leb e (size (R .trace))) ≡ true = rw (lt-ltb 0 e (n .0), le-leb e (size (R .trace)) (n .1)) in
-        let f₂ = value (R .trace) p z in
-        let vs : getD (map f₂ (s .got p z ++ m ∷ [])) (rcvd (R .trace) p z e - 1) 0 ≡ f₂ m =
-        ap (λ x. getD x (rcvd (R .trace) p z e - 1) 0) (map-snoc f₂ (s .got p z) m)
-        ∙ getD-at (map f₂ (s .got p z)) (f₂ m) [] 0 (rcvd (R .trace) p z e - 1) (length-map (s .got p z) f₂ ∙ gl₂) in
+        let vs = value-slot (value (R .trace) p z) (s .got p z) m (rcvd (R .trace) p z e - 1) gl₂ in
         rel-move b u refl (λ y hy. far (currentBase + y) (λ q. omega arith) (λ q. omega arith) (λ q. omega arith)) (record {
           room = rw (length-set, length-set, length-set) (r .room);
           orp = λ y hy. far (orphanBase + y) (λ q. omega arith) (λ q. omega arith) (λ q. omega arith) ∙ r .orp y hy ∙ ap head0 (sym (orp-skip s i z e es h no y));
