@@ -41,6 +41,10 @@ pub map-snoc : (f : ℕ → ℕ) (xs : List ℕ) (x : ℕ) → map f (xs ++ x �
 map-snoc f [] x = refl
 map-snoc f (y ∷ ys) x = ap (λ r. f y ∷ r) (map-snoc f ys x)
 
+-- the value of what is received last
+value-slot : (f : ℕ → ℕ) (xs : List ℕ) (m k : ℕ) → length xs ≡ k → getD (map f (xs ++ m ∷ [])) k 0 ≡ f m
+value-slot f xs m k h = ap (λ x. getD x k 0) (map-snoc f xs m) ∙ getD-at (map f xs) (f m) [] 0 k (length-map xs f ∙ h)
+
 module _ (R : Run) (L : Laws R) (t l g : List ℕ) (K : Cols R t l g) where
   -- what a process's next event is
   pub at-next : (s : State) → Inv R s → (z e : ℕ) (es : List ℕ) → s .todo z ≡ e ∷ es → (0 < e) × (e ≤ size (R .trace)) × (at (R .trace) e ≡ z) × (es ≡ listed R z e) × (R .restart z < e)
@@ -333,6 +337,7 @@ module _ (R : Run) (L : Laws R) (t l g : List ℕ) (K : Cols R t l g) where
         let gl = got-length p k in
         let gl₂ : length (s .got p z) ≡ rcvd (R .trace) p z e - 1 = omega (arith, gl) in
         let in-e : (ltb 0 e && leb e (size (R .trace))) ≡ true = rw (lt-ltb 0 e (n .0), le-leb e (size (R .trace)) (n .1)) in
+        let vs = value-slot (value (R .trace) p z) (s .got p z) m (rcvd (R .trace) p z e - 1) gl₂ in
         rel-move b u refl (λ y hy. far (currentBase + y) (λ q. omega arith) (λ q. omega arith) (λ q. omega arith)) (record {
           room = rw (length-set, length-set, length-set) (r .room);
           orp = λ y hy. far (orphanBase + y) (λ q. omega arith) (λ q. omega arith) (λ q. omega arith) ∙ r .orp y hy ∙ ap head0 (sym (orp-skip s i z e es h no y));
@@ -361,9 +366,7 @@ module _ (R : Run) (L : Laws R) (t l g : List ℕ) (K : Cols R t l g) where
           val = λ y hy. by (eqb y e)
               (λ f. let j : y ≡ e = eqb-true y e f in
               rw (j, in-e, k, n .2, eqb-self p, eqb-self z)
-              (getD-set-same a₂ (takenBase + e) (valueW t (takeW a c₀)) 0 (omega (arith, l₂, r .room)) ∙ vd
-              ∙ sym (ap (λ x. getD x (rcvd (R .trace) p z e - 1) 0) (map-snoc (value (R .trace) p z) (s .got p z) m)
-              ∙ getD-at (map (value (R .trace) p z) (s .got p z)) (value (R .trace) p z m) [] 0 (rcvd (R .trace) p z e - 1) (length-map (s .got p z) (value (R .trace) p z) ∙ gl₂))))
+              (getD-set-same a₂ (takenBase + e) (valueW t (takeW a c₀)) 0 (omega (arith, l₂, r .room)) ∙ vd ∙ sym vs))
               (λ f. let ne : y ≢ e = eqb-false y e f in
               far (takenBase + y) (λ q. omega arith) (λ q. omega arith) (λ q. ne (omega arith)) ∙ r .val y hy ∙ in-range y (λ hy₀. (slot-same p m y k hy₀ ne) .1));
           gap = λ y h₁ h₂. far y (λ q. omega arith) (λ q. omega arith) (λ q. omega arith) ∙ r .gap y h₁ h₂;
