@@ -1,0 +1,80 @@
+-- From the table area and the line that a call is given to what the layers below ask: the full table of the trace that the area holds, and
+-- the gates of the line.
+use Prim.Native.Nat.{ℕ, _+_, _-_, _<_, _≤_}
+use mathlib.Core.Path.{_≡_, refl, sym, ap, _∙_}
+use mathlib.Core.Bool.{Bool, true, false, _&&_}
+use mathlib.Core.List.{List}
+use native.Mathlib.Omega.{arith}
+use lib.Dec.{ltb, eqb}
+use lib.ListN.{length, getD, replicate, length-replicate}
+use borrow.Author.Tests.{eq-eqb, lt-ltb, le-ltb}
+use Rattle.words.specs.Area.{areaWords, wordsFrom}
+use Rattle.words.proofs.Area.{getD-words}
+use Rattle.words.proofs.Cases.{and-right}
+use Rattle.trace.specs.Trace.{Trace}
+use Rattle.table.specs.Held.{held, holdsTrace}
+use Rattle.theory.specs.Lists.{pick}
+use Rattle.theory.specs.Events.{size}
+use Rattle.theory.specs.Epochs.{past}
+use Rattle.theory.specs.Line.{recorded, restartIn}
+use Rattle.theory.specs.Replay.{gate}
+use Rattle.theory.specs.Refusals.{lineFault, FitLine}
+use Rattle.theory.proofs.Refusals.{line-fit}
+use Rattle.theory.proofs.WellFormed.{valid}
+use Rattle.protocol.specs.Columns.{Columns}
+use Rattle.protocol.proofs.Passes.{held-formed}
+use Rattle.line.specs.declared.Line.{Line}
+use Rattle.line.specs.Given.{Tabled, lineIn, gateWord}
+use Rattle.line.specs.Words.{Sized}
+use Rattle.line.proofs.Table.{sized, size-is}
+use Rattle.simulation.specs.Related.{Gated}
+use Rattle.replay.specs.Given.{Given}
+
+-- `tabulate` on a fresh table says whether the area holds a trace
+fresh : eqb (length (replicate {A = ℕ} 16384 0)) 16384 ≡ true
+fresh = eq-eqb (length (replicate {A = ℕ} 16384 0)) 16384 (length-replicate {A = ℕ} 16384 0)
+
+pub tabled-holds : (a : List ℕ) (r : Bool) → r ≡ (eqb (length (replicate {A = ℕ} 16384 0)) areaWords && holdsTrace a) → r ≡ holdsTrace a
+tabled-holds a r e = e ∙ ap (λ (b : Bool). b && holdsTrace a) fresh
+
+module _ (a full : List ℕ) (h : holdsTrace a ≡ true) (C : Columns (held a) full) where
+  pub tabled : Tabled (held a) full
+  tabled = record { formed = held-formed a h; columns = C }
+
+  pub sized-all : Sized full (getD full 1 0)
+  sized-all = let e = size-is (held a) full tabled in sized (held a) full tabled (getD full 1 0) (omega arith)
+
+  -- a failure and a line that are not refused
+  module _ (step set : ℕ) (l : Line) (z : lineFault (held a) step set (l .count) (lineIn l) ≡ 0) where
+    taken : FitLine (held a) step set (l .count) (lineIn l)
+    taken = line-fit (held a) step set (l .count) (lineIn l) .0 z
+
+    pub step-within : step ≤ size (held a)
+    step-within = taken .failure .step-most
+
+    pub count-is : l .count ≡ held a .procs
+    count-is = taken .count-is
+
+    pub sized-cut : Sized full step
+    sized-cut = sized (held a) full tabled step step-within
+
+    module _ (gates : List ℕ) (g : gates ≡ wordsFrom (gateWord (held a) step (lineIn l)) 0 192) where
+      few : held a .procs ≤ 64
+      few = valid (held a) (held-formed a h) .few
+
+      gate-is : (y : ℕ) → y < held a .procs → getD gates y 0 ≡ gate (recorded (held a) past step (lineIn l)) y
+      gate-is y ly =
+          let m = few in
+          ap (λ (w : List ℕ). getD w y 0) g ∙ getD-words (gateWord (held a) step (lineIn l)) 0 192 y (omega arith)
+          ∙ ap (gateWord (held a) step (lineIn l)) (let q : 0 + y ≡ y = omega arith in q) ∙ rw (lt-ltb y 64 (omega arith), lt-ltb y (held a .procs) ly)
+
+      place-is : (y : ℕ) → y < held a .procs → getD gates (64 + y) 0 ≡ restartIn (held a) step (lineIn l) y
+      place-is y ly =
+          let m = few in
+          let e : 64 + y - 64 ≡ y = omega arith in
+          ap (λ (w : List ℕ). getD w (64 + y) 0) g ∙ getD-words (gateWord (held a) step (lineIn l)) 0 192 (64 + y) (omega arith)
+          ∙ ap (gateWord (held a) step (lineIn l)) (let q : 0 + (64 + y) ≡ 64 + y = omega arith in q)
+          ∙ rw (le-ltb (64 + y) 64 (omega arith), lt-ltb (64 + y) 128 (omega arith), e, lt-ltb y (held a .procs) ly)
+
+      pub given : Given (held a) (lineIn l) step full gates
+      given = record { formed = held-formed a h; cut-le = step-within; columns = C; gated = record { gates = gate-is; places = place-is } }
