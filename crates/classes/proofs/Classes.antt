@@ -1,22 +1,22 @@
 -- The class of a send, by the words of the full table, is what the theory says of its message: `class-is`.
-use Prim.Native.Nat.{ℕ, zero, suc, _+_, _-_, _*_, _/_, _%_, _<_, _≤_}
+use Prim.Native.Nat.{ℕ, zero, suc, _+_, _*_, _/_, _%_, _<_, _≤_}
 use mathlib.Core.Path.{_≡_, refl, sym, ap, _∙_}
 use mathlib.Core.Bool.{Bool, true, false, _&&_, _||_, not}
 use mathlib.Core.List.{List, [], _∷_, map}
 use native.Mathlib.Omega.{arith}
 use lib.Dec.{leb, ltb, eqb}
 use lib.ListN.{length, getD}
-use borrow.Author.Tests.{le-leb, lt-leb, leb-true, leb-false, lt-ltb, le-ltb, ltb-true, ltb-false}
+use borrow.Author.Tests.{le-leb, lt-leb, leb-true, lt-ltb, le-ltb, ltb-true}
 use Rattle.words.proofs.Cases.{by-bool, by-lt, and-left, and-right}
 use Rattle.trace.specs.declared.Event.{Event}
 use Rattle.trace.specs.declared.Event.the-variants.{Send, Recv, Save}
 use Rattle.trace.specs.Trace.{Trace}
 use Rattle.trace.specs.Fit.{wellFormed}
-use Rattle.trace.specs.Table.{wordOf, tableWord}
+use Rattle.trace.specs.Table.{wordOf}
 use Rattle.table.proofs.Places.{word-event}
 use Rattle.theory.specs.Lists.{pick}
-use Rattle.theory.specs.Events.{send, kindOf, processOf, size, eventAt, at, kind, sends, recvs, sent, rcvd, sendOf, recvOf}
-use Rattle.theory.specs.Epochs.{past, epochAt, phaseAt, epochOf, phaseOf, loggedBy}
+use Rattle.theory.specs.Events.{send, kindOf, processOf, size, eventAt, at, kind, sends, recvs, sent, sendOf, recvOf}
+use Rattle.theory.specs.Epochs.{past, epochAt, epochOf, loggedBy}
 use Rattle.theory.specs.Line.{Run, sentBefore, sentAfter, received, receivedBefore, undone, lost, orphan, kept, restartIn, recorded}
 use Rattle.theory.proofs.Base.{place-there, place-le}
 use Rattle.theory.proofs.Events.{sends-is, recvs-is, sendOf-at}
@@ -25,7 +25,7 @@ use Rattle.theory.proofs.WellFormed.{valid}
 use Rattle.protocol.specs.Columns.{Columns}
 use Rattle.protocol.proofs.Passes.{well-few}
 use Rattle.classes.specs.Listing.{Given, Classed}
-use Rattle.classes.specs.Words.{doneBy, classBy, classW, eventW, matchW}
+use Rattle.classes.specs.Words.{doneBy, classW, eventW, matchW}
 
 -- the tests of specs/Line over the tests of the words: a before the sender's restart, c by the cut, b the receive before the receiver's
 -- restart, d by the cut, l logged
