@@ -4,3 +4,4 @@ pub mod Lowering
 pub mod Cut
 pub mod Places
 pub mod Faults
+pub mod Sets
