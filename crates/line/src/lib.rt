@@ -1,5 +1,6 @@
-// Recovery lines of a trace, from its full table (crate protocol): the greatest line without a lost message after a failure.
-// specs/Given says what a function is given and how a line stands in words; the contracts are the theory's definitions.
+// Recovery lines of a trace, from its full table (crate protocol): the greatest line without a lost message after a failure; the epochs at
+// the cut; of a line the restarts, phases and gates, what is wrong with it (8, 9, 10), and who goes back. specs/Given says how a line stands
+// in words, specs/Words what a function asks for (`Sized`); the contracts are the theory's definitions, for every trace that the table is of.
 // Assumes nothing.
 ghost use mathlib.Core.Path.{_≡_};
 ghost use mathlib.Core.Bool.{true, false, _&&_, not};
