@@ -1,6 +1,11 @@
-pub mod Laws
+-- to be read first
+pub mod Claims
+-- what the words of the table say, and laws of the code
 pub mod Table
+pub mod Laws
+-- the greatest line; epochs at the cut; restarts, phases and gates; the numbers 8 to 10; who goes back
 pub mod Lowering
 pub mod Cut
 pub mod Places
 pub mod Faults
+pub mod Sets

@@ -1,15 +1,15 @@
 -- What the functions of this crate are given, and what they give: the full table of a trace, and a line as a struct.
-use Prim.Native.Nat.{ℕ, _-_}
+use Prim.Native.Nat.{ℕ, _+_, _-_, _*_}
 use mathlib.Core.Path.{_≡_}
-use mathlib.Core.Bool.{Bool, true}
-use mathlib.Core.List.{List}
-use lib.ListN.{getD}
-use lib.Dec.{ltb}
+use mathlib.Core.Bool.{Bool, true, not}
+use mathlib.Core.List.{List, [], _∷_}
+use lib.ListN.{getD, take}
+use lib.Dec.{ltb, eqb}
 use Rattle.words.specs.Area.{wordsFrom}
 use Rattle.trace.specs.Trace.{Trace}
 use Rattle.trace.specs.Fit.{wellFormed}
 use Rattle.protocol.specs.Columns.{Columns}
-use Rattle.theory.specs.Lists.{pick}
+use Rattle.theory.specs.Lists.{pick, keep}
 use Rattle.theory.specs.Epochs.{past, phaseAt}
 use Rattle.theory.specs.Line.{staysIn, restartIn, recorded}
 use Rattle.theory.specs.Replay.{gate}
@@ -49,3 +49,21 @@ restartWord t cut line =
 -- with the gate
 abbrev pub gateWord : Trace → ℕ → (ℕ → ℕ) → ℕ → ℕ
 gateWord t cut line = planes (each t (gate (recorded t past cut line))) (each t (restartIn t cut line)) (each t (stayWord line))
+
+-- ---- "The zones that go back form a set of the same kind, and back is its size."
+
+-- a line's numbers as a list
+abbrev pub numbersOf : Line → List ℕ
+numbersOf l = take (l .count) (l .epochs)
+
+abbrev pub backBit : ℕ → ℕ
+backBit e = pick (eqb e 32) 0 1
+
+-- the set of those not at 32, as a number whose bit z says that process z goes back
+unfoldable pub backOf : List ℕ → ℕ
+backOf [] = 0
+backOf (e ∷ l) = backBit e + 2 * backOf l
+
+-- those not at 32
+unfoldable pub backOnes : List ℕ → List ℕ
+backOnes l = keep (λ e. not (eqb e 32)) l

@@ -1,9 +1,11 @@
-// Recovery lines of a trace, from its full table (crate protocol): the greatest line without a lost message after a failure.
-// specs/Given says what a function is given and how a line stands in words; the contracts are the theory's definitions.
+// Recovery lines of a trace, from its full table (crate protocol): the greatest line without a lost message after a failure; the epochs at
+// the cut; of a line the restarts, phases and gates, what is wrong with it (8, 9, 10), and who goes back. specs/Given says how a line stands
+// in words, specs/Words what a function asks for (`Sized`); the contracts are the theory's definitions, for every trace that the table is of.
 // Assumes nothing.
 ghost use mathlib.Core.Path.{_≡_};
-ghost use mathlib.Core.Bool.{true, false, _&&_};
-ghost use lib.Dec.{leb};
+ghost use mathlib.Core.Bool.{true, false, _&&_, not};
+ghost use lib.Count.{ones};
+ghost use lib.Dec.{leb, ltb};
 ghost use Prim.Native.Nat.{ℕ, _+_, _*_, _/_, _%_, _^_, _≤_, _<_};
 ghost use lib.ListN.{length, getD, set};
 ghost use Rattle.words.specs.Area.{areaWords, wordsFrom};
@@ -12,8 +14,8 @@ ghost use Rattle.theory.specs.Lists.{pick, all-below};
 ghost use Rattle.theory.specs.Refusals.{failureFault, lineFault};
 ghost use Rattle.theory.specs.Events.{size};
 ghost use Rattle.theory.specs.Epochs.{past};
-ghost use Rattle.theory.specs.Line.{inSet, current, reached, Greatest, highest, greatestLine};
-ghost use Rattle.line.specs.Given.{Tabled, each, lineIn, lineTo, restartWord, gateWord};
+ghost use Rattle.theory.specs.Line.{inSet, staysIn, current, reached, Greatest, highest, greatestLine};
+ghost use Rattle.line.specs.Given.{Tabled, each, lineIn, lineTo, restartWord, gateWord, numbersOf, backOf, backOnes};
 ghost use Rattle.line.specs.Words.{kindW, peerW, atW, epochW, matchW, Sized, lostW, lowerAt, passW, flagW, Lowered, Begun, staysW, RestartsBegun, restartW, gateW, Gated, reachedW, mayStayW, mayW};
 use protocol::EPOCH_BASE;
 use protocol::MATCH_BASE;
@@ -404,4 +406,41 @@ pub fn line_fault(full: &[u32], step: u64, set: u64, line: Line) -> u32
     } else {
         10
     }
+}
+
+// The set of the processes not at 32, from the highest down.
+fn set_of(numbers: &[u32]) -> u64
+    requires { ⌜ length (now numbers) ≤ 64 ⌝ }
+    ensures { λ r. ⌜ r ≡ backOf (now (numbers .entry)) ⌝ }
+{
+    let mut set: u64 = 0;
+    let mut i = numbers.len();
+    while i > 0 {
+        i -= 1;
+        set = set * 2;
+        if numbers[i] != STAYS {
+            set += 1;
+        }
+    }
+    set
+}
+
+// The set of the processes that go back.
+pub fn back_set(line: Line) -> u64
+    requires { ⌜ line .count ≤ 64 ⌝ }
+    ensures set { λ r. ⌜ r ≡ backOf (numbersOf line) ⌝ }
+    ensures bits { λ r. ⌜ ((z : ℕ) → inSet r z ≡ (ltb z (line .count) && not (staysIn (lineIn line) z))) ⌝ }
+{
+    let numbers = line.epochs;
+    let count = line.count;
+    set_of(&numbers[..count])
+}
+
+// How many go back: the ones of the set.
+pub fn back(line: Line) -> u32
+    requires { ⌜ line .count ≤ 64 ⌝ }
+    ensures size { λ r. ⌜ r ≡ ones (backOf (numbersOf line)) ⌝ }
+    ensures number { λ r. ⌜ r ≡ length (backOnes (numbersOf line)) ⌝ }
+{
+    u64::count_ones(back_set(line))
 }
