@@ -6,3 +6,5 @@ pub mod Passing
 pub mod Ordering
 -- the first state
 pub mod Beginning
+-- the order of the lowest choices
+pub mod Lowering

@@ -7,7 +7,7 @@ use Rattle.trace.specs.Trace.{Trace}
 use Rattle.trace.specs.Fit.{wellFormed}
 use Rattle.theory.specs.Events.{size}
 use Rattle.theory.specs.Epochs.{past}
-use Rattle.theory.specs.Line.{Run, recorded}
+use Rattle.theory.specs.Line.{recorded}
 use Rattle.protocol.specs.Columns.{Columns}
 use Rattle.simulation.specs.Related.{Gated}
 

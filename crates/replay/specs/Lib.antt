@@ -4,3 +4,4 @@ pub mod Answer
 -- of single functions
 pub mod Shapes
 pub mod Left
+pub mod Lowest

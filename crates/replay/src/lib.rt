@@ -10,12 +10,14 @@ ghost use Rattle.simulation.specs.Words.{takenBase, currentBase, orphanBase, ta
 ghost use Rattle.simulation.specs.Linking.{pairW, backW, mineW, orphanW, goesW, earlyW, chainA, linkL, linkA, linkedL, linkedA, beginA};
 ghost use Rattle.theory.specs.Line.{Run, recorded};
 ghost use Rattle.simulation.specs.Related.{Started};
-ghost use Rattle.theory.specs.Order.{run};
+ghost use Rattle.theory.specs.Replay.{start};
+ghost use Rattle.theory.specs.Order.{run, lowestFrom, lowestOrder};
 ghost use Rattle.replay.specs.Shapes.{Readable, Movable, Paired, PairedTo, Linkable};
 ghost use Rattle.trace.specs.Trace.{Trace};
 ghost use Rattle.theory.specs.Epochs.{past};
 ghost use Rattle.replay.specs.Left.{Left};
 ghost use Rattle.replay.specs.Given.{Given};
+ghost use Rattle.replay.specs.Lowest.{ofProcesses, ofSender, ofSenders, lowestW, Lowered};
 ghost use Rattle.replay.specs.Answer.{answerOf, wordsOf};
 use protocol::EPOCH_BASE;
 use protocol::MATCH_BASE;
@@ -562,4 +564,105 @@ pub fn replay(full: &[u32], gates: &[u32], order: &[u16], area: &mut [u32], cut:
     words::zero(area);
     begin(full, gates, &mut links, area, cut);
     replay_in(full, &links, gates, order, area)
+}
+
+// The first of the processes that may run; CHOICES where there is none.
+fn of_processes(full: &[u32], gates: &[u32], area: &[u32], procs: usize) -> usize
+    requires { ⌜ (procs ≤ 64) × Readable (now full) (now gates) (now area) ⌝ }
+    ensures { λ r. ⌜ r ≡ ofProcesses (now (full .entry)) (now (gates .entry)) (now (area .entry)) procs ⌝ }
+{
+    let mut z: usize = 0;
+    while z < procs {
+        if allowed(full, gates, area, z) {
+            return z;
+        }
+        z += 1;
+    }
+    CHOICES
+}
+
+// The first of the channels of sender p whose oldest kept message may be handed over.
+fn of_sender(full: &[u32], gates: &[u32], area: &[u32], procs: usize, p: usize) -> usize
+    requires { ⌜ (procs ≤ 64) × (p < 64) × Readable (now full) (now gates) (now area) ⌝ }
+    ensures { λ r. ⌜ r ≡ ofSender (now (full .entry)) (now (gates .entry)) (now (area .entry)) procs p ⌝ }
+{
+    let mut q: usize = 0;
+    while q < procs {
+        let c = HANDS + 64 * p + q;
+        if allowed(full, gates, area, c) {
+            return c;
+        }
+        q += 1;
+    }
+    CHOICES
+}
+
+// The first of all channels, by sender, then receiver.
+fn of_senders(full: &[u32], gates: &[u32], area: &[u32], procs: usize) -> usize
+    requires { ⌜ (procs ≤ 64) × Readable (now full) (now gates) (now area) ⌝ }
+    ensures { λ r. ⌜ r ≡ ofSenders (now (full .entry)) (now (gates .entry)) (now (area .entry)) procs ⌝ }
+{
+    let mut p: usize = 0;
+    while p < procs {
+        let c = of_sender(full, gates, area, procs, p);
+        if c != CHOICES {
+            return c;
+        }
+        p += 1;
+    }
+    CHOICES
+}
+
+// The lowest allowed choice: a process, or else a channel.
+fn lowest_choice(full: &[u32], gates: &[u32], area: &[u32], procs: usize) -> usize
+    requires { ⌜ (procs ≤ 64) × Readable (now full) (now gates) (now area) ⌝ }
+    ensures { λ r. ⌜ r ≡ lowestW (now (full .entry)) (now (gates .entry)) (now (area .entry)) procs ⌝ }
+{
+    let c = of_processes(full, gates, area, procs);
+    if c != CHOICES {
+        return c;
+    }
+    of_senders(full, gates, area, procs)
+}
+
+// Carries out the lowest choices, one after another, at most so many: how many there were.
+fn carry_lowest(full: &[u32], links: &[u32], gates: &[u32], area: &mut [u32], most: usize) -> usize
+    requires { ⌜ (length (now full) ≡ areaWords) × (128 ≤ length (now gates)) × (length (now area) ≡ areaWords) × Small (now links) × ((R : Run) × Started R (now full) (now links) (now gates) (now area)) ⌝ }
+    ensures { λ r. ⌜ ((R : Run) → Started R (now (full .entry)) (now (links .entry)) (now (gates .entry)) (now (area .entry)) → Lowered R (now (area .exit)) most r) ⌝ }
+{
+    let procs = wide(full[0]);
+    let mut i: usize = 0;
+    while i < most {
+        let c = lowest_choice(full, gates, area, procs);
+        if c == CHOICES {
+            return i;
+        }
+        apply(full, links, area, c);
+        i += 1;
+    }
+    i
+}
+
+// Replays the order of the lowest choices from the first state.
+fn lowest_in(full: &[u32], links: &[u32], gates: &[u32], area: &mut [u32], most: usize) -> Replayed
+    requires { ⌜ (length (now full) ≡ areaWords) × (128 ≤ length (now gates)) × (length (now area) ≡ areaWords) × Small (now links) × ((R : Run) × Started R (now full) (now links) (now gates) (now area)) ⌝ }
+    ensures answer { λ r. ⌜ ((R : Run) → Started R (now (full .entry)) (now (links .entry)) (now (gates .entry)) (now (area .entry)) → r ≡ answerOf R (run R (lowestFrom R most (start R))) (length (lowestFrom R most (start R)))) ⌝ }
+    ensures words { λ _. ⌜ ((R : Run) → Started R (now (full .entry)) (now (links .entry)) (now (gates .entry)) (now (area .entry)) → now (area .exit) ≡ wordsOf R (run R (lowestFrom R most (start R)))) ⌝ }
+{
+    let steps = carry_lowest(full, links, gates, area, most);
+    finish(full, gates, area, steps)
+}
+
+// Replays the order that always takes the lowest allowed choice, from the line that the gates stand for, in an area of exactly 16,384
+// words. No order is longer than twice the number of events.
+pub fn lowest(full: &[u32], gates: &[u32], area: &mut [u32], cut: usize) -> Replayed
+    requires { ⌜ (length (now area) ≡ areaWords) × (128 ≤ length (now gates)) × ((t : Trace) × (line : (ℕ → ℕ)) × Given t line cut (now full) (now gates)) ⌝ }
+    ensures answer { λ r. ⌜ ((t : Trace) (line : ℕ → ℕ) → Given t line cut (now (full .entry)) (now (gates .entry)) → r ≡ answerOf (recorded t past cut line) (run (recorded t past cut line) (lowestOrder (recorded t past cut line))) (length (lowestOrder (recorded t past cut line)))) ⌝ }
+    ensures words { λ _. ⌜ ((t : Trace) (line : ℕ → ℕ) → Given t line cut (now (full .entry)) (now (gates .entry)) → now (area .exit) ≡ wordsOf (recorded t past cut line) (run (recorded t past cut line) (lowestOrder (recorded t past cut line)))) ⌝ }
+{
+    let mut links = [0u32; LINK_WORDS];
+    words::zero(area);
+    begin(full, gates, &mut links, area, cut);
+    let n = wide(full[1]);
+    lowest_in(full, &links, gates, area, n + n)
 }
