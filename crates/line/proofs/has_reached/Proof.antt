@@ -3,8 +3,6 @@ use native.Mathlib.Omega.{arith}
 use borrow.Author.Needs.{needs}
 use Rattle.line.proofs.has_reached.Statement.{statement}
 use Rattle.line.proofs.has_reached.Tie as tie
-use Rattle.line.proofs.has_reached.Reads as reads
-use Rattle.line.proofs.has_reached.Lts as lts
 
 returns : tie.Need-returns
 returns c =

@@ -5,9 +5,6 @@ use native.Mathlib.Omega.{arith}
 use borrow.Author.Needs.{needs}
 use Rattle.line.proofs.lower.Statement.{statement}
 use Rattle.line.proofs.lower.Tie as tie
-use Rattle.line.proofs.lower.Reads as reads
-use Rattle.line.proofs.lower.Lts as lts
-use Rattle.line.proofs.pass.Reads as pass-reads
 
 abbrev Inv-loop : tie.InvT-loop
 Inv-loop full epochs₀ cut again₀ epochs again = Passing full cut epochs₀ epochs again
