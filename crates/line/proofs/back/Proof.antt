@@ -1,7 +1,7 @@
+-- `line::back` meets its contract: the ones of the set are as many as the processes not at 32.
 use mathlib.Core.Path.{ap, _∙_}
 use lib.Count.{ones}
 use Rattle.line.proofs.Sets.{back-ones}
-use native.Mathlib.Omega.{arith}
 use borrow.Author.Needs.{needs}
 use Rattle.line.proofs.back.Statement.{statement}
 use Rattle.line.proofs.back.Tie as tie

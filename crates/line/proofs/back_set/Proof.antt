@@ -1,3 +1,4 @@
+-- `line::back_set` meets its contract: the set of a line's numbers, and what its bits say.
 use mathlib.Core.Path.{_≡_, sym}
 use lib.ListN.{length, length-take}
 use lib.Seq.{length-take-le}

@@ -1,6 +1,7 @@
-use mathlib.Core.Path.{_≡_, refl, _∙_}
-use Prim.Native.Nat.{ℕ, _+_, _-_, _≤_, _<_}
-use lib.ListN.{length, getD, set, length-set}
+-- `line::begin` meets its contract: after z turns the first z words are 1 below the count and 0 past it.
+use mathlib.Core.Path.{_≡_, refl}
+use Prim.Native.Nat.{ℕ, _-_, _≤_, _<_}
+use lib.ListN.{length, getD, length-set}
 use lib.Dec.{ltb}
 use Rattle.theory.specs.Lists.{pick}
 use Rattle.line.proofs.Laws.{rule-next}

@@ -1,6 +1,7 @@
-use mathlib.Core.Path.{_≡_, refl, sym, _∙_}
-use Prim.Native.Nat.{ℕ, _+_, _-_, _≤_, _<_}
-use lib.ListN.{length, getD, set, length-set}
+-- `line::begin_restarts` meets its contract: after z turns the three words of the first z processes are those before the first event.
+use mathlib.Core.Path.{_≡_, sym, _∙_}
+use Prim.Native.Nat.{_-_, _≤_}
+use lib.ListN.{length, length-set}
 use Rattle.line.specs.Words.{RestartsBegun}
 use Rattle.line.proofs.Laws.{planes-none, planes-next}
 use native.Mathlib.Omega.{arith}

@@ -1,6 +1,7 @@
-use mathlib.Core.Path.{_≡_, refl, sym, _∙_}
+-- `line::epochs_at` meets its contract: after e events each process's word is its epoch then.
+use mathlib.Core.Path.{_≡_, sym, _∙_}
 use Prim.Native.Nat.{ℕ, _+_, _-_, _≤_, _<_}
-use lib.ListN.{length, getD, set, length-set}
+use lib.ListN.{length, getD, length-set}
 use Rattle.trace.specs.Trace.{Trace}
 use Rattle.theory.specs.Events.{size}
 use Rattle.theory.specs.Epochs.{past, epochAt}

@@ -1,3 +1,4 @@
+-- `line::failure_fault` meets its contract: each way out gives the number that the theory gives.
 use Rattle.line.proofs.Faults.{fault-8, fault-empty, fault-beyond, fault-none}
 use native.Mathlib.Omega.{arith}
 use borrow.Author.Needs.{needs}

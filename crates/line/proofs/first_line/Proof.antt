@@ -1,7 +1,7 @@
-use mathlib.Core.Path.{_≡_, refl, _∙_}
-use Prim.Native.Nat.{ℕ, _+_, _-_, _≤_, _<_}
+-- `line::first_line` meets its contract: after z turns the first z numbers are those of the first line, the others as they were.
+use mathlib.Core.Path.{_≡_, refl}
+use Prim.Native.Nat.{ℕ, _-_, _≤_, _<_}
 use lib.ListN.{length, getD, set, length-set}
-use lib.Dec.{ltb}
 use Rattle.theory.specs.Lists.{pick}
 use Rattle.theory.specs.Line.{inSet}
 use Rattle.line.proofs.Laws.{first-next, first-rest}

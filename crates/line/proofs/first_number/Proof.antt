@@ -1,5 +1,5 @@
+-- `line::first_number` meets its contract: by the bit of the set.
 use Rattle.line.proofs.Laws.{is-failed, not-failed}
-use native.Mathlib.Omega.{arith}
 use borrow.Author.Needs.{needs}
 use Rattle.line.proofs.first_number.Statement.{statement}
 use Rattle.line.proofs.first_number.Tie as tie

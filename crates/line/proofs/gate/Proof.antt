@@ -1,5 +1,5 @@
+-- `line::gate` meets its contract: by the word that says whether the process stays.
 use Rattle.line.proofs.Laws.{gate-stays, gate-zero, gate-less}
-use native.Mathlib.Omega.{arith}
 use borrow.Author.Needs.{needs}
 use Rattle.line.proofs.gate.Statement.{statement}
 use Rattle.line.proofs.gate.Tie as tie

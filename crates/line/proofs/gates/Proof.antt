@@ -1,6 +1,6 @@
+-- `line::gates` meets its contract: the restarts' words with the phases turned into gates.
 use mathlib.Core.Path.{_∙_}
 use Rattle.line.proofs.Places.{gated-list}
-use native.Mathlib.Omega.{arith}
 use borrow.Author.Needs.{needs}
 use Rattle.line.proofs.gates.Statement.{statement}
 use Rattle.line.proofs.gates.Tie as tie

@@ -1,8 +1,7 @@
+-- `line::greatest` meets its contract: the first line, lowered until nothing is lost, is the theory's line.
 use mathlib.Core.Path.{_≡_}
 use lib.ListN.{length}
-use mathlib.Core.Path.{_∙_}
 use Rattle.line.proofs.Lowering.{greatest-made, greatest-means}
-use native.Mathlib.Omega.{arith}
 use borrow.Author.Needs.{needs}
 use Rattle.line.proofs.greatest.Statement.{statement}
 use Rattle.line.proofs.greatest.Tie as tie

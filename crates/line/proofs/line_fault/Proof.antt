@@ -1,8 +1,8 @@
+-- `line::line_fault` meets its contract: the failure's number first, then the count, then the numbers.
 use mathlib.Core.Path.{_∙_}
 use Rattle.line.proofs.Table.{procs-is, size-is}
 use Rattle.line.proofs.Places.{line-at}
 use Rattle.line.proofs.Faults.{sized-less, fault-first, fault-count, fault-fit, fault-10}
-use native.Mathlib.Omega.{arith}
 use borrow.Author.Needs.{needs}
 use Rattle.line.proofs.line_fault.Statement.{statement}
 use Rattle.line.proofs.line_fault.Tie as tie

@@ -1,6 +1,6 @@
+-- `line::lower_at` meets its contract: one test after another, as lostW has them.
 use mathlib.Core.Path.{sym, _∙_}
 use Rattle.line.proofs.Laws.{no-receive, received-early, sent-late, is-logged, is-lost}
-use native.Mathlib.Omega.{arith}
 use borrow.Author.Needs.{needs}
 use Rattle.line.proofs.lower_at.Statement.{statement}
 use Rattle.line.proofs.lower_at.Tie as tie

@@ -1,5 +1,5 @@
+-- `line::may_hold` meets its contract: reached, or else to stay.
 use Rattle.line.proofs.Faults.{holds-reached, holds-stay}
-use native.Mathlib.Omega.{arith}
 use borrow.Author.Needs.{needs}
 use Rattle.line.proofs.may_hold.Statement.{statement}
 use Rattle.line.proofs.may_hold.Tie as tie

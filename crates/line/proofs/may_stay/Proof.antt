@@ -1,5 +1,5 @@
+-- `line::may_stay` meets its contract: 32 and not failed.
 use Rattle.line.proofs.Faults.{stay-not, stay-may}
-use native.Mathlib.Omega.{arith}
 use borrow.Author.Needs.{needs}
 use Rattle.line.proofs.may_stay.Statement.{statement}
 use Rattle.line.proofs.may_stay.Tie as tie

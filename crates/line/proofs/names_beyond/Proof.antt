@@ -1,3 +1,4 @@
+-- `line::names_beyond` meets its contract: by the bits past the count.
 use Rattle.line.proofs.Faults.{beyond-none, beyond-some}
 use native.Mathlib.Omega.{arith}
 use borrow.Author.Needs.{needs}

@@ -1,3 +1,4 @@
+-- `line::note_restart` meets its contract: one test after another, as restartW has them.
 use lib.ListN.{length-set}
 use Rattle.line.proofs.Laws.{notes-stay, notes-other, notes-another, notes-raised}
 use native.Mathlib.Omega.{arith}

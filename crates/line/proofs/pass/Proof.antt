@@ -1,3 +1,4 @@
+-- `line::pass` meets its contract: after e turns the line and the flag are those of a pass over e events.
 use mathlib.Core.Path.{_≡_, refl, _∙_}
 use Prim.Native.Nat.{_+_, _-_, _≤_}
 use lib.ListN.{length}

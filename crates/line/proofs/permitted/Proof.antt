@@ -1,5 +1,6 @@
-use mathlib.Core.Path.{_≡_, refl, sym, _∙_}
-use Prim.Native.Nat.{ℕ, _+_, _-_, _≤_, _<_}
+-- `line::permitted` meets its contract: after z turns the flag is that of the first z numbers.
+use mathlib.Core.Path.{_≡_}
+use Prim.Native.Nat.{_-_, _≤_}
 use Rattle.theory.specs.Lists.{all-below}
 use Rattle.line.specs.Words.{mayW}
 use Rattle.line.proofs.Faults.{all-none, all-next}

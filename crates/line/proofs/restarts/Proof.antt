@@ -1,6 +1,7 @@
-use mathlib.Core.Path.{_≡_, refl, sym, _∙_}
+-- `line::restarts` meets its contract: after e events the words are those of the restarts so far.
+use mathlib.Core.Path.{_≡_, sym, _∙_}
 use Prim.Native.Nat.{ℕ, _+_, _-_, _≤_, _<_}
-use lib.ListN.{length, getD, set, length-set}
+use lib.ListN.{length, getD}
 use Rattle.trace.specs.Trace.{Trace}
 use Rattle.theory.specs.Events.{size}
 use Rattle.line.specs.Given.{Tabled, lineIn}

@@ -1,6 +1,7 @@
-use mathlib.Core.Path.{_≡_, refl, sym, _∙_}
-use Prim.Native.Nat.{ℕ, _+_, _-_, _≤_, _<_}
-use lib.ListN.{length, getD, set, length-set}
+-- `line::set_gates` meets its contract: after z turns the first z phases are gates.
+use mathlib.Core.Path.{_≡_, sym, _∙_}
+use Prim.Native.Nat.{_-_, _≤_, _<_}
+use lib.ListN.{length, length-set}
 use Rattle.line.specs.Words.{Gated}
 use Rattle.line.proofs.Laws.{gated-none, gated-next}
 use native.Mathlib.Omega.{arith}

@@ -1,3 +1,4 @@
+-- `line::set_of` meets its contract: after each turn the set is that of the numbers from i on.
 use mathlib.Core.Path.{_≡_, sym, ap, _∙_}
 use Prim.Native.Nat.{ℕ, _≤_}
 use lib.ListN.{length, drop}

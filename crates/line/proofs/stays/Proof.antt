@@ -1,5 +1,5 @@
+-- `line::stays` meets its contract: by the count and the number.
 use Rattle.line.proofs.Laws.{stays-below, stays-past}
-use native.Mathlib.Omega.{arith}
 use borrow.Author.Needs.{needs}
 use Rattle.line.proofs.stays.Statement.{statement}
 use Rattle.line.proofs.stays.Tie as tie
