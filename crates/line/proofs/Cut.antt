@@ -1,9 +1,9 @@
 -- What a pass over the events up to the cut gathers for each process: its epoch at the cut.
 use mathlib.Core.Path.{_≡_, refl, sym, _∙_, ap}
 use mathlib.Core.Logic.{_≢_}
-use mathlib.Core.Bool.{Bool, true, false}
+use mathlib.Core.Bool.{true}
 use mathlib.Core.List.{List}
-use Prim.Native.Nat.{ℕ, zero, suc, _+_, _≤_, _<_}
+use Prim.Native.Nat.{ℕ, suc, _+_, _≤_, _<_}
 use native.Mathlib.Omega.{arith}
 use native.Mathlib.Numerals.{add-one}
 use lib.ListN.{length, getD, set}
@@ -22,7 +22,7 @@ use Rattle.theory.specs.Epochs.{past, notes, epochAt, phaseAt}
 use Rattle.theory.specs.Line.{current}
 use Rattle.protocol.proofs.Moves.{send-epoch, send-phase, recv-at, recv-epoch, recv-phase-other, save-at, save-epoch-other, save-phase-other}
 use Rattle.line.specs.Given.{Tabled, each}
-use Rattle.line.specs.Words.{atW, epochW, phaseW, Begun}
+use Rattle.line.specs.Words.{atW, epochW, Begun}
 use Rattle.line.proofs.Table.{fit, procs-is, at-is}
 
 -- an event changes the epoch and the phase of its own process only

@@ -5,15 +5,15 @@ use mathlib.Core.List.{List}
 use Prim.Native.Nat.{ℕ, zero, suc, _+_, _/_, _%_, _^_, _≤_, _<_}
 use native.Mathlib.Omega.{arith}
 use native.Mathlib.Numerals.{add-one}
-use lib.ListN.{length, getD}
+use lib.ListN.{getD}
 use lib.Dec.{leb, ltb, eqb}
 use borrow.Author.Tests.{lt-ltb, le-ltb, le-leb, lt-leb, eq-eqb, ne-eqb}
 use Rattle.words.specs.Area.{wordsFrom}
 use Rattle.words.proofs.Area.{getD-words}
-use Rattle.words.proofs.Cases.{by-bool, clash}
+use Rattle.words.proofs.Cases.{by-bool}
 use Rattle.trace.specs.Trace.{Trace}
 use Rattle.trace.specs.Fit.{orElse}
-use Rattle.theory.specs.Lists.{pick, all-below}
+use Rattle.theory.specs.Lists.{all-below}
 use Rattle.theory.specs.Events.{size}
 use Rattle.theory.specs.Epochs.{past}
 use Rattle.theory.specs.Line.{inSet, may, current, reached}

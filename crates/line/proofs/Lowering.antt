@@ -1,33 +1,32 @@
 -- The words of a line, lowered pass by pass, become the greatest line without a lost message: `greatest-words`.
 use mathlib.Core.Path.{_≡_, refl, sym, _∙_, ap, subst, fun-ext}
-use mathlib.Core.Logic.{_≢_}
 use mathlib.Core.Bool.{Bool, true, false, _&&_, not}
 use mathlib.Core.List.{List}
-use Prim.Native.Nat.{ℕ, zero, suc, _+_, _-_, _*_, _≤_, _<_}
+use Prim.Native.Nat.{ℕ, zero, suc, _+_, _-_, _≤_, _<_}
 use native.Mathlib.Omega.{arith}
 use lib.ListN.{length, getD, set, List·getD-eq-default}
 use lib.Seq.{getD-set-same, getD-set-other}
 use lib.Dec.{leb, ltb, eqb}
-use borrow.Author.Tests.{leb-true, ltb-true, ltb-false, lt-ltb, le-ltb, le-leb, eq-eqb, ne-eqb, eqb-true, eqb-false}
+use borrow.Author.Tests.{leb-true, ltb-true, lt-ltb, le-ltb, le-leb, eq-eqb, eqb-true, eqb-false}
 use Rattle.words.specs.Area.{wordsFrom}
 use Rattle.words.proofs.Area.{length-words, getD-words, words-ext}
 use Rattle.words.proofs.Cases.{by-bool, by-lt, clash, and-left, and-right}
 use Rattle.trace.specs.Trace.{Trace}
-use Rattle.theory.specs.Lists.{pick, lastOf, put}
+use Rattle.theory.specs.Lists.{pick, lastOf}
 use Rattle.theory.specs.Events.{size, at, sends, recvs, sent, rcvd, sendOf}
 use Rattle.theory.specs.Epochs.{past, epochAt, epochOf, loggedBy}
-use Rattle.theory.specs.Line.{inSet, lost, LossFree, recorded, current, reached, Usable, Permitted, Greatest, Above, lower, highest, greatestLine}
+use Rattle.theory.specs.Line.{inSet, lost, LossFree, recorded, current, reached, Usable, Greatest, Above, lower, highest, greatestLine}
 use Rattle.theory.specs.Answers.{lineOf}
 use Rattle.theory.proofs.Base.{lastOf-le, lastOf-top}
 use Rattle.theory.proofs.Events.{sends-is, recvs-is, partner, sendOf-at}
 use Rattle.theory.proofs.Epochs.{epochOf-at, logged-is}
-use Rattle.theory.proofs.Lines.{Number, ByEpochs, now-is, epoch-le, number-of, lost-in, lost-epochs, epochs-lost, past-unlogged}
+use Rattle.theory.proofs.Lines.{Number, ByEpochs, epoch-le, number-of, lost-in, lost-epochs, epochs-lost, past-unlogged}
 use Rattle.theory.proofs.Claims.{epoch-counts, reached-usable, lowering-begins, lowering-goes-on, lowering-ends, greatest-line, greatest-only}
 use Rattle.line.specs.declared.Line.{Line}
 use Rattle.line.specs.Given.{Tabled, each, lineIn, lineTo}
 use Rattle.line.specs.Words.{atW, peerW, kindW, epochW, matchW, lostE, lostW, lowerAt, passW, flagW, passes, Lowered}
 use Rattle.line.proofs.Table.{fit, procs-is, kind-receive, receive-kind}
-use Rattle.line.proofs.Laws.{length-lower, length-pass, pass-same}
+use Rattle.line.proofs.Laws.{length-pass, pass-same}
 
 not-true : (b : Bool) → not b ≡ true → b ≡ false
 not-true true h = clash {b = false} h refl

@@ -3,16 +3,16 @@ use mathlib.Core.Path.{_≡_, refl, sym, _∙_, ap, ap₂, subst}
 use mathlib.Core.Logic.{_≢_}
 use mathlib.Core.Bool.{Bool, true, false, _&&_}
 use mathlib.Core.List.{List}
-use Prim.Native.Nat.{ℕ, zero, suc, _+_, _-_, _≤_, _<_}
+use Prim.Native.Nat.{ℕ, suc, _+_, _-_, _≤_, _<_}
 use native.Mathlib.Omega.{arith}
 use native.Mathlib.Numerals.{add-one}
 use lib.ListN.{length, getD, set, length-set}
 use lib.Seq.{getD-set-same, getD-set-other}
 use lib.Dec.{ltb, eqb}
-use borrow.Author.Tests.{lt-ltb, le-ltb, eq-eqb, ne-eqb, eqb-true}
+use borrow.Author.Tests.{lt-ltb, le-ltb, eq-eqb, ne-eqb}
 use Rattle.words.specs.Area.{wordsFrom}
 use Rattle.words.proofs.Area.{getD-words, words-ext}
-use Rattle.words.proofs.Cases.{by-eq, by-lt, by-bool, clash}
+use Rattle.words.proofs.Cases.{by-eq, by-lt, by-bool}
 use Rattle.trace.specs.Trace.{Trace}
 use Rattle.theory.specs.Lists.{pick, cnt, place}
 use Rattle.theory.specs.Events.{size, at, checkpoints}
@@ -24,7 +24,7 @@ use Rattle.theory.proofs.Events.{checkpoints-is}
 use Rattle.theory.proofs.Epochs.{epoch-is}
 use Rattle.line.specs.declared.Line.{Line}
 use Rattle.line.specs.Given.{Tabled, lineIn, each, planes, stayWord, restartWord, gateWord}
-use Rattle.line.specs.Words.{atW, kindW, epochW, phaseW, Planes, staysW, RestartsBegun, raises, restartW, gateW, Gated}
+use Rattle.line.specs.Words.{atW, kindW, epochW, phaseW, Planes, RestartsBegun, raises, restartW, gateW, Gated}
 use Rattle.line.proofs.Table.{fit, procs-is, at-is, save-is}
 use Rattle.line.proofs.Cut.{else-same}
 

@@ -1,8 +1,8 @@
 -- What the words of a full table say of the trace's events: process, kind and peer; and that they are in their ranges.
 use mathlib.Core.Path.{_≡_, refl, sym, _∙_, ap}
-use mathlib.Core.Bool.{Bool, true, false, _&&_}
+use mathlib.Core.Bool.{true, false, _&&_}
 use mathlib.Core.List.{List, [], _∷_, map}
-use Prim.Native.Nat.{ℕ, zero, suc, _+_, _-_, _*_, _/_, _%_, _≤_, _<_}
+use Prim.Native.Nat.{ℕ, zero, suc, _+_, _-_, _*_, _%_, _≤_, _<_}
 use native.Mathlib.Omega.{arith}
 use lib.ListN.{length, getD}
 use lib.Dec.{eqb}
@@ -12,14 +12,14 @@ use Rattle.trace.specs.declared.Event.{Event}
 use Rattle.trace.specs.declared.Event.the-variants.{Send, Recv, Save}
 use Rattle.trace.specs.Trace.{Trace, isRecv}
 use Rattle.trace.specs.Table.{wordOf, tableWord}
-use Rattle.theory.specs.Events.{size, eventAt, at, recvs, checkpoints, sendOf, rcvd}
+use Rattle.theory.specs.Events.{size, eventAt, at, recvs, checkpoints, rcvd}
 use Rattle.theory.proofs.Base.{eqb-self}
 use Rattle.theory.proofs.Events.{sends-is, partner}
 use Rattle.theory.proofs.WellFormed.{Valid, valid}
 use Rattle.protocol.proofs.Bounds.{sendOf-most}
 use Rattle.protocol.proofs.Passes.{well-few}
 use Rattle.line.specs.Given.{Tabled}
-use Rattle.line.specs.Words.{atW, peerW, kindW, matchW, Sized}
+use Rattle.line.specs.Words.{atW, peerW, kindW, Sized}
 
 mapped : (f : Event → ℕ) (es : List Event) (j : ℕ) (d : Event) → j < length es → getD (map f es) j 0 ≡ f (getD es j d)
 mapped f [] j d h = absurd (let z : ⊥ = omega arith in z)

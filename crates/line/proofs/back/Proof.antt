@@ -1,16 +1,10 @@
+-- `line::back` meets its contract: the ones of the set are as many as the processes not at 32.
 use mathlib.Core.Path.{ap, _∙_}
 use lib.Count.{ones}
 use Rattle.line.proofs.Sets.{back-ones}
-use native.Mathlib.Omega.{arith}
 use borrow.Author.Needs.{needs}
 use Rattle.line.proofs.back.Statement.{statement}
 use Rattle.line.proofs.back.Tie as tie
-use Rattle.line.proofs.back.Reads as reads
-use Rattle.line.proofs.back.Lts as lts
-use Rattle.line.proofs.back_set.Reads as back-set-reads
-
-back-set-requires : tie.Need-back-set-requires
-back-set-requires c κs = search needs
 
 returns : tie.Need-returns
 returns c =
@@ -18,4 +12,4 @@ returns c =
     (ap ones (back-set .ensures .0), ap ones (back-set .ensures .0) ∙ back-ones _)
 
 pub back-spec : {M : Type 1} → statement M
-back-spec = tie.close (tie.spec back-set-requires returns)
+back-spec = tie.close (tie.spec (λ c κs. search needs) returns)

@@ -1,3 +1,4 @@
+-- `line::back_set` meets its contract: the set of a line's numbers, and what its bits say.
 use mathlib.Core.Path.{_≡_, sym}
 use lib.ListN.{length, length-take}
 use lib.Seq.{length-take-le}
@@ -6,9 +7,6 @@ use native.Mathlib.Omega.{arith}
 use borrow.Author.Needs.{needs}
 use Rattle.line.proofs.back_set.Statement.{statement}
 use Rattle.line.proofs.back_set.Tie as tie
-use Rattle.line.proofs.back_set.Reads as reads
-use Rattle.line.proofs.back_set.Lts as lts
-use Rattle.line.proofs.set_of.Reads as set-of-reads
 
 array-share-prefix-numbers : tie.Need-array-share-prefix-numbers
 array-share-prefix-numbers c =

@@ -1,6 +1,7 @@
-use mathlib.Core.Path.{_≡_, refl, _∙_}
-use Prim.Native.Nat.{ℕ, _+_, _-_, _≤_, _<_}
-use lib.ListN.{length, getD, set, length-set}
+-- `line::begin` meets its contract: after z turns the first z words are 1 below the count and 0 past it.
+use mathlib.Core.Path.{_≡_, refl}
+use Prim.Native.Nat.{ℕ, _-_, _≤_, _<_}
+use lib.ListN.{length, getD, length-set}
 use lib.Dec.{ltb}
 use Rattle.theory.specs.Lists.{pick}
 use Rattle.line.proofs.Laws.{rule-next}
@@ -8,9 +9,6 @@ use native.Mathlib.Omega.{arith}
 use borrow.Author.Needs.{needs}
 use Rattle.line.proofs.begin.Statement.{statement}
 use Rattle.line.proofs.begin.Tie as tie
-use Rattle.line.proofs.begin.Reads as reads
-use Rattle.line.proofs.begin.Lts as lts
-use Rattle.line.proofs.one_if.Reads as one-if-reads
 
 abbrev Inv-loop : tie.InvT-loop
 Inv-loop epochs₀ count z₀ epochs z = (z ≤ 64) × (length epochs ≡ length epochs₀) × ((k : ℕ) → k < z → getD epochs k 0 ≡ pick (ltb k count) 1 0)
@@ -21,21 +19,6 @@ abbrev μ-loop : tie.MeasureT-loop
 loop-holds : tie.Need-loop-holds Inv-loop μ-loop
 loop-holds c = (omega arith, refl, λ k h. absurd (let y : ⊥ = omega arith in y))
 
-one-if-requires : tie.Need-one-if-requires Inv-loop μ-loop
-one-if-requires c κs = search needs
-
-mul-epochs : tie.Need-mul-epochs Inv-loop μ-loop
-mul-epochs c = search needs
-
-slice-write-epochs : tie.Need-slice-write-epochs Inv-loop μ-loop
-slice-write-epochs c = search needs
-
-add-z : tie.Need-add-z Inv-loop μ-loop
-add-z c = search needs
-
-loop-less : tie.Need-loop-less Inv-loop μ-loop
-loop-less c = search needs
-
 loop-again : tie.Need-loop-again Inv-loop μ-loop
 loop-again c =
     let loop = c .before .before .loop in
@@ -43,9 +26,6 @@ loop-again c =
     let args = c .before .before .before .before .args in
     let one-if = c .one-if in
     let l : (loop .z) < length (loop .epochs) = omega (arith, (loop .inv .1), pre) in (omega arith, simp length-set (loop .inv .1), rule-next (λ k. pick (ltb k (args .count)) 1 0) (loop .epochs) _ _ l (one-if .ensures) (loop .inv .2))
-
-same-length : tie.Need-same-length Inv-loop μ-loop
-same-length c = search needs
 
 returns : tie.Need-returns Inv-loop μ-loop
 returns c =
@@ -55,15 +35,4 @@ returns c =
 pub begin-spec : {M : Type 1} → statement M
 begin-spec =
     tie.close
-    (tie.spec
-    Inv-loop
-    μ-loop
-    loop-holds
-    one-if-requires
-    mul-epochs
-    slice-write-epochs
-    add-z
-    loop-less
-    loop-again
-    same-length
-    returns)
+    (tie.spec Inv-loop μ-loop loop-holds (λ c κs. search needs) (λ c. search needs) (λ c. search needs) (λ c. search needs) (λ c. search needs) loop-again (λ c. search needs) returns)

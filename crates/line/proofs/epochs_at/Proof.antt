@@ -1,6 +1,7 @@
-use mathlib.Core.Path.{_≡_, refl, sym, _∙_}
+-- `line::epochs_at` meets its contract: after e events each process's word is its epoch then.
+use mathlib.Core.Path.{_≡_, sym, _∙_}
 use Prim.Native.Nat.{ℕ, _+_, _-_, _≤_, _<_}
-use lib.ListN.{length, getD, set, length-set}
+use lib.ListN.{length, getD, length-set}
 use Rattle.trace.specs.Trace.{Trace}
 use Rattle.theory.specs.Events.{size}
 use Rattle.theory.specs.Epochs.{past, epochAt}
@@ -10,11 +11,6 @@ use native.Mathlib.Omega.{arith}
 use borrow.Author.Needs.{needs}
 use Rattle.line.proofs.epochs_at.Statement.{statement}
 use Rattle.line.proofs.epochs_at.Tie as tie
-use Rattle.line.proofs.epochs_at.Reads as reads
-use Rattle.line.proofs.epochs_at.Lts as lts
-use Rattle.line.proofs.begin.Reads as begin-reads
-use Rattle.line.proofs.process.Reads as process-reads
-use Rattle.line.proofs.processes.Reads as processes-reads
 
 abbrev Inv-loop : tie.InvT-loop
 Inv-loop full cut epochs₀ e₀ epochs e = (e ≤ cut) × (length epochs ≡ 64) × ((t : Trace) → Tabled t full → cut ≤ size t → (z : ℕ) → z < 64 → getD epochs z 0 ≡ each t (λ y. epochAt t past y e) z)
@@ -27,48 +23,12 @@ processes-requires c κs =
     let pre = c .before .before .before .pre in
     ((pre .0 .whole), (pre .0 .procs-few))
 
-begin-requires : tie.Need-begin-requires Inv-loop μ-loop
-begin-requires c κs = search needs
-
 loop-holds : tie.Need-loop-holds Inv-loop μ-loop
 loop-holds c =
     let begin = c .before .before .begin in
     let pre = c .before .before .before .before .before .before .before .pre in
     let processes = c .before .before .before .processes in
     (omega arith, (begin .kept .0) ∙ (pre .1), λ t g h. epochs-begin t _ g _ _ (processes .ensures .0) (begin .ensures))
-
-add-e : tie.Need-add-e Inv-loop μ-loop
-add-e c = search needs
-
-add-process : tie.Need-add-process Inv-loop μ-loop
-add-process c = search needs
-
-mul-process : tie.Need-mul-process Inv-loop μ-loop
-mul-process c = search needs
-
-shared-slice-read-process : tie.Need-shared-slice-read-process Inv-loop μ-loop
-shared-slice-read-process c = search needs
-
-process-requires : tie.Need-process-requires Inv-loop μ-loop
-process-requires c κs = search needs
-
-add-epochs : tie.Need-add-epochs Inv-loop μ-loop
-add-epochs c = search needs
-
-mul-epochs : tie.Need-mul-epochs Inv-loop μ-loop
-mul-epochs c = search needs
-
-shared-slice-read-epochs : tie.Need-shared-slice-read-epochs Inv-loop μ-loop
-shared-slice-read-epochs c = search needs
-
-mul-epochs-2 : tie.Need-mul-epochs-2 Inv-loop μ-loop
-mul-epochs-2 c = search needs
-
-slice-write-epochs : tie.Need-slice-write-epochs Inv-loop μ-loop
-slice-write-epochs c = search needs
-
-loop-less : tie.Need-loop-less Inv-loop μ-loop
-loop-less c = search needs
 
 loop-again : tie.Need-loop-again Inv-loop μ-loop
 loop-again c =
@@ -92,23 +52,4 @@ returns c =
 pub epochs-at-spec : {M : Type 1} → statement M
 epochs-at-spec =
     tie.close
-    (tie.spec
-    Inv-loop
-    μ-loop
-    processes-requires
-    begin-requires
-    loop-holds
-    add-e
-    add-process
-    mul-process
-    shared-slice-read-process
-    process-requires
-    add-epochs
-    mul-epochs
-    shared-slice-read-epochs
-    mul-epochs-2
-    slice-write-epochs
-    loop-less
-    loop-again
-    same-length
-    returns)
+    (tie.spec Inv-loop μ-loop processes-requires (λ c κs. search needs) loop-holds (λ c. search needs) (λ c. search needs) (λ c. search needs) (λ c. search needs) (λ c κs. search needs) (λ c. search needs) (λ c. search needs) (λ c. search needs) (λ c. search needs) (λ c. search needs) (λ c. search needs) loop-again same-length returns)

@@ -1,18 +1,9 @@
+-- `line::failure_fault` meets its contract: each way out gives the number that the theory gives.
 use Rattle.line.proofs.Faults.{fault-8, fault-empty, fault-beyond, fault-none}
 use native.Mathlib.Omega.{arith}
 use borrow.Author.Needs.{needs}
 use Rattle.line.proofs.failure_fault.Statement.{statement}
 use Rattle.line.proofs.failure_fault.Tie as tie
-use Rattle.line.proofs.failure_fault.Reads as reads
-use Rattle.line.proofs.failure_fault.Lts as lts
-use Rattle.line.proofs.names_beyond.Reads as names-beyond-reads
-use Rattle.line.proofs.processes.Reads as processes-reads
-
-shared-slice-read-size : tie.Need-shared-slice-read-size
-shared-slice-read-size c = search needs
-
-cast-if1 : tie.Need-cast-if1
-cast-if1 c = search needs
 
 returns : tie.Need-returns
 returns c =
@@ -24,12 +15,6 @@ returns-2 c =
     let if1 = c .before .if1 in
     let if2 = c .if2 in
     (λ t g. fault-empty t _ g _ _ (if1 .left) (if2 .taken), λ z. (if1 .left))
-
-processes-requires : tie.Need-processes-requires
-processes-requires c κs = search needs
-
-names-beyond-requires : tie.Need-names-beyond-requires
-names-beyond-requires c κs = search needs
 
 returns-3 : tie.Need-returns-3
 returns-3 c =
@@ -52,12 +37,4 @@ returns-4 c =
 pub failure-fault-spec : {M : Type 1} → statement M
 failure-fault-spec =
     tie.close
-    (tie.spec
-    shared-slice-read-size
-    cast-if1
-    returns
-    returns-2
-    processes-requires
-    names-beyond-requires
-    returns-3
-    returns-4)
+    (tie.spec (λ c. search needs) (λ c. search needs) returns returns-2 (λ c κs. search needs) (λ c κs. search needs) returns-3 returns-4)

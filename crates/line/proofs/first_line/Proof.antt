@@ -1,7 +1,7 @@
-use mathlib.Core.Path.{_≡_, refl, _∙_}
-use Prim.Native.Nat.{ℕ, _+_, _-_, _≤_, _<_}
+-- `line::first_line` meets its contract: after z turns the first z numbers are those of the first line, the others as they were.
+use mathlib.Core.Path.{_≡_, refl}
+use Prim.Native.Nat.{ℕ, _-_, _≤_, _<_}
 use lib.ListN.{length, getD, set, length-set}
-use lib.Dec.{ltb}
 use Rattle.theory.specs.Lists.{pick}
 use Rattle.theory.specs.Line.{inSet}
 use Rattle.line.proofs.Laws.{first-next, first-rest}
@@ -9,9 +9,6 @@ use native.Mathlib.Omega.{arith}
 use borrow.Author.Needs.{needs}
 use Rattle.line.proofs.first_line.Statement.{statement}
 use Rattle.line.proofs.first_line.Tie as tie
-use Rattle.line.proofs.first_line.Reads as reads
-use Rattle.line.proofs.first_line.Lts as lts
-use Rattle.line.proofs.first_number.Reads as first-number-reads
 
 abbrev Inv-loop : tie.InvT-loop
 Inv-loop epochs₀ count set z₀ epochs z = (z ≤ count) × (length epochs ≡ length epochs₀) × ((k : ℕ) → k < z → getD epochs k 0 ≡ pick (inSet set k) (getD epochs₀ k 0) 32) × ((k : ℕ) → z ≤ k → getD epochs k 0 ≡ getD epochs₀ k 0)
@@ -22,30 +19,6 @@ abbrev μ-loop : tie.MeasureT-loop
 loop-holds : tie.Need-loop-holds Inv-loop μ-loop
 loop-holds c = (omega arith, refl, λ k h. absurd (let y : ⊥ = omega arith in y), λ k h. refl)
 
-cast-first-number : tie.Need-cast-first-number Inv-loop μ-loop
-cast-first-number c = search needs
-
-mul-first-number : tie.Need-mul-first-number Inv-loop μ-loop
-mul-first-number c = search needs
-
-slice-read-first-number : tie.Need-slice-read-first-number Inv-loop μ-loop
-slice-read-first-number c = search needs
-
-first-number-requires : tie.Need-first-number-requires Inv-loop μ-loop
-first-number-requires c κs = search needs
-
-mul-epochs : tie.Need-mul-epochs Inv-loop μ-loop
-mul-epochs c = search needs
-
-slice-write-epochs : tie.Need-slice-write-epochs Inv-loop μ-loop
-slice-write-epochs c = search needs
-
-add-z : tie.Need-add-z Inv-loop μ-loop
-add-z c = search needs
-
-loop-less : tie.Need-loop-less Inv-loop μ-loop
-loop-less c = search needs
-
 loop-again : tie.Need-loop-again Inv-loop μ-loop
 loop-again c =
     let loop = c .before .before .before .loop in
@@ -53,9 +26,6 @@ loop-again c =
     let args = c .before .before .before .before .before .args in
     let first-number = c .first-number in
     let l : (loop .z) < length (loop .epochs) = omega (arith, (loop .inv .1), (pre .0), (pre .1)) in (omega arith, simp length-set (loop .inv .1), first-next (args .epochs .now) (loop .epochs) _ _ _ l (first-number .ensures) (loop .inv .3) (loop .inv .2), first-rest (args .epochs .now) (loop .epochs) _ _ _ l (first-number .ensures) (loop .inv .3))
-
-same-length : tie.Need-same-length Inv-loop μ-loop
-same-length c = search needs
 
 returns : tie.Need-returns Inv-loop μ-loop
 returns c =
@@ -65,18 +35,4 @@ returns c =
 pub first-line-spec : {M : Type 1} → statement M
 first-line-spec =
     tie.close
-    (tie.spec
-    Inv-loop
-    μ-loop
-    loop-holds
-    cast-first-number
-    mul-first-number
-    slice-read-first-number
-    first-number-requires
-    mul-epochs
-    slice-write-epochs
-    add-z
-    loop-less
-    loop-again
-    same-length
-    returns)
+    (tie.spec Inv-loop μ-loop loop-holds (λ c. search needs) (λ c. search needs) (λ c. search needs) (λ c κs. search needs) (λ c. search needs) (λ c. search needs) (λ c. search needs) (λ c. search needs) loop-again (λ c. search needs) returns)

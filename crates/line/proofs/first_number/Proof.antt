@@ -1,13 +1,8 @@
+-- `line::first_number` meets its contract: by the bit of the set.
 use Rattle.line.proofs.Laws.{is-failed, not-failed}
-use native.Mathlib.Omega.{arith}
 use borrow.Author.Needs.{needs}
 use Rattle.line.proofs.first_number.Statement.{statement}
 use Rattle.line.proofs.first_number.Tie as tie
-use Rattle.line.proofs.first_number.Reads as reads
-use Rattle.line.proofs.first_number.Lts as lts
-
-shr-if1 : tie.Need-shr-if1
-shr-if1 c = search needs
 
 returns : tie.Need-returns
 returns c =
@@ -20,4 +15,4 @@ returns-2 c =
     not-failed _ _ _ (if1 .left)
 
 pub first-number-spec : {M : Type 1} → statement M
-first-number-spec = tie.close (tie.spec shr-if1 returns returns-2)
+first-number-spec = tie.close (tie.spec (λ c. search needs) returns returns-2)

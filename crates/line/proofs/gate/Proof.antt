@@ -1,18 +1,13 @@
+-- `line::gate` meets its contract: by the word that says whether the process stays.
 use Rattle.line.proofs.Laws.{gate-stays, gate-zero, gate-less}
-use native.Mathlib.Omega.{arith}
 use borrow.Author.Needs.{needs}
 use Rattle.line.proofs.gate.Statement.{statement}
 use Rattle.line.proofs.gate.Tie as tie
-use Rattle.line.proofs.gate.Reads as reads
-use Rattle.line.proofs.gate.Lts as lts
 
 returns : tie.Need-returns
 returns c =
     let if1 = c .if1 in
     gate-stays _ _ (if1 .taken)
-
-sub-result : tie.Need-sub-result
-sub-result c = search needs
 
 returns-2 : tie.Need-returns-2
 returns-2 c =
@@ -26,4 +21,4 @@ returns-3 c =
     gate-less _ _ (if1 .left)
 
 pub gate-spec : {M : Type 1} → statement M
-gate-spec = tie.close (tie.spec returns sub-result returns-2 returns-3)
+gate-spec = tie.close (tie.spec returns (λ c. search needs) returns-2 returns-3)

@@ -1,26 +1,9 @@
+-- `line::gates` meets its contract: the restarts' words with the phases turned into gates.
 use mathlib.Core.Path.{_∙_}
 use Rattle.line.proofs.Places.{gated-list}
-use native.Mathlib.Omega.{arith}
 use borrow.Author.Needs.{needs}
 use Rattle.line.proofs.gates.Statement.{statement}
 use Rattle.line.proofs.gates.Tie as tie
-use Rattle.line.proofs.gates.Reads as reads
-use Rattle.line.proofs.gates.Lts as lts
-use Rattle.line.proofs.processes.Reads as processes-reads
-use Rattle.line.proofs.restarts.Reads as restarts-reads
-use Rattle.line.proofs.set_gates.Reads as set-gates-reads
-
-restarts-requires : tie.Need-restarts-requires
-restarts-requires c κs = search needs
-
-processes-requires : tie.Need-processes-requires
-processes-requires c κs = search needs
-
-set-gates-requires : tie.Need-set-gates-requires
-set-gates-requires c κs = search needs
-
-same-length : tie.Need-same-length
-same-length c = search needs
 
 returns : tie.Need-returns
 returns c =
@@ -33,4 +16,4 @@ returns c =
 pub gates-spec : {M : Type 1} → statement M
 gates-spec =
     tie.close
-    (tie.spec restarts-requires processes-requires set-gates-requires same-length returns)
+    (tie.spec (λ c κs. search needs) (λ c κs. search needs) (λ c κs. search needs) (λ c. search needs) returns)

@@ -1,10 +1,7 @@
+-- `line::has_reached` meets its contract: both comparisons.
 use Rattle.line.proofs.Faults.{reached-none, reached-some}
-use native.Mathlib.Omega.{arith}
-use borrow.Author.Needs.{needs}
 use Rattle.line.proofs.has_reached.Statement.{statement}
 use Rattle.line.proofs.has_reached.Tie as tie
-use Rattle.line.proofs.has_reached.Reads as reads
-use Rattle.line.proofs.has_reached.Lts as lts
 
 returns : tie.Need-returns
 returns c =

@@ -1,29 +1,17 @@
+-- `line::line_fault` meets its contract: the failure's number first, then the count, then the numbers.
 use mathlib.Core.Path.{_∙_}
 use Rattle.line.proofs.Table.{procs-is, size-is}
 use Rattle.line.proofs.Places.{line-at}
 use Rattle.line.proofs.Faults.{sized-less, fault-first, fault-count, fault-fit, fault-10}
-use native.Mathlib.Omega.{arith}
 use borrow.Author.Needs.{needs}
 use Rattle.line.proofs.line_fault.Statement.{statement}
 use Rattle.line.proofs.line_fault.Tie as tie
-use Rattle.line.proofs.line_fault.Reads as reads
-use Rattle.line.proofs.line_fault.Lts as lts
-use Rattle.line.proofs.epochs_at.Reads as epochs-at-reads
-use Rattle.line.proofs.failure_fault.Reads as failure-fault-reads
-use Rattle.line.proofs.permitted.Reads as permitted-reads
-use Rattle.line.proofs.processes.Reads as processes-reads
-
-failure-fault-requires : tie.Need-failure-fault-requires
-failure-fault-requires c κs = search needs
 
 returns : tie.Need-returns
 returns c =
     let failure-fault = c .before .failure-fault in
     let if1 = c .if1 in
     λ t g. fault-first t _ g _ _ _ _ _ ((failure-fault .ensures .0) t g) (if1 .taken)
-
-processes-requires : tie.Need-processes-requires
-processes-requires c κs = search needs
 
 returns-2 : tie.Need-returns-2
 returns-2 c =
@@ -33,24 +21,12 @@ returns-2 c =
     let if2 = c .if2 in
     λ t g. fault-count t _ g _ _ _ _ _ ((failure-fault .ensures .0) t g) (if1 .left) _ (processes .ensures .0) (if2 .taken)
 
-slice-aggregate-epochs-at : tie.Need-slice-aggregate-epochs-at
-slice-aggregate-epochs-at c = search needs
-
 epochs-at-requires : tie.Need-epochs-at-requires
 epochs-at-requires c κs =
     let pre = c .before .before .before .before .before .before .before .pre in
     let failure-fault = c .before .before .before .before .before .failure-fault in
     let if1 = c .before .before .before .before .if1 in
     (sized-less _ _ _ pre ((failure-fault .ensures .1) (if1 .left)), search needs)
-
-slice-aggregate-permitted : tie.Need-slice-aggregate-permitted
-slice-aggregate-permitted c = search needs
-
-slice-aggregate-permitted-2 : tie.Need-slice-aggregate-permitted-2
-slice-aggregate-permitted-2 c = search needs
-
-permitted-requires : tie.Need-permitted-requires
-permitted-requires c κs = search needs
 
 returns-3 : tie.Need-returns-3
 returns-3 c =
@@ -79,15 +55,4 @@ returns-4 c =
 pub line-fault-spec : {M : Type 1} → statement M
 line-fault-spec =
     tie.close
-    (tie.spec
-    failure-fault-requires
-    returns
-    processes-requires
-    returns-2
-    slice-aggregate-epochs-at
-    epochs-at-requires
-    slice-aggregate-permitted
-    slice-aggregate-permitted-2
-    permitted-requires
-    returns-3
-    returns-4)
+    (tie.spec (λ c κs. search needs) returns (λ c κs. search needs) returns-2 (λ c. search needs) epochs-at-requires (λ c. search needs) (λ c. search needs) (λ c κs. search needs) returns-3 returns-4)

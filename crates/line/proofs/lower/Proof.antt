@@ -1,13 +1,9 @@
+-- `line::lower` meets its contract: passes so far, and the last one lowered nothing; each pass that lowers takes from the sum of the numbers.
 use mathlib.Core.Path.{sym, _∙_}
 use Prim.Native.Nat.{_+_, _*_}
 use Rattle.line.proofs.Laws.{sumL, oneMore, Passing, passing-begins, passing-next, passing-less, passing-ends}
-use native.Mathlib.Omega.{arith}
-use borrow.Author.Needs.{needs}
 use Rattle.line.proofs.lower.Statement.{statement}
 use Rattle.line.proofs.lower.Tie as tie
-use Rattle.line.proofs.lower.Reads as reads
-use Rattle.line.proofs.lower.Lts as lts
-use Rattle.line.proofs.pass.Reads as pass-reads
 
 abbrev Inv-loop : tie.InvT-loop
 Inv-loop full epochs₀ cut again₀ epochs again = Passing full cut epochs₀ epochs again

@@ -1,19 +1,14 @@
+-- `line::may_stay` meets its contract: 32 and not failed.
 use Rattle.line.proofs.Faults.{stay-not, stay-may}
-use native.Mathlib.Omega.{arith}
 use borrow.Author.Needs.{needs}
 use Rattle.line.proofs.may_stay.Statement.{statement}
 use Rattle.line.proofs.may_stay.Tie as tie
-use Rattle.line.proofs.may_stay.Reads as reads
-use Rattle.line.proofs.may_stay.Lts as lts
 
 returns : tie.Need-returns
 returns c =
     let args = c .before .args in
     let if1 = c .if1 in
     stay-not (args .set) (args .z) _ (if1 .taken)
-
-shr-result : tie.Need-shr-result
-shr-result c = search needs
 
 returns-2 : tie.Need-returns-2
 returns-2 c =
@@ -22,4 +17,4 @@ returns-2 c =
     stay-may (args .set) (args .z) _ (if1 .left)
 
 pub may-stay-spec : {M : Type 1} → statement M
-may-stay-spec = tie.close (tie.spec returns shr-result returns-2)
+may-stay-spec = tie.close (tie.spec returns (λ c. search needs) returns-2)

@@ -1,10 +1,9 @@
+-- `line::names_beyond` meets its contract: by the bits past the count.
 use Rattle.line.proofs.Faults.{beyond-none, beyond-some}
 use native.Mathlib.Omega.{arith}
 use borrow.Author.Needs.{needs}
 use Rattle.line.proofs.names_beyond.Statement.{statement}
 use Rattle.line.proofs.names_beyond.Tie as tie
-use Rattle.line.proofs.names_beyond.Reads as reads
-use Rattle.line.proofs.names_beyond.Lts as lts
 
 returns : tie.Need-returns
 returns c =
@@ -12,19 +11,10 @@ returns c =
     let fits = c .before .fits in
     beyond-none _ _ (if1 .taken) (omega (arith, fits))
 
-cast-result : tie.Need-cast-result
-cast-result c = search needs
-
-cast-result-2 : tie.Need-cast-result-2
-cast-result-2 c = search needs
-
-shr-result : tie.Need-shr-result
-shr-result c = search needs
-
 returns-2 : tie.Need-returns-2
 returns-2 c =
     let args = c .before .args in
     beyond-some (args .set) (args .count)
 
 pub names-beyond-spec : {M : Type 1} → statement M
-names-beyond-spec = tie.close (tie.spec returns cast-result cast-result-2 shr-result returns-2)
+names-beyond-spec = tie.close (tie.spec returns (λ c. search needs) (λ c. search needs) (λ c. search needs) returns-2)

@@ -1,3 +1,4 @@
+-- `line::pass` meets its contract: after e turns the line and the flag are those of a pass over e events.
 use mathlib.Core.Path.{_≡_, refl, _∙_}
 use Prim.Native.Nat.{_+_, _-_, _≤_}
 use lib.ListN.{length}
@@ -7,9 +8,6 @@ use native.Mathlib.Omega.{arith}
 use borrow.Author.Needs.{needs}
 use Rattle.line.proofs.pass.Statement.{statement}
 use Rattle.line.proofs.pass.Tie as tie
-use Rattle.line.proofs.pass.Reads as reads
-use Rattle.line.proofs.pass.Lts as lts
-use Rattle.line.proofs.lower_at.Reads as lower-at-reads
 
 abbrev Inv-loop : tie.InvT-loop
 Inv-loop full epochs₀ cut any₀ e₀ epochs any e = (e ≤ cut) × (length epochs ≡ length epochs₀) × (epochs ≡ passW full epochs₀ e) × (any ≡ flagW full epochs₀ e)
@@ -21,17 +19,11 @@ loop-holds : tie.Need-loop-holds Inv-loop μ-loop
 unfolding passW flagW
 loop-holds c = (omega arith, refl, refl, refl)
 
-add-e : tie.Need-add-e Inv-loop μ-loop
-add-e c = search needs
-
 lower-at-requires : tie.Need-lower-at-requires Inv-loop μ-loop
 lower-at-requires c κs =
     let pre = c .before .before .before .before .before .pre in
     let loop = c .before .before .loop in
     ((pre .0 .whole), (loop .inv .1) ∙ (pre .1), omega (arith, (pre .0 .cut-few)), λ k. (pre .0 .matched) ((loop .e) + 1) (omega arith) (omega arith) k)
-
-loop-less : tie.Need-loop-less Inv-loop μ-loop
-loop-less c = search needs
 
 loop-again : tie.Need-loop-again Inv-loop μ-loop
 loop-again c =
@@ -40,18 +32,12 @@ loop-again c =
     let if1 = c .if1 in
     let r = pass-lowers _ _ _ _ _ _ _ (loop .inv .2) (loop .inv .3) (lower-at .ensures .0) (lower-at .ensures .1) (if1 .taken) in (omega arith, (lower-at .kept .1 .0) ∙ (loop .inv .1), r .0, r .1)
 
-loop-less-2 : tie.Need-loop-less-2 Inv-loop μ-loop
-loop-less-2 c = search needs
-
 loop-again-2 : tie.Need-loop-again-2 Inv-loop μ-loop
 loop-again-2 c =
     let loop = c .before .before .before .before .before .before .loop in
     let lower-at = c .before .before .before .lower-at in
     let if1 = c .if1 in
     let r = pass-skips _ _ _ _ _ _ _ (loop .inv .2) (loop .inv .3) (lower-at .ensures .0) (lower-at .ensures .1) (if1 .left) in (omega arith, (lower-at .kept .1 .0) ∙ (loop .inv .1), r .0, r .1)
-
-same-length : tie.Need-same-length Inv-loop μ-loop
-same-length c = search needs
 
 returns : tie.Need-returns Inv-loop μ-loop
 returns c =
@@ -62,15 +48,4 @@ returns c =
 pub pass-spec : {M : Type 1} → statement M
 pass-spec =
     tie.close
-    (tie.spec
-    Inv-loop
-    μ-loop
-    loop-holds
-    add-e
-    lower-at-requires
-    loop-less
-    loop-again
-    loop-less-2
-    loop-again-2
-    same-length
-    returns)
+    (tie.spec Inv-loop μ-loop loop-holds (λ c. search needs) lower-at-requires (λ c. search needs) loop-again (λ c. search needs) loop-again-2 (λ c. search needs) returns)

@@ -1,5 +1,6 @@
-use mathlib.Core.Path.{_≡_, refl, sym, _∙_}
-use Prim.Native.Nat.{ℕ, _+_, _-_, _≤_, _<_}
+-- `line::permitted` meets its contract: after z turns the flag is that of the first z numbers.
+use mathlib.Core.Path.{_≡_}
+use Prim.Native.Nat.{_-_, _≤_}
 use Rattle.theory.specs.Lists.{all-below}
 use Rattle.line.specs.Words.{mayW}
 use Rattle.line.proofs.Faults.{all-none, all-next}
@@ -7,10 +8,6 @@ use native.Mathlib.Omega.{arith}
 use borrow.Author.Needs.{needs}
 use Rattle.line.proofs.permitted.Statement.{statement}
 use Rattle.line.proofs.permitted.Tie as tie
-use Rattle.line.proofs.permitted.Reads as reads
-use Rattle.line.proofs.permitted.Lts as lts
-use Rattle.line.proofs.both.Reads as both-reads
-use Rattle.line.proofs.may_hold.Reads as may-hold-reads
 
 abbrev Inv-loop : tie.InvT-loop
 Inv-loop epochs numbers count set all₀ z₀ all z = (z ≤ count) × (all ≡ all-below z (mayW set epochs numbers))
@@ -20,18 +17,6 @@ abbrev μ-loop : tie.MeasureT-loop
 
 loop-holds : tie.Need-loop-holds Inv-loop μ-loop
 loop-holds c = (omega arith, all-none _)
-
-may-hold-requires : tie.Need-may-hold-requires Inv-loop μ-loop
-may-hold-requires c κs = search needs
-
-both-requires : tie.Need-both-requires Inv-loop μ-loop
-both-requires c κs = search needs
-
-add-z : tie.Need-add-z Inv-loop μ-loop
-add-z c = search needs
-
-loop-less : tie.Need-loop-less Inv-loop μ-loop
-loop-less c = search needs
 
 loop-again : tie.Need-loop-again Inv-loop μ-loop
 loop-again c =
@@ -50,13 +35,4 @@ returns c =
 pub permitted-spec : {M : Type 1} → statement M
 permitted-spec =
     tie.close
-    (tie.spec
-    Inv-loop
-    μ-loop
-    loop-holds
-    may-hold-requires
-    both-requires
-    add-z
-    loop-less
-    loop-again
-    returns)
+    (tie.spec Inv-loop μ-loop loop-holds (λ c κs. search needs) (λ c κs. search needs) (λ c. search needs) (λ c. search needs) loop-again returns)

@@ -1,6 +1,7 @@
-use mathlib.Core.Path.{_≡_, refl, sym, _∙_}
+-- `line::restarts` meets its contract: after e events the words are those of the restarts so far.
+use mathlib.Core.Path.{_≡_, sym, _∙_}
 use Prim.Native.Nat.{ℕ, _+_, _-_, _≤_, _<_}
-use lib.ListN.{length, getD, set, length-set}
+use lib.ListN.{length, getD}
 use Rattle.trace.specs.Trace.{Trace}
 use Rattle.theory.specs.Events.{size}
 use Rattle.line.specs.Given.{Tabled, lineIn}
@@ -9,20 +10,12 @@ use native.Mathlib.Omega.{arith}
 use borrow.Author.Needs.{needs}
 use Rattle.line.proofs.restarts.Statement.{statement}
 use Rattle.line.proofs.restarts.Tie as tie
-use Rattle.line.proofs.restarts.Reads as reads
-use Rattle.line.proofs.restarts.Lts as lts
-use Rattle.line.proofs.begin_restarts.Reads as begin-restarts-reads
-use Rattle.line.proofs.note_restart.Reads as note-restart-reads
-use Rattle.line.proofs.processes.Reads as processes-reads
 
 abbrev Inv-loop : tie.InvT-loop
 Inv-loop full cut gates₀ numbers e₀ gates e = (e ≤ cut) × (length gates ≡ 192) × ((t : Trace) (line : ℕ → ℕ) → Tabled t full → cut ≤ size t → ((z : ℕ) → z < t .procs → line z ≡ getD numbers z 0) → Restarting t cut line e gates)
 
 abbrev μ-loop : tie.MeasureT-loop
 μ-loop full cut gates₀ numbers e₀ gates e = cut - e
-
-slice-aggregate-begin-restarts : tie.Need-slice-aggregate-begin-restarts Inv-loop μ-loop
-slice-aggregate-begin-restarts c = search needs
 
 processes-requires : tie.Need-processes-requires Inv-loop μ-loop
 processes-requires c κs =
@@ -42,20 +35,11 @@ loop-holds c =
     let processes = c .before .before .before .before .processes in
     (omega arith, (begin-restarts .kept .1 .1 .1 .0) ∙ (pre .1), λ t line g h ln. restarting-begins t _ g _ line (args .line .epochs) ln _ _ (processes .ensures .0) (begin-restarts .ensures))
 
-add-e : tie.Need-add-e Inv-loop μ-loop
-add-e c = search needs
-
-slice-aggregate-note-restart : tie.Need-slice-aggregate-note-restart Inv-loop μ-loop
-slice-aggregate-note-restart c = search needs
-
 note-restart-requires : tie.Need-note-restart-requires Inv-loop μ-loop
 note-restart-requires c κs =
     let pre = c .before .before .before .before .before .before .before .before .before .before .before .before .before .pre in
     let loop = c .before .before .before .loop in
     ((pre .0 .whole), search needs, (loop .inv .1), omega (arith, (pre .0 .cut-few)))
-
-loop-less : tie.Need-loop-less Inv-loop μ-loop
-loop-less c = search needs
 
 loop-again : tie.Need-loop-again Inv-loop μ-loop
 loop-again c =
@@ -79,17 +63,4 @@ returns c =
 pub restarts-spec : {M : Type 1} → statement M
 restarts-spec =
     tie.close
-    (tie.spec
-    Inv-loop
-    μ-loop
-    slice-aggregate-begin-restarts
-    processes-requires
-    begin-restarts-requires
-    loop-holds
-    add-e
-    slice-aggregate-note-restart
-    note-restart-requires
-    loop-less
-    loop-again
-    same-length
-    returns)
+    (tie.spec Inv-loop μ-loop (λ c. search needs) processes-requires begin-restarts-requires loop-holds (λ c. search needs) (λ c. search needs) note-restart-requires (λ c. search needs) loop-again same-length returns)

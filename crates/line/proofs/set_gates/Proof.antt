@@ -1,15 +1,13 @@
-use mathlib.Core.Path.{_≡_, refl, sym, _∙_}
-use Prim.Native.Nat.{ℕ, _+_, _-_, _≤_, _<_}
-use lib.ListN.{length, getD, set, length-set}
+-- `line::set_gates` meets its contract: after z turns the first z phases are gates.
+use mathlib.Core.Path.{_≡_, sym, _∙_}
+use Prim.Native.Nat.{_-_, _≤_, _<_}
+use lib.ListN.{length, length-set}
 use Rattle.line.specs.Words.{Gated}
 use Rattle.line.proofs.Laws.{gated-none, gated-next}
 use native.Mathlib.Omega.{arith}
 use borrow.Author.Needs.{needs}
 use Rattle.line.proofs.set_gates.Statement.{statement}
 use Rattle.line.proofs.set_gates.Tie as tie
-use Rattle.line.proofs.set_gates.Reads as reads
-use Rattle.line.proofs.set_gates.Lts as lts
-use Rattle.line.proofs.gate.Reads as gate-reads
 
 abbrev Inv-loop : tie.InvT-loop
 Inv-loop gates₀ count z₀ gates z = (z ≤ count) × (length gates ≡ 192) × Gated z gates₀ gates
@@ -21,36 +19,6 @@ loop-holds : tie.Need-loop-holds Inv-loop μ-loop
 loop-holds c =
     let pre = c .before .pre in
     (omega arith, (pre .0), gated-none _)
-
-add-gate : tie.Need-add-gate Inv-loop μ-loop
-add-gate c = search needs
-
-mul-gate : tie.Need-mul-gate Inv-loop μ-loop
-mul-gate c = search needs
-
-slice-read-gate : tie.Need-slice-read-gate Inv-loop μ-loop
-slice-read-gate c = search needs
-
-mul-gate-2 : tie.Need-mul-gate-2 Inv-loop μ-loop
-mul-gate-2 c = search needs
-
-slice-read-gate-2 : tie.Need-slice-read-gate-2 Inv-loop μ-loop
-slice-read-gate-2 c = search needs
-
-gate-requires : tie.Need-gate-requires Inv-loop μ-loop
-gate-requires c κs = search needs
-
-mul-gates : tie.Need-mul-gates Inv-loop μ-loop
-mul-gates c = search needs
-
-slice-write-gates : tie.Need-slice-write-gates Inv-loop μ-loop
-slice-write-gates c = search needs
-
-add-z : tie.Need-add-z Inv-loop μ-loop
-add-z c = search needs
-
-loop-less : tie.Need-loop-less Inv-loop μ-loop
-loop-less c = search needs
 
 loop-again : tie.Need-loop-again Inv-loop μ-loop
 loop-again c =
@@ -74,20 +42,4 @@ returns c =
 pub set-gates-spec : {M : Type 1} → statement M
 set-gates-spec =
     tie.close
-    (tie.spec
-    Inv-loop
-    μ-loop
-    loop-holds
-    add-gate
-    mul-gate
-    slice-read-gate
-    mul-gate-2
-    slice-read-gate-2
-    gate-requires
-    mul-gates
-    slice-write-gates
-    add-z
-    loop-less
-    loop-again
-    same-length
-    returns)
+    (tie.spec Inv-loop μ-loop loop-holds (λ c. search needs) (λ c. search needs) (λ c. search needs) (λ c. search needs) (λ c. search needs) (λ c κs. search needs) (λ c. search needs) (λ c. search needs) (λ c. search needs) (λ c. search needs) loop-again same-length returns)

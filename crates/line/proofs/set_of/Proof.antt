@@ -1,3 +1,4 @@
+-- `line::set_of` meets its contract: after each turn the set is that of the numbers from i on.
 use mathlib.Core.Path.{_≡_, sym, ap, _∙_}
 use Prim.Native.Nat.{ℕ, _≤_}
 use lib.ListN.{length, drop}
@@ -8,8 +9,6 @@ use native.Mathlib.Omega.{arith}
 use borrow.Author.Needs.{needs}
 use Rattle.line.proofs.set_of.Statement.{statement}
 use Rattle.line.proofs.set_of.Tie as tie
-use Rattle.line.proofs.set_of.Reads as reads
-use Rattle.line.proofs.set_of.Lts as lts
 
 abbrev Inv-loop : tie.InvT-loop
 Inv-loop numbers set₀ i₀ set i = (i ≤ length numbers) × (set ≡ backOf (drop i numbers))
@@ -23,20 +22,11 @@ loop-holds c =
     let args = c .args in
     (search needs, sym (ap backOf (drop-length (args .numbers .now))))
 
-sub-i : tie.Need-sub-i Inv-loop μ-loop
-sub-i c = search needs
-
 mul-set : tie.Need-mul-set Inv-loop μ-loop
 mul-set c =
     let loop = c .before .loop in
     let pre = c .before .before .pre in
     omega (arith, back-fits _ _ _ (omega arith) (loop .inv .0) (loop .inv .1) pre)
-
-mul-if1 : tie.Need-mul-if1 Inv-loop μ-loop
-mul-if1 c = search needs
-
-shared-slice-read-if1 : tie.Need-shared-slice-read-if1 Inv-loop μ-loop
-shared-slice-read-if1 c = search needs
 
 add-set : tie.Need-add-set Inv-loop μ-loop
 add-set c =
@@ -44,17 +34,11 @@ add-set c =
     let pre = c .before .before .before .before .pre in
     omega (arith, back-fits _ _ _ (omega arith) (loop .inv .0) (loop .inv .1) pre)
 
-loop-less : tie.Need-loop-less Inv-loop μ-loop
-loop-less c = search needs
-
 loop-again : tie.Need-loop-again Inv-loop μ-loop
 loop-again c =
     let loop = c .before .before .before .loop in
     let if1 = c .if1 in
     (omega arith, back-in _ _ _ (omega arith) (loop .inv .0) (loop .inv .1) (if1 .taken))
-
-loop-less-2 : tie.Need-loop-less-2 Inv-loop μ-loop
-loop-less-2 c = search needs
 
 loop-again-2 : tie.Need-loop-again-2 Inv-loop μ-loop
 loop-again-2 c =
@@ -71,17 +55,4 @@ returns c =
 pub set-of-spec : {M : Type 1} → statement M
 set-of-spec =
     tie.close
-    (tie.spec
-    Inv-loop
-    μ-loop
-    loop-holds
-    sub-i
-    mul-set
-    mul-if1
-    shared-slice-read-if1
-    add-set
-    loop-less
-    loop-again
-    loop-less-2
-    loop-again-2
-    returns)
+    (tie.spec Inv-loop μ-loop loop-holds (λ c. search needs) mul-set (λ c. search needs) (λ c. search needs) add-set (λ c. search needs) loop-again (λ c. search needs) loop-again-2 returns)

@@ -1,16 +1,8 @@
+-- `line::stays` meets its contract: by the count and the number.
 use Rattle.line.proofs.Laws.{stays-below, stays-past}
-use native.Mathlib.Omega.{arith}
 use borrow.Author.Needs.{needs}
 use Rattle.line.proofs.stays.Statement.{statement}
 use Rattle.line.proofs.stays.Tie as tie
-use Rattle.line.proofs.stays.Reads as reads
-use Rattle.line.proofs.stays.Lts as lts
-
-mul-result : tie.Need-mul-result
-mul-result c = search needs
-
-shared-slice-read-result : tie.Need-shared-slice-read-result
-shared-slice-read-result c = search needs
 
 returns : tie.Need-returns
 returns c =
@@ -25,4 +17,4 @@ returns-2 c =
     stays-past (args .numbers .now) _ _ (if1 .left)
 
 pub stays-spec : {M : Type 1} → statement M
-stays-spec = tie.close (tie.spec mul-result shared-slice-read-result returns returns-2)
+stays-spec = tie.close (tie.spec (λ c. search needs) (λ c. search needs) returns returns-2)
