@@ -370,7 +370,7 @@ pub fn read_failure(text: &[u8], table: &mut [u32]) -> FailureAnswer
     ensures answer { λ r. ⌜ r ≡ failureAnswer (now (text .entry)) (now (table .entry)) ⌝ }
     ensures words { λ _. ⌜ now (table .exit) ≡ failureArea (now (text .entry)) (now (table .entry)) ⌝ }
 {
-    if table.len() < AREA_WORDS {
+    if AREA_WORDS > table.len() {
         return FailureAnswer {
             number: 12,
             place: 0,

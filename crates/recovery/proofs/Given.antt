@@ -30,12 +30,9 @@ use Rattle.line.proofs.Table.{sized, size-is}
 use Rattle.simulation.specs.Related.{Gated}
 use Rattle.replay.specs.Given.{Given}
 
--- `tabulate` on a fresh table says whether the area holds a trace
-fresh : eqb (length (replicate {A = ℕ} 16384 0)) 16384 ≡ true
-fresh = eq-eqb (length (replicate {A = ℕ} 16384 0)) 16384 (length-replicate {A = ℕ} 16384 0)
-
-pub tabled-holds : (a : List ℕ) (r : Bool) → r ≡ (eqb (length (replicate {A = ℕ} 16384 0)) areaWords && holdsTrace a) → r ≡ holdsTrace a
-tabled-holds a r e = e ∙ ap (λ (b : Bool). b && holdsTrace a) fresh
+-- `tabulate` on a table of 16,384 words says whether the area holds a trace
+pub tabled-holds : (a full : List ℕ) (r : Bool) → length full ≡ areaWords → r ≡ (eqb (length full) areaWords && holdsTrace a) → r ≡ holdsTrace a
+tabled-holds a full r l e = e ∙ ap (λ (b : Bool). b && holdsTrace a) (eq-eqb (length full) 16384 l)
 
 module _ (a full : List ℕ) (h : holdsTrace a ≡ true) (C : Columns (held a) full) where
   pub tabled : Tabled (held a) full

@@ -1,20 +1,23 @@
 -- What the public functions of recovery answer and leave, for every input (document 01, "Numbers given by whoever causes them": the order is
 -- 12, 13, 8, 9, 10, 11; "In a refused answer every other number is 0 and every yes or no is no"; "Other refusals change nothing").
 use Prim.Native.Nat.{ℕ}
-use mathlib.Core.Bool.{Bool, false, not}
+use mathlib.Core.Path.{_≡_}
+use mathlib.Core.Logic.{_↔_}
+use mathlib.Core.Bool.{true, false, not}
 use mathlib.Core.List.{List, _++_}
-use lib.ListN.{length, drop}
+use lib.ListN.{length, take, drop}
 use lib.Dec.{ltb, eqb}
-use Rattle.words.specs.Area.{areaWords}
+use Rattle.words.specs.Area.{areaWords, wordsFrom}
 use Rattle.trace.specs.Fit.{orElse}
 use Rattle.table.specs.Held.{held, holdsTrace}
 use Rattle.theory.specs.Lists.{pick}
 use Rattle.theory.specs.Epochs.{past}
-use Rattle.theory.specs.Line.{Run, recorded}
-use Rattle.theory.specs.Order.{run, lowestOrder}
+use Rattle.theory.specs.Line.{Run, recorded, LossFree}
+use Rattle.theory.specs.Order.{run}
 use Rattle.theory.specs.Refusals.{lineFault}
 use Rattle.line.specs.declared.Line.{Line}
 use Rattle.line.specs.Given.{lineIn}
+use Rattle.simulation.specs.Record.{faultlessAt}
 use Rattle.replay.specs.declared.Replayed.{Replayed}
 use Rattle.replay.specs.Answer.{answerOf, wordsOf}
 
@@ -22,11 +25,11 @@ use Rattle.replay.specs.Answer.{answerOf, wordsOf}
 abbrev pub runOf : List ℕ → ℕ → Line → Run
 runOf a step l = recorded (held a) past step (lineIn l)
 
--- what is wrong with the areas, the failure and the line: 12, 13, 8, 9, 10, or 0
-unfoldable pub replayFault : List ℕ → List ℕ → ℕ → ℕ → Line → ℕ
-replayFault a area step set l =
+-- what is wrong with the areas (`room` is how many words the run area has), the failure and the line: 12, 13, 8, 9, 10, or 0
+unfoldable pub faultOf : List ℕ → ℕ → ℕ → ℕ → Line → ℕ
+faultOf a room step set l =
     orElse (ltb (length a) areaWords) 12
-    (orElse (ltb (length area) areaWords) 12
+    (orElse (ltb room areaWords) 12
     (orElse (not (holdsTrace a)) 13
     (lineFault (held a) step set (l .count) (lineIn l))))
 
@@ -36,8 +39,13 @@ refusal n = record { number = n; place = 0; steps = 0; complete = false }
 -- an order carried out from a line, by the theory's machine: answer and run area. After 11 its first 16,384 words are zero.
 unfoldable pub replayAnswer : List ℕ → List ℕ → ℕ → ℕ → Line → List ℕ → Replayed
 replayAnswer a area step set l order =
-    pick (eqb (replayFault a area step set l) 0) (answerOf (runOf a step l) (run (runOf a step l) order) (length order)) (refusal (replayFault a area step set l))
+    pick (eqb (faultOf a (length area) step set l) 0) (answerOf (runOf a step l) (run (runOf a step l) order) (length order)) (refusal (faultOf a (length area) step set l))
 
 unfoldable pub replayArea : List ℕ → List ℕ → ℕ → ℕ → Line → List ℕ → List ℕ
 replayArea a area step set l order =
-    pick (eqb (replayFault a area step set l) 0) (wordsOf (runOf a step l) (run (runOf a step l) order) ++ drop areaWords area) area
+    pick (eqb (faultOf a (length area) step set l) 0) (wordsOf (runOf a step l) (run (runOf a step l) order) ++ drop areaWords area) area
+
+-- Demand 3: after a complete order the record in the run area is that of the run without failure exactly if the line loses no message.
+abbrev pub Equal : List ℕ → ℕ → Line → Replayed → List ℕ → Type 0
+Equal a step l r w =
+    r .number ≡ 0 → r .complete ≡ true → (take areaWords w ≡ wordsFrom (faultlessAt (held a)) 0 areaWords) ↔ LossFree (runOf a step l)

@@ -1,18 +1,11 @@
 // Recovery: a table area, a failure, a recovery line and an order of choices, answered and carried out. specs/Answers says what each
 // function answers and leaves, for every input; no public function has a `requires`. Assumes nothing.
 ghost use mathlib.Core.Path.{_≡_};
-ghost use mathlib.Core.Logic.{_↔_};
-ghost use mathlib.Core.Bool.{true};
-ghost use mathlib.Core.List.{List, []};
-ghost use Prim.Native.Nat.{ℕ};
-ghost use lib.ListN.{take};
-ghost use Rattle.words.specs.Area.{areaWords, wordsFrom};
-ghost use Rattle.table.specs.Held.{held};
-ghost use Rattle.theory.specs.Line.{LossFree};
-ghost use Rattle.theory.specs.Replay.{State};
-ghost use Rattle.theory.specs.Order.{carriedOut, run};
-ghost use Rattle.simulation.specs.Record.{faultlessAt};
-ghost use Rattle.recovery.specs.Answers.{runOf, refusal, replayAnswer, replayArea};
+ghost use lib.ListN.{length};
+ghost use Rattle.words.specs.Area.{areaWords};
+ghost use Rattle.theory.specs.Order.{lowestOrder};
+ghost use Rattle.recovery.specs.Answers.{runOf, faultOf, refusal, replayAnswer, replayArea, Equal};
+ghost use Rattle.recovery.specs.Prepared.{Prepared};
 use line::Line;
 use replay::Replayed;
 use words::AREA_WORDS;
@@ -28,6 +21,38 @@ fn refused(number: u32) -> Replayed
     }
 }
 
+// Checks what a call is given: 12, 13, 8, 9, 10, or 0. Where nothing is wrong, fills the full table of the trace and the gates of the line.
+fn prepare(
+    table: &[u32],
+    room: usize,
+    step: u64,
+    set: u64,
+    line: Line,
+    full: &mut [u32],
+    gates: &mut [u32],
+) -> u32
+    requires { ⌜ (length (now full) ≡ areaWords) × (length (now gates) ≡ 192) ⌝ }
+    ensures fault { λ r. ⌜ r ≡ faultOf (now (table .entry)) room step set line ⌝ }
+    ensures given { λ r. ⌜ (r ≡ 0 → Prepared (now (table .entry)) step set line (now (full .exit)) (now (gates .exit))) ⌝ }
+{
+    if table.len() < AREA_WORDS {
+        return 12;
+    }
+    if room < AREA_WORDS {
+        return 12;
+    }
+    if protocol::tabulate(table, full) {
+        let fault = line::line_fault(full, step, set, line);
+        if fault != 0 {
+            return fault;
+        }
+        line::gates(full, line, step as usize, gates);
+        0
+    } else {
+        13
+    }
+}
+
 // Carries out an order of choices from a line: the answer, and in the run area the delivery record of exactly this order.
 pub fn replay(
     table: &[u32],
@@ -39,25 +64,28 @@ pub fn replay(
 ) -> Replayed
     ensures answer { λ r. ⌜ r ≡ replayAnswer (now (table .entry)) (now (area .entry)) step set line (now (order .entry)) ⌝ }
     ensures words { λ _. ⌜ now (area .exit) ≡ replayArea (now (table .entry)) (now (area .entry)) step set line (now (order .entry)) ⌝ }
-    ensures equal { λ r. ⌜ (r .number ≡ 0 → r .complete ≡ true → (take areaWords (now (area .exit)) ≡ wordsFrom (faultlessAt (held (now (table .entry)))) 0 areaWords) ↔ LossFree (runOf (now (table .entry)) step line)) ⌝ }
+    ensures equal { λ r. ⌜ Equal (now (table .entry)) step line r (now (area .exit)) ⌝ }
 {
-    if table.len() < AREA_WORDS {
-        return refused(12);
-    }
-    if area.len() < AREA_WORDS {
-        return refused(12);
-    }
     let mut full = [0u32; AREA_WORDS];
-    if protocol::tabulate(table, &mut full) {
-        let fault = line::line_fault(&full, step, set, line);
-        if fault != 0 {
-            return refused(fault);
-        }
-        let cut = step as usize;
-        let mut gates = [0u32; line::GATE_WORDS];
-        line::gates(&full, line, cut, &mut gates);
-        replay::replay(&full, &gates, order, &mut area[..AREA_WORDS], cut)
-    } else {
-        refused(13)
+    let mut gates = [0u32; line::GATE_WORDS];
+    let fault = prepare(table, area.len(), step, set, line, &mut full, &mut gates);
+    if fault != 0 {
+        return refused(fault);
     }
+    replay::replay(&full, &gates, order, &mut area[..AREA_WORDS], step as usize)
+}
+
+// The same for the order that always takes the lowest allowed choice.
+pub fn lowest(table: &[u32], step: u64, set: u64, line: Line, area: &mut [u32]) -> Replayed
+    ensures answer { λ r. ⌜ r ≡ replayAnswer (now (table .entry)) (now (area .entry)) step set line (lowestOrder (runOf (now (table .entry)) step line)) ⌝ }
+    ensures words { λ _. ⌜ now (area .exit) ≡ replayArea (now (table .entry)) (now (area .entry)) step set line (lowestOrder (runOf (now (table .entry)) step line)) ⌝ }
+    ensures equal { λ r. ⌜ Equal (now (table .entry)) step line r (now (area .exit)) ⌝ }
+{
+    let mut full = [0u32; AREA_WORDS];
+    let mut gates = [0u32; line::GATE_WORDS];
+    let fault = prepare(table, area.len(), step, set, line, &mut full, &mut gates);
+    if fault != 0 {
+        return refused(fault);
+    }
+    replay::lowest(&full, &gates, &mut area[..AREA_WORDS], step as usize)
 }

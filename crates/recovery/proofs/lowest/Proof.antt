@@ -1,0 +1,56 @@
+-- `recovery::lowest` meets its contract: a refusal changes nothing; otherwise the first 16,384 words are lent on.
+use mathlib.Core.Path.{_≡_, sym, _∙_}
+use lib.ListN.{length}
+use lib.Seq.{length-take-le}
+use Rattle.words.specs.Area.{areaWords}
+use Rattle.table.specs.Held.{held}
+use Rattle.theory.specs.Order.{lowestOrder}
+use Rattle.line.specs.Given.{lineIn}
+use Rattle.recovery.specs.Answers.{runOf}
+use Rattle.recovery.proofs.Replaying.{refuses, carried, room-enough}
+use native.Mathlib.Omega.{arith}
+use borrow.Author.Needs.{needs}
+use Rattle.recovery.proofs.lowest.Statement.{statement}
+use Rattle.recovery.proofs.lowest.Tie as tie
+
+returns : tie.Need-returns
+returns c =
+    let args = c .before .before .before .before .before .before .before .before .before .args in
+    let prepare = c .before .before .before .before .prepare in
+    let if1 = c .before .if1 in
+    let refused = c .refused in
+    refuses (args .table .now) (args .area .now) (args .step) (args .set) (args .line) (lowestOrder (runOf (args .table .now) (args .step) (args .line))) _ _ (prepare .ensures .0) (if1 .taken) (refused .ensures)
+
+slice-relend-prefix-lowest : tie.Need-slice-relend-prefix-lowest
+slice-relend-prefix-lowest c =
+    let args = c .before .before .before .before .before .before .before .before .before .before .args in
+    let if1 = c .before .before .if1 in
+    let prepare = c .before .before .before .before .before .prepare in
+    room-enough (args .table .now) (length (args .area .now)) (args .step) (args .set) (args .line) (sym (if1 .left) ∙ (prepare .ensures .0))
+
+slice-aggregate-lowest-3 : tie.Need-slice-aggregate-lowest-3
+slice-aggregate-lowest-3 c =
+    let args = c .before .before .before .before .before .before .before .before .before .before .before .args in
+    let if1 = c .before .before .before .if1 in
+    let prepare = c .before .before .before .before .before .before .prepare in
+    sym (length-take-le areaWords (args .area .now) (room-enough (args .table .now) (length (args .area .now)) (args .step) (args .set) (args .line) (sym (if1 .left) ∙ (prepare .ensures .0))))
+
+lowest-requires : tie.Need-lowest-requires
+lowest-requires c κs =
+    let args = c .before .before .before .before .before .before .before .before .before .before .before .args in
+    let if1 = c .before .before .before .if1 in
+    let prepare = c .before .before .before .before .before .before .prepare in
+    (length-take-le areaWords (args .area .now) (room-enough (args .table .now) (length (args .area .now)) (args .step) (args .set) (args .line) (sym (if1 .left) ∙ (prepare .ensures .0))), search needs, (held (args .table .now), lineIn (args .line), ((prepare .ensures .1) (if1 .left)) .given))
+
+returns-2 : tie.Need-returns-2
+returns-2 c =
+    let args = c .before .before .before .before .before .before .before .before .before .before .before .before .before .before .args in
+    let prepare = c .before .before .before .before .before .before .before .before .before .prepare in
+    let if1 = c .before .before .before .before .before .before .if1 in
+    let lowest = c .before .before .lowest in
+    carried (args .table .now) (args .area .now) (args .step) (args .set) (args .line) (lowestOrder (runOf (args .table .now) (args .step) (args .line))) _ _ ((prepare .ensures .1) (if1 .left)) _ _ _ (prepare .ensures .0) (if1 .left) ((lowest .ensures .0) (held (args .table .now)) (lineIn (args .line)) (((prepare .ensures .1) (if1 .left)) .given)) ((lowest .ensures .1) (held (args .table .now)) (lineIn (args .line)) (((prepare .ensures .1) (if1 .left)) .given))
+
+pub lowest-spec : {M : Type 1} → statement M
+lowest-spec =
+    tie.close
+    (tie.spec (λ c. search needs) (λ c. search needs) (λ c κs. search needs) (λ c κs. search needs) returns (λ c. search needs) (λ c. search needs) slice-relend-prefix-lowest slice-aggregate-lowest-3 lowest-requires (λ c. search needs) returns-2)
