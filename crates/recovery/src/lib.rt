@@ -6,6 +6,7 @@ ghost use Rattle.words.specs.Area.{areaWords};
 ghost use Rattle.theory.specs.Order.{lowestOrder};
 ghost use Rattle.recovery.specs.Answers.{runOf, faultOf, refusal, replayAnswer, replayArea, Equal};
 ghost use Rattle.recovery.specs.Prepared.{Prepared};
+ghost use Rattle.recovery.specs.Messages.{messagesRefusal, messagesAnswer, messagesArea};
 use line::Line;
 use replay::Replayed;
 use words::AREA_WORDS;
@@ -88,4 +89,54 @@ pub fn lowest(table: &[u32], step: u64, set: u64, line: Line, area: &mut [u32]) 
         return refused(fault);
     }
     replay::lowest(&full, &gates, &mut area[..AREA_WORDS], step as usize)
+}
+
+// How many messages of each class a line leaves.
+pub struct Counted {
+    pub number: u32,
+    pub place: usize,
+    pub orphans: u32,
+    pub kept: u32,
+    pub lost: u32,
+}
+
+fn no_messages(number: u32) -> Counted
+    ensures { λ r. ⌜ r ≡ messagesRefusal number ⌝ }
+{
+    Counted {
+        number: number,
+        place: 0,
+        orphans: 0,
+        kept: 0,
+        lost: 0,
+    }
+}
+
+// Where the restarts of the processes begin in the gates.
+const RESTARTS: usize = 64;
+
+// The orphans, kept and lost messages of a line: how many there are, and their list in the run area.
+pub fn messages(table: &[u32], step: u64, set: u64, line: Line, area: &mut [u32]) -> Counted
+    ensures answer { λ r. ⌜ r ≡ messagesAnswer (now (table .entry)) (now (area .entry)) step set line ⌝ }
+    ensures words { λ _. ⌜ now (area .exit) ≡ messagesArea (now (table .entry)) (now (area .entry)) step set line ⌝ }
+{
+    let mut full = [0u32; AREA_WORDS];
+    let mut gates = [0u32; line::GATE_WORDS];
+    let fault = prepare(table, area.len(), step, set, line, &mut full, &mut gates);
+    if fault != 0 {
+        return no_messages(fault);
+    }
+    classes::list(
+        &full,
+        &gates[RESTARTS..],
+        step as u32,
+        &mut area[..AREA_WORDS],
+    );
+    Counted {
+        number: 0,
+        place: 0,
+        orphans: area[0],
+        kept: area[1],
+        lost: area[2],
+    }
 }
