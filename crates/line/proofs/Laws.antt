@@ -13,6 +13,7 @@ use Rattle.words.proofs.Cases.{by-bool, by-lt, by-eq, clash, and-left, and-righ
 use Rattle.theory.specs.Lists.{pick}
 use Rattle.theory.specs.Line.{inSet}
 use Rattle.line.specs.Words.{atW, peerW, kindW, epochW, phaseW, matchW, lostE, lostW, lowerAt, passW, flagW, passes, Lowered, Planes, staysW, restartW, gateW, Gated}
+use Rattle.theory.proofs.Refusals.{neither}
 
 -- ---- `lower_at`
 
@@ -139,15 +140,12 @@ pass-sum t m (suc x) l =
     )
 
 -- a pass that lowers nothing leaves the line, and no event of it receives a lost message
-or-false : (a b : Bool) → (a || b) ≡ false → (a ≡ false) × (b ≡ false)
-or-false true b h = clash {b = true} refl h
-or-false false b h = (refl, h)
 
 pub pass-same : (t m : List ℕ) (x : ℕ) → flagW t m x ≡ false → (passW t m x ≡ m) × ((e : ℕ) → 0 < e → e ≤ x → lostW t m e ≡ false)
 unfolding passW flagW lowerAt
 pass-same t m zero f = (refl, λ e a b. absurd (let z : ⊥ = omega arith in z))
 pass-same t m (suc x) f =
-    let o = or-false (flagW t m x) (lostW t (passW t m x) (suc x)) f in
+    let o = neither (flagW t m x) (lostW t (passW t m x) (suc x)) f in
     let ih = pass-same t m x (o .0) in
     let l : lostW t m (suc x) ≡ false = subst (λ y. lostW t y (suc x) ≡ false) (ih .0) (o .1) in
     (rw (o .1) (ih .0), λ e a b. by-lt x e (λ c. let i : e ≡ suc x = omega arith in rw i l) (λ c. ih .1 e a c))

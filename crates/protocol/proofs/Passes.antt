@@ -216,7 +216,7 @@ copied-filled a full h l c =
     (λ k q. getD-set-other full 6163 k 0 0 (λ z. omega arith) ∙ c k q ∙ held-word a h k (omega arith))
     (getD-set-same full 6163 0 0 (omega arith))
 
-zero-word : (n k : ℕ) → _≡_ {A = ℕ} (getD (replicate n 0) k 0) 0
+pub zero-word : (n k : ℕ) → _≡_ {A = ℕ} (getD (replicate n 0) k 0) 0
 zero-word n k =
     by-lt k n
     (λ h. getD-replicate {A = ℕ} n k 0 0 h)

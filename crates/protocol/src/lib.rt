@@ -2,7 +2,7 @@
 // that it is matched with, computed in one pass over the events. specs/Columns says what each column means; proofs/Claims that the
 // laws of a recorded run follow. No public function has a `requires`. Assumes nothing.
 ghost use mathlib.Core.Path.{_≡_};
-ghost use mathlib.Core.Bool.{true, _&&_};
+ghost use mathlib.Core.Bool.{true, false, _&&_};
 ghost use Prim.Native.Nat.{ℕ, max, _+_, _*_, _≤_, _<_};
 ghost use lib.Dec.{ltb, eqb};
 ghost use lib.ListN.{length, getD, set};
@@ -194,6 +194,7 @@ fn fill(area: &[u32], full: &mut [u32], work: &mut [u32])
 pub fn tabulate(area: &[u32], full: &mut [u32]) -> bool
     ensures answer { λ r. ⌜ r ≡ (eqb (length (now (full .entry))) areaWords && holdsTrace (now (area .entry))) ⌝ }
     ensures columns { λ r. ⌜ (r ≡ true → Columns (held (now (area .entry))) (now (full .exit))) ⌝ }
+    ensures untouched { λ r. ⌜ (r ≡ false → now (full .exit) ≡ now (full .entry)) ⌝ }
 {
     if full.len() != AREA_WORDS {
         return false;

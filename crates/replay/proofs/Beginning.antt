@@ -29,11 +29,7 @@ use Rattle.replay.specs.declared.Replayed.{Replayed}
 use Rattle.replay.specs.Answer.{answerOf, wordsOf}
 use Rattle.replay.specs.Given.{Given}
 use Rattle.replay.specs.Shapes.{PairedTo, Linkable}
-
-getD-zeros : (n k : ℕ) → _≡_ {A = ℕ} (getD (replicate n 0) k 0) 0
-getD-zeros zero k = refl
-getD-zeros (suc n) zero = refl
-getD-zeros (suc n) (suc k) = getD-zeros n k
+use Rattle.protocol.proofs.Passes.{zero-word}
 
 pub zeros : (a b : List ℕ) → length a ≡ areaWords → b ≡ replicate (length a) 0 → b ≡ replicate areaWords 0
 zeros a b h e = e ∙ ap (λ n. replicate n 0) h
@@ -99,10 +95,10 @@ module _ (t : Trace) (line : ℕ → ℕ) (cut : ℕ) (full gates : List ℕ) (H
     a-long = rw ea (length-replicate {A = ℕ} 16384 0)
 
     l-zero : (k : ℕ) → getD l k 0 ≡ 0
-    l-zero k = rw el (getD-zeros 8200 k)
+    l-zero k = rw el (zero-word 8200 k)
 
     a-zero : (k : ℕ) → getD a k 0 ≡ 0
-    a-zero k = rw ea (getD-zeros 16384 k)
+    a-zero k = rw ea (zero-word 16384 k)
 
     pub begun : Started R full (linksOf (getD full 1 0)) gates (beginA full (wordsAt (getD full 1 0)))
     begun = rw count (started t (H .formed) full (H .columns) cut line (H .cut-le) gates (H .gated) l a l-long a-long l-zero a-zero)

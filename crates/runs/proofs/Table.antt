@@ -45,7 +45,7 @@ Of (given f) P = P f
 
 -- a line is the greatest of a failure
 abbrev pub GreatestOf : List ℕ → Failure → Type 0
-GreatestOf l f = Greatest (f .trace) past (f .step) (reached (f .trace) past (f .step)) (inSet (f .set)) (lineOf l)
+GreatestOf l f = Greatest (f .trace) past (f .step) (reached (f .trace) past (f .step)) (inSet (f .failed)) (lineOf l)
 
 -- an order of so many steps that is complete and leaves the record of the run without failure
 abbrev pub completed : ℕ → Answer Replayed
@@ -76,7 +76,7 @@ abbrev pub R1 : Type 0
 R1 =
     (printed textH ≡ linesOf printed1)
     × (verdict (linesOf linesH) ≡ accepted traceH)
-    × (failureOf textH ≡ given (record { trace = traceH; step = 9; set = 2 }))
+    × (failureOf textH ≡ given (record { trace = traceH; step = 9; failed = 2 }))
     × (recovery textH ≡ given recovery1)
 
 r1 : R1
@@ -96,7 +96,7 @@ abbrev pub R3 : Type 0
 R3 = (losses textH (1 ∷ 1 ∷ 32 ∷ []) ≡ given []) × Of (failureOf textH) (λ f. GreatestOf (1 ∷ 1 ∷ 32 ∷ []) f → ⊥)
 
 -- the greatest has 2 for process 0, and there is one only
-not-greatest : GreatestOf (1 ∷ 1 ∷ 32 ∷ []) (record { trace = traceH; step = 9; set = 2 }) → ⊥
+not-greatest : GreatestOf (1 ∷ 1 ∷ 32 ∷ []) (record { trace = traceH; step = 9; failed = 2 }) → ⊥
 unfolding opens
 not-greatest g =
     let w : wellFormed traceH ≡ true = refl in

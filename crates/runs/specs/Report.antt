@@ -32,16 +32,16 @@ unless (suc n) a = refused (suc n) 0
 pub record Failure : Type 0 where
   pub trace : Trace
   pub step : ℕ
-  pub set : ℕ
+  pub failed : ℕ
 
 abbrev pub failureIn : Failing → Answer Failure
 failureIn (Failing.refused n k) = refused n k
-failureIn (Failing.failing t step set) = given (record { trace = t; step = step; set = set })
+failureIn (Failing.failing t step set) = given (record { trace = t; step = step; failed = set })
 
 -- where the text is fit, 8 and 9
 abbrev pub checked : Answer Failure → Answer Failure
 checked (refused n k) = refused n k
-checked (given f) = unless (failureFault (f .trace) (f .step) (f .set)) (given f)
+checked (given f) = unless (failureFault (f .trace) (f .step) (f .failed)) (given f)
 
 unfoldable pub failureOf : List ℕ → Answer Failure
 failureOf text = checked (failureIn (lastFailure text))
@@ -58,7 +58,7 @@ runOf f l = recorded (f .trace) past (f .step) (lineOf l)
 
 -- what is wrong with a line, where the failure is fit: 10, or 0
 abbrev pub fault : Failure → List ℕ → ℕ
-fault f l = lineFault (f .trace) (f .step) (f .set) (length l) (lineOf l)
+fault f l = lineFault (f .trace) (f .step) (f .failed) (length l) (lineOf l)
 
 unfoldable pub losses : List ℕ → List ℕ → Answer (List Listed)
 losses text l = then (failureOf text) (λ f. unless (fault f l) (given (lostOnes (runOf f l))))
@@ -94,7 +94,7 @@ abbrev pub tabled : (ℕ → ℕ) → ℕ → List ℕ
 tabled f n = gather (λ z. f z ∷ []) n
 
 unfoldable pub engineLine : Failure → List ℕ
-engineLine f = tabled (greatestLine (f .trace) past (f .step) (reached (f .trace) past (f .step)) (inSet (f .set))) (f .trace .procs)
+engineLine f = tabled (greatestLine (f .trace) past (f .step) (reached (f .trace) past (f .step)) (inSet (f .failed))) (f .trace .procs)
 
 -- "back is its size", that of the set of processes that go back; "Steps are those of the order that always picks the lowest allowed choice."
 unfoldable pub recoveryBy : Failure → List ℕ → Recovery

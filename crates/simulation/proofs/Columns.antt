@@ -32,17 +32,10 @@ use Rattle.simulation.specs.Related.{recordEnd, goes, drops, orph, numbe
 use Rattle.simulation.specs.Record.{receivedNumber, receivedValue, faultlessAt}
 use Rattle.simulation.specs.Linking.{atW, epochW, pairW, backW, doneW, mineW, orphanW, goesW, earlyW}
 use Rattle.simulation.specs.Linked.{mine}
+use Rattle.simulation.proofs.Linking.{and-true, and-false}
 use Rattle.simulation.proofs.Passes.{Tested}
 use Rattle.simulation.proofs.Records.{no-event}
 use Rattle.simulation.proofs.Matches.{upTo, goes-test, orphan-test, slot-start}
-
-and-true : (b : Bool) → (b && true) ≡ b
-and-true true = refl
-and-true false = refl
-
-and-false : (b : Bool) → (b && false) ≡ false
-and-false true = refl
-and-false false = refl
 
 -- ---- The words of an event
 

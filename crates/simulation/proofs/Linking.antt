@@ -20,6 +20,14 @@ use Rattle.simulation.specs.Related.{head0, recordEnd, goes, evs, orph, 
 use Rattle.simulation.specs.Linking.{chainA}
 use Rattle.simulation.specs.Linked.{mine, rest, Chained}
 
+pub and-true : (b : Bool) → (b && true) ≡ b
+and-true true = refl
+and-true false = refl
+
+pub and-false : (b : Bool) → (b && false) ≡ false
+and-false true = refl
+and-false false = refl
+
 far-A : (b : Bool) (a : List ℕ) (k v j : ℕ) → j ≢ k → getD (chainA b a k v) j 0 ≡ getD a j 0
 unfolding chainA
 far-A true a k v j n = getD-set-other a k j v 0 n
@@ -130,14 +138,6 @@ module _ (R : Run) where
         rw (t, i, g, Q .is-mine) (and-true (ltb (R .restart z) e)))
         (λ t. let g : eqb y (at (R .trace) e) ≡ false = ne-eqb y (at (R .trace) e) (λ w. eqb-false y z t (w ∙ Q .at-is)) in
         rw (t, g) (and-false (ltb (R .restart y) e)))
-      where
-        and-true : (b : Bool) → (b && true) ≡ b
-        and-true true = refl
-        and-true false = refl
-
-        and-false : (b : Bool) → (b && false) ≡ false
-        and-false true = refl
-        and-false false = refl
 
     orph-is : (y : ℕ) → (mine R y e && orph R y e) ≡ (eqb y z && f₂)
     orph-is y = by (eqb y z)

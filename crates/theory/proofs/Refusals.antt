@@ -74,7 +74,7 @@ set-shifted n m =
 
 -- ---- The numbers
 
-neither : (a b : Bool) → (a || b) ≡ false → (a ≡ false) × (b ≡ false)
+pub neither : (a b : Bool) → (a || b) ≡ false → (a ≡ false) × (b ≡ false)
 neither true b e = clash {b = true} refl e
 neither false b e = (refl, e)
 

@@ -1,6 +1,6 @@
 -- `protocol::tabulate` meets its contract: the tables begin as the pass needs them.
 use mathlib.Core.Path.{refl, sym, _∙_}
-use mathlib.Core.Bool.{false}
+use mathlib.Core.Bool.{true, false}
 use borrow.Author.Tests.{eq-eqb, ne-eqb}
 use Rattle.words.proofs.Cases.{clash}
 use Rattle.protocol.proofs.Passes.{held-long, copied-filled, begun-working}
@@ -12,7 +12,7 @@ use Rattle.protocol.proofs.tabulate.Tie as tie
 returns : tie.Need-returns
 returns c =
     let if1 = c .if1 in
-    (rw (ne-eqb _ _ (if1 .taken)), λ e. clash {b = false} e refl)
+    (rw (ne-eqb _ _ (if1 .taken)), (λ e. clash {b = false} e refl, λ _. refl))
 
 copy-requires : tie.Need-copy-requires
 copy-requires c κs =
@@ -37,14 +37,14 @@ returns-2 c =
     let holds-trace = c .before .before .before .before .before .before .before .before .before .before .before .before .before .before .holds-trace in
     let if2 = c .before .before .before .before .before .before .before .before .before .before .before .before .before .if2 in
     let fill = c .before .before .before .fill in
-    (rw (eq-eqb _ _ (if1 .left), (sym (holds-trace .ensures) ∙ (if2 .taken))), λ e. (fill .ensures))
+    (rw (eq-eqb _ _ (if1 .left), (sym (holds-trace .ensures) ∙ (if2 .taken))), (λ e. (fill .ensures), λ e. clash {b = true} refl e))
 
 returns-3 : tie.Need-returns-3
 returns-3 c =
     let if1 = c .before .before .if1 in
     let holds-trace = c .before .holds-trace in
     let if2 = c .if2 in
-    (rw (eq-eqb _ _ (if1 .left), sym (holds-trace .ensures) ∙ (if2 .left)), λ e. clash {b = false} e refl)
+    (rw (eq-eqb _ _ (if1 .left), sym (holds-trace .ensures) ∙ (if2 .left)), (λ e. clash {b = false} e refl, λ _. refl))
 
 pub tabulate-spec : {M : Type 1} → statement M
 tabulate-spec =

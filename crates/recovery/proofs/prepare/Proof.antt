@@ -27,7 +27,7 @@ line-fault-requires c κs =
     let pre = c .before .before .before .before .before .before .before .before .before .before .before .pre in
     let tabulate = c .before .before .before .before .tabulate in
     let if3 = c .before .if3 in
-    sized-all (args .table .now) _ (sym (tabled-holds (args .table .now) (args .full .now) _ (pre .0) (tabulate .ensures .0)) ∙ (if3 .taken)) ((tabulate .ensures .1) (if3 .taken))
+    sized-all (args .table .now) _ (sym (tabled-holds (args .table .now) (args .full .now) _ (pre .0) (tabulate .ensures .0)) ∙ (if3 .taken)) ((tabulate .ensures .1 .0) (if3 .taken))
 
 returns-3 : tie.Need-returns-3
 returns-3 c =
@@ -39,7 +39,7 @@ returns-3 c =
     let if3 = c .before .before .before .if3 in
     let line-fault = c .before .line-fault in
     let if4 = c .if4 in
-    (line-number (args .table .now) (args .room) (args .step) (args .set) (args .line) (if1 .left) (if2 .left) _ (sym (tabled-holds (args .table .now) (args .full .now) _ (pre .0) (tabulate .ensures .0)) ∙ (if3 .taken)) ((line-fault .ensures) (held (args .table .now)) (tabled (args .table .now) _ (sym (tabled-holds (args .table .now) (args .full .now) _ (pre .0) (tabulate .ensures .0)) ∙ (if3 .taken)) ((tabulate .ensures .1) (if3 .taken)))), λ z. absurd ((if4 .taken) z))
+    (line-number (args .table .now) (args .room) (args .step) (args .set) (args .line) (if1 .left) (if2 .left) _ (sym (tabled-holds (args .table .now) (args .full .now) _ (pre .0) (tabulate .ensures .0)) ∙ (if3 .taken)) ((line-fault .ensures) (held (args .table .now)) (tabled (args .table .now) _ (sym (tabled-holds (args .table .now) (args .full .now) _ (pre .0) (tabulate .ensures .0)) ∙ (if3 .taken)) ((tabulate .ensures .1 .0) (if3 .taken)))), λ z. absurd ((if4 .taken) z))
 
 gates-requires : tie.Need-gates-requires
 gates-requires c κs =
@@ -49,7 +49,7 @@ gates-requires c κs =
     let if3 = c .before .before .before .before .before .if3 in
     let line-fault = c .before .before .before .line-fault in
     let if4 = c .before .before .if4 in
-    (sized-cut (args .table .now) _ (sym (tabled-holds (args .table .now) (args .full .now) _ (pre .0) (tabulate .ensures .0)) ∙ (if3 .taken)) ((tabulate .ensures .1) (if3 .taken)) (args .step) (args .set) (args .line) (sym ((line-fault .ensures) (held (args .table .now)) (tabled (args .table .now) _ (sym (tabled-holds (args .table .now) (args .full .now) _ (pre .0) (tabulate .ensures .0)) ∙ (if3 .taken)) ((tabulate .ensures .1) (if3 .taken)))) ∙ (if4 .left)), (pre .1))
+    (sized-cut (args .table .now) _ (sym (tabled-holds (args .table .now) (args .full .now) _ (pre .0) (tabulate .ensures .0)) ∙ (if3 .taken)) ((tabulate .ensures .1 .0) (if3 .taken)) (args .step) (args .set) (args .line) (sym ((line-fault .ensures) (held (args .table .now)) (tabled (args .table .now) _ (sym (tabled-holds (args .table .now) (args .full .now) _ (pre .0) (tabulate .ensures .0)) ∙ (if3 .taken)) ((tabulate .ensures .1 .0) (if3 .taken)))) ∙ (if4 .left)), (pre .1))
 
 returns-4 : tie.Need-returns-4
 returns-4 c =
@@ -62,7 +62,7 @@ returns-4 c =
     let line-fault = c .before .before .before .before .before .before .line-fault in
     let if4 = c .before .before .before .before .before .if4 in
     let gates = c .before .before .gates in
-    (line-number (args .table .now) (args .room) (args .step) (args .set) (args .line) (if1 .left) (if2 .left) 0 (sym (tabled-holds (args .table .now) (args .full .now) _ (pre .0) (tabulate .ensures .0)) ∙ (if3 .taken)) (sym (sym ((line-fault .ensures) (held (args .table .now)) (tabled (args .table .now) _ (sym (tabled-holds (args .table .now) (args .full .now) _ (pre .0) (tabulate .ensures .0)) ∙ (if3 .taken)) ((tabulate .ensures .1) (if3 .taken)))) ∙ (if4 .left))), λ z. record { holds = (sym (tabled-holds (args .table .now) (args .full .now) _ (pre .0) (tabulate .ensures .0)) ∙ (if3 .taken)); fit = (sym ((line-fault .ensures) (held (args .table .now)) (tabled (args .table .now) _ (sym (tabled-holds (args .table .now) (args .full .now) _ (pre .0) (tabulate .ensures .0)) ∙ (if3 .taken)) ((tabulate .ensures .1) (if3 .taken)))) ∙ (if4 .left)); given = (given (args .table .now) _ (sym (tabled-holds (args .table .now) (args .full .now) _ (pre .0) (tabulate .ensures .0)) ∙ (if3 .taken)) ((tabulate .ensures .1) (if3 .taken)) (args .step) (args .set) (args .line) (sym ((line-fault .ensures) (held (args .table .now)) (tabled (args .table .now) _ (sym (tabled-holds (args .table .now) (args .full .now) _ (pre .0) (tabulate .ensures .0)) ∙ (if3 .taken)) ((tabulate .ensures .1) (if3 .taken)))) ∙ (if4 .left)) _ ((gates .ensures) (held (args .table .now)) (tabled (args .table .now) _ (sym (tabled-holds (args .table .now) (args .full .now) _ (pre .0) (tabulate .ensures .0)) ∙ (if3 .taken)) ((tabulate .ensures .1) (if3 .taken))) (step-within (args .table .now) _ (sym (tabled-holds (args .table .now) (args .full .now) _ (pre .0) (tabulate .ensures .0)) ∙ (if3 .taken)) ((tabulate .ensures .1) (if3 .taken)) (args .step) (args .set) (args .line) (sym ((line-fault .ensures) (held (args .table .now)) (tabled (args .table .now) _ (sym (tabled-holds (args .table .now) (args .full .now) _ (pre .0) (tabulate .ensures .0)) ∙ (if3 .taken)) ((tabulate .ensures .1) (if3 .taken)))) ∙ (if4 .left))) (count-is (args .table .now) _ (sym (tabled-holds (args .table .now) (args .full .now) _ (pre .0) (tabulate .ensures .0)) ∙ (if3 .taken)) ((tabulate .ensures .1) (if3 .taken)) (args .step) (args .set) (args .line) (sym ((line-fault .ensures) (held (args .table .now)) (tabled (args .table .now) _ (sym (tabled-holds (args .table .now) (args .full .now) _ (pre .0) (tabulate .ensures .0)) ∙ (if3 .taken)) ((tabulate .ensures .1) (if3 .taken)))) ∙ (if4 .left))))) })
+    (line-number (args .table .now) (args .room) (args .step) (args .set) (args .line) (if1 .left) (if2 .left) 0 (sym (tabled-holds (args .table .now) (args .full .now) _ (pre .0) (tabulate .ensures .0)) ∙ (if3 .taken)) (sym (sym ((line-fault .ensures) (held (args .table .now)) (tabled (args .table .now) _ (sym (tabled-holds (args .table .now) (args .full .now) _ (pre .0) (tabulate .ensures .0)) ∙ (if3 .taken)) ((tabulate .ensures .1 .0) (if3 .taken)))) ∙ (if4 .left))), λ z. record { holds = (sym (tabled-holds (args .table .now) (args .full .now) _ (pre .0) (tabulate .ensures .0)) ∙ (if3 .taken)); fit = (sym ((line-fault .ensures) (held (args .table .now)) (tabled (args .table .now) _ (sym (tabled-holds (args .table .now) (args .full .now) _ (pre .0) (tabulate .ensures .0)) ∙ (if3 .taken)) ((tabulate .ensures .1 .0) (if3 .taken)))) ∙ (if4 .left)); given = (given (args .table .now) _ (sym (tabled-holds (args .table .now) (args .full .now) _ (pre .0) (tabulate .ensures .0)) ∙ (if3 .taken)) ((tabulate .ensures .1 .0) (if3 .taken)) (args .step) (args .set) (args .line) (sym ((line-fault .ensures) (held (args .table .now)) (tabled (args .table .now) _ (sym (tabled-holds (args .table .now) (args .full .now) _ (pre .0) (tabulate .ensures .0)) ∙ (if3 .taken)) ((tabulate .ensures .1 .0) (if3 .taken)))) ∙ (if4 .left)) _ ((gates .ensures) (held (args .table .now)) (tabled (args .table .now) _ (sym (tabled-holds (args .table .now) (args .full .now) _ (pre .0) (tabulate .ensures .0)) ∙ (if3 .taken)) ((tabulate .ensures .1 .0) (if3 .taken))) (step-within (args .table .now) _ (sym (tabled-holds (args .table .now) (args .full .now) _ (pre .0) (tabulate .ensures .0)) ∙ (if3 .taken)) ((tabulate .ensures .1 .0) (if3 .taken)) (args .step) (args .set) (args .line) (sym ((line-fault .ensures) (held (args .table .now)) (tabled (args .table .now) _ (sym (tabled-holds (args .table .now) (args .full .now) _ (pre .0) (tabulate .ensures .0)) ∙ (if3 .taken)) ((tabulate .ensures .1 .0) (if3 .taken)))) ∙ (if4 .left))) (count-is (args .table .now) _ (sym (tabled-holds (args .table .now) (args .full .now) _ (pre .0) (tabulate .ensures .0)) ∙ (if3 .taken)) ((tabulate .ensures .1 .0) (if3 .taken)) (args .step) (args .set) (args .line) (sym ((line-fault .ensures) (held (args .table .now)) (tabled (args .table .now) _ (sym (tabled-holds (args .table .now) (args .full .now) _ (pre .0) (tabulate .ensures .0)) ∙ (if3 .taken)) ((tabulate .ensures .1 .0) (if3 .taken)))) ∙ (if4 .left))))) })
 
 returns-5 : tie.Need-returns-5
 returns-5 c =
