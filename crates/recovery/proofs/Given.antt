@@ -34,12 +34,20 @@ use Rattle.replay.specs.Given.{Given}
 pub tabled-holds : (a full : List ℕ) (r : Bool) → length full ≡ areaWords → r ≡ (eqb (length full) areaWords && holdsTrace a) → r ≡ holdsTrace a
 tabled-holds a full r l e = e ∙ ap (λ (b : Bool). b && holdsTrace a) (eq-eqb (length full) 16384 l)
 
+-- into a new table
+pub fresh-holds : (a : List ℕ) (r : Bool) → r ≡ (eqb (length {A = ℕ} (replicate areaWords 0)) areaWords && holdsTrace a) → r ≡ holdsTrace a
+fresh-holds a r e = tabled-holds a (replicate {A = ℕ} 16384 0) r (length-replicate {A = ℕ} 16384 0) e
+
 module _ (a full : List ℕ) (h : holdsTrace a ≡ true) (C : Columns (held a) full) where
   pub tabled : Tabled (held a) full
   tabled = record { formed = held-formed a h; columns = C }
 
   pub sized-all : Sized full (getD full 1 0)
   sized-all = let e = size-is (held a) full tabled in sized (held a) full tabled (getD full 1 0) (omega arith)
+
+  -- a failure whose step is within the events that the table counts
+  pub size-of : (step : ℕ) → step ≤ getD full 1 0 → step ≤ size (held a)
+  size-of step h = let e = size-is (held a) full tabled in omega arith
 
   -- a failure and a line that are not refused
   module _ (step set : ℕ) (l : Line) (z : lineFault (held a) step set (l .count) (lineIn l) ≡ 0) where

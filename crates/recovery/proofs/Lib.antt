@@ -1,3 +1,4 @@
 pub mod Given
 pub mod Replaying
 pub mod Listing
+pub mod Restarting

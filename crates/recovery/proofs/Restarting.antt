@@ -1,0 +1,89 @@
+-- Each way out of `restart`: the answer by its definition, and demand 2.
+use Prim.Native.Nat.{ℕ, _+_, _<_, _≤_}
+use mathlib.Core.Path.{_≡_, refl, sym, ap, _∙_}
+use mathlib.Core.Bool.{Bool, true, false, _&&_, not}
+use mathlib.Core.List.{List}
+use native.Mathlib.Omega.{arith}
+use lib.Count.{ones}
+use lib.Dec.{ltb, eqb}
+use lib.ListN.{length, getD}
+use borrow.Author.Tests.{lt-ltb, le-ltb, ne-eqb}
+use Rattle.words.specs.Area.{areaWords, wordsFrom}
+use Rattle.words.proofs.Area.{getD-words, words-ext}
+use Rattle.trace.specs.Trace.{Trace}
+use Rattle.table.specs.Held.{held, holdsTrace}
+use Rattle.theory.specs.Lists.{pick}
+use Rattle.theory.specs.Events.{size}
+use Rattle.theory.specs.Epochs.{past, phaseAt}
+use Rattle.theory.specs.Line.{inSet, staysIn, restartIn, current, reached, Greatest, greatestLine}
+use Rattle.theory.specs.Refusals.{failureFault}
+use Rattle.theory.proofs.Claims.{floor-failed}
+use Rattle.theory.proofs.WellFormed.{valid}
+use Rattle.line.specs.declared.Line.{Line}
+use Rattle.line.specs.Given.{Tabled, each, lineIn, lineTo, restartWord, numbersOf, backOf, backOnes}
+use Rattle.recovery.specs.declared.Restarted.{Restarted}
+use Rattle.recovery.specs.Restart.{failureFaultOf, engineLine, ofEach, restartBy, restartOf, restartRefusal, restartAnswer, Restarts}
+
+-- ---- From the full table
+
+module _ (t : Trace) (full : List ℕ) (G : Tabled t full) (cut set : ℕ) (cl : cut ≤ size t) (l : Line)
+    (e : l ≡ lineTo t (greatestLine t past cut (reached t past cut) (inSet set))) where
+  pub count-of : l .count ≡ t .procs
+  count-of = ap (λ (x : Line). x .count) e
+
+  pub count-few : l .count ≤ 64
+  count-few = omega (arith, count-of, valid t (G .formed) .few)
+
+  phases-are : (g p : List ℕ) → g ≡ wordsFrom (restartWord t cut (lineIn l)) 0 192 → length p ≡ 64 → ((z : ℕ) → z < 64 → getD p z 0 ≡ getD g z 0)
+      → p ≡ ofEach t (λ z. phaseAt t past z (restartIn t cut (lineIn l) z))
+  phases-are g p h n same =
+      words-ext (each t (λ z. phaseAt t past z (restartIn t cut (lineIn l) z))) 64 p n
+      (λ z b. same z b ∙ ap (λ (x : List ℕ). getD x z 0) h ∙ getD-words (restartWord t cut (lineIn l)) 0 192 z (omega arith)
+      ∙ ap (restartWord t cut (lineIn l)) (let q : 0 + z ≡ z = omega arith in q) ∙ rw (lt-ltb z 64 b))
+
+  pub made : (s b : ℕ) (x g p : List ℕ) → s ≡ backOf (numbersOf l) → b ≡ ones (backOf (numbersOf l)) → x ≡ ofEach t (current t past cut)
+      → g ≡ wordsFrom (restartWord t cut (lineIn l)) 0 192 → length p ≡ 64 → ((z : ℕ) → z < 64 → getD p z 0 ≡ getD g z 0)
+      → record { number = 0; place = 0; line = l; going = s; back = b; epochs = x; phases = p } ≡ restartOf t cut set
+  unfolding restartOf engineLine
+  made s b x g p hs hb hx hg n same = rw (hs, hb, hx, phases-are g p hg n same) (ap (restartBy t cut) e)
+
+  pub means : (s b : ℕ) (x p : List ℕ) → Greatest t past cut (reached t past cut) (inSet set) (lineIn l)
+      → s ≡ backOf (numbersOf l) → ((z : ℕ) → inSet s z ≡ (ltb z (l .count) && not (staysIn (lineIn l) z)))
+      → b ≡ ones (backOf (numbersOf l)) → b ≡ length (backOnes (numbersOf l))
+      → Restarts t cut set (record { number = 0; place = 0; line = l; going = s; back = b; epochs = x; phases = p })
+  means s b x p g hs bits hb hn =
+      record {
+        greatest = g;
+        floor = λ y ly fy least z lz. floor-failed t (G .formed) cut cl (inSet set) y ly fy least (lineIn l) g z lz;
+        goes = λ z. bits z ∙ ap (λ (n : ℕ). ltb z n && not (staysIn (lineIn l) z)) count-of;
+        ones-are = hb ∙ ap ones (sym hs);
+        numbers-are = hn;
+      }
+
+-- ---- From the table area
+
+module _ (a : List ℕ) (step set : ℕ) where
+  pub short : length a < areaWords → 12 ≡ failureFaultOf a step set
+  unfolding failureFaultOf
+  short h = rw (lt-ltb (length a) 16384 h)
+
+  module _ (la : areaWords ≤ length a) where
+    pub none-held : holdsTrace a ≡ false → 13 ≡ failureFaultOf a step set
+    unfolding failureFaultOf
+    none-held h = rw (le-ltb (length a) 16384 la, h)
+
+    pub failure-number : (f : ℕ) → holdsTrace a ≡ true → f ≡ failureFault (held a) step set → f ≡ failureFaultOf a step set
+    unfolding failureFaultOf
+    failure-number f h q = q ∙ rw (le-ltb (length a) 16384 la, h)
+
+  abbrev pub Answered : Restarted → Type 0
+  Answered r = (r ≡ restartAnswer a step set) × (r .number ≡ 0 → Restarts (held a) step set r)
+
+  pub refuses-restart : (n : ℕ) (r : Restarted) → n ≡ failureFaultOf a step set → (n ≡ 0 → ⊥) → r ≡ restartRefusal n → Answered r
+  unfolding restartAnswer
+  refuses-restart n r f z e =
+      (e ∙ rw (← f, ne-eqb n 0 z), λ h. absurd (z (sym (ap (λ (x : Restarted). x .number) e) ∙ h)))
+
+  pub answers-restart : (r : Restarted) → 0 ≡ failureFaultOf a step set → r ≡ restartOf (held a) step set → Restarts (held a) step set r → Answered r
+  unfolding restartAnswer
+  answers-restart r f e m = (e ∙ rw (← f), λ _. m)
