@@ -1,0 +1,42 @@
+-- `writer::put_bytes` meets its contract: what is still to write from byte i on.
+use mathlib.Core.Path.{_≡_, refl, _∙_}
+use Prim.Native.Nat.{_-_, _≤_}
+use lib.ListN.{length, drop}
+use Rattle.writer.specs.Buffer.{puts}
+use Rattle.writer.proofs.Buffers.{next-byte, all-put}
+use native.Mathlib.Omega.{arith}
+use borrow.Author.Needs.{needs}
+use Rattle.writer.proofs.put_bytes.Statement.{statement}
+use Rattle.writer.proofs.put_bytes.Tie as tie
+
+abbrev Inv-loop : tie.InvT-loop
+Inv-loop out₀ at bytes next₀ i₀ out next i = (i ≤ length bytes) × (length out ≡ length out₀) × (puts (drop i bytes) (record { bytes = out; next = next }) ≡ puts bytes (record { bytes = out₀; next = at }))
+
+abbrev μ-loop : tie.MeasureT-loop
+μ-loop out₀ at bytes next₀ i₀ out next i = length bytes - i
+
+loop-holds : tie.Need-loop-holds Inv-loop μ-loop
+loop-holds c = (omega arith, refl, refl)
+
+loop-again : tie.Need-loop-again Inv-loop μ-loop
+loop-again c =
+    let put = c .before .before .put in
+    let loop = c .before .before .before .before .before .before .loop in
+    let loop-test = c .before .before .before .before .before .loop-test in
+    (omega arith, (put .kept .0) ∙ (loop .inv .1), next-byte _ _ _ _ _ _ _ (loop-test .taken) (put .ensures) (loop .inv .2))
+
+same-length : tie.Need-same-length Inv-loop μ-loop
+same-length c =
+    let loop = c .before .loop in
+    (loop .inv .1)
+
+returns : tie.Need-returns Inv-loop μ-loop
+returns c =
+    let loop-test = c .loop-test in
+    let loop = c .before .loop in
+    all-put _ _ _ _ _ (loop-test .left) (loop .inv .2)
+
+pub put-bytes-spec : {M : Type 1} → statement M
+put-bytes-spec =
+    tie.close
+    (tie.spec Inv-loop μ-loop loop-holds (λ c. search needs) (λ c κs. search needs) (λ c. search needs) (λ c. search needs) loop-again same-length returns)

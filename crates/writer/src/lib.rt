@@ -1,0 +1,64 @@
+// Writing text into a lent buffer: bytes, decimal numbers, and keys with their numbers. A function is given the place of its first byte and
+// answers that of the next; a full buffer takes no more (specs/Buffer). Assumes nothing.
+ghost use mathlib.Core.Path.{_≡_};
+ghost use mathlib.Core.List.{[], _∷_, _++_};
+ghost use Prim.Native.Nat.{_≤_};
+ghost use lib.ListN.{length, drop};
+ghost use Rattle.text.specs.Number.{decimal};
+ghost use Rattle.writer.specs.Buffer.{Puts};
+
+fn put(out: &mut [u8], at: usize, b: u8) -> usize
+    ensures { λ r. ⌜ Puts (b ∷ []) (now (out .entry)) at (now (out .exit)) r ⌝ }
+{
+    if at < out.len() {
+        out[at] = b;
+        return at + 1;
+    }
+    at
+}
+
+pub fn put_bytes(out: &mut [u8], at: usize, bytes: &[u8]) -> usize
+    ensures { λ r. ⌜ Puts (now (bytes .entry)) (now (out .entry)) at (now (out .exit)) r ⌝ }
+{
+    let mut next = at;
+    let mut i: usize = 0;
+    while i < bytes.len() {
+        next = put(out, next, bytes[i]);
+        i += 1;
+    }
+    next
+}
+
+// The digits of a number stand at the end of `digits`, from the place answered on: 20 hold every number of 64 bits.
+fn digits_of(n: u64, digits: &mut [u8]) -> usize
+    requires { ⌜ length (now digits) ≡ 20 ⌝ }
+    ensures { λ r. ⌜ (r ≤ 20) × (drop r (now (digits .exit)) ≡ decimal n) ⌝ }
+{
+    let mut v = n;
+    let mut i: usize = 20;
+    while i > 0 {
+        i -= 1;
+        digits[i] = (48 + v % 10) as u8;
+        if v < 10 {
+            return i;
+        }
+        v = v / 10;
+    }
+    i
+}
+
+pub fn put_number(out: &mut [u8], at: usize, n: u64) -> usize
+    ensures { λ r. ⌜ Puts (decimal n) (now (out .entry)) at (now (out .exit)) r ⌝ }
+{
+    let mut digits = [0u8; 20];
+    let first = digits_of(n, &mut digits);
+    put_bytes(out, at, &digits[first..])
+}
+
+// A key and its number.
+pub fn put_pair(out: &mut [u8], at: usize, key: &[u8], n: u64) -> usize
+    ensures { λ r. ⌜ Puts (now (key .entry) ++ decimal n) (now (out .entry)) at (now (out .exit)) r ⌝ }
+{
+    let next = put_bytes(out, at, key);
+    put_number(out, next, n)
+}
