@@ -1,18 +1,19 @@
 -- What the reader promises of texts and traces, over its definitions alone: each claim under the sentence that it stands for.
 use Prim.Native.Nat.{ℕ}
-use mathlib.Core.Path.{_≡_, refl, sym, ap, subst, _∙_}
+use mathlib.Core.Path.{_≡_, refl, sym, ap, _∙_}
 use mathlib.Core.Logic.{_↔_}
 use mathlib.Core.List.{List}
 use mathlib.Core.Bool.{true}
 use Rattle.trace.specs.Trace.{Trace}
 use Rattle.trace.specs.Fit.{wellFormed}
 use Rattle.reader.specs.Render.{render}
+use Rattle.reader.specs.Failure.{refused, failing, failureOf}
 use Rattle.reader.specs.Verdict.{accepted, verdict}
-use Rattle.reader.proofs.Whole.{Taken, verdict-taken, render-taken}
+use Rattle.reader.proofs.Whole.{verdict-taken, render-taken, failing-taken, refused-taken}
 
 -- The canonical text theorem: a text is accepted as a trace exactly where the trace is well formed and the text is its rendering, byte for byte.
 pub canonical : (text : List ℕ) (t : Trace) → (verdict text ≡ accepted t) ↔ ((wellFormed t ≡ true) × (text ≡ render t))
-canonical text t = (λ e. subst (Taken text) e (verdict-taken text), λ h. ap verdict (h .1) ∙ render-taken t (h .0))
+canonical text t = (verdict-taken text t, λ h. ap verdict (h .1) ∙ render-taken t (h .0))
 
 -- Nothing unfit is accepted.
 pub accepted-fit : (text : List ℕ) (t : Trace) → verdict text ≡ accepted t → wellFormed t ≡ true
@@ -33,3 +34,13 @@ one-trace s t v w e =
     let b : verdict (render t) ≡ accepted t = fit-accepted t w in
     let c : verdict (render s) ≡ verdict (render t) = ap verdict e in
     cc
+
+-- ---- The program's text, whose last line is a failure line
+
+-- The trace before a failure line is well formed.
+pub failing-fit : (text : List ℕ) (t : Trace) (step set : ℕ) → failureOf text ≡ failing t step set → wellFormed t ≡ true
+failing-fit = failing-taken
+
+-- A refusal has a number.
+pub refusal-numbered : (text : List ℕ) (n k : ℕ) → failureOf text ≡ refused n k → n ≡ 0 → ⊥
+refusal-numbered = refused-taken

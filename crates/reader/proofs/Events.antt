@@ -41,60 +41,69 @@ longer-more t e es = ap (λ (x : List Event). record { procs = t .procs; events 
 abbrev Told : Trace → List ℕ → Judged → Type 0
 Told t l (Fit e) = (l ≡ renderEvent e) × (faultHere t e ≡ 0) × (valueFits e ≡ true)
 Told t l (Fails step set) = Unit
-Told t l (Unfit n) = Unit
+Told t l (Unfit n) = n ≡ 0 → ⊥
 
 event-told : (t : Trace) (l : List ℕ) (e : Event) → l ≡ renderEvent e → valueFits e ≡ true → Told t l (judgeEvent t e)
 unfolding judgeEvent
 event-told t l e q v =
     by-eq (faultHere t e) 0
     (λ z. rw (eq-eqb (faultHere t e) 0 z) (q, z, v))
-    (λ n. rw (ne-eqb (faultHere t e) 0 n) tt)
+    (λ n. rw (ne-eqb (faultHere t e) 0 n) n)
 
 judge-told : (t : Trace) (l : List ℕ) (x : Line) → Says l x → Told t l (judge t x)
 unfolding judge
-judge-told t l (line.the-variants.Procs n) s = tt
+judge-told t l (line.the-variants.Procs n) s = λ z. omega arith
 judge-told t l (line.the-variants.Send at to val) s = event-told t l (Send at to val) (s .0) (le-leb val most (s .1 .2))
 judge-told t l (line.the-variants.Recv at from) s = event-told t l (Recv at from) (s .0) refl
 judge-told t l (line.the-variants.Save at) s = event-told t l (Save at) (s .0) refl
 judge-told t l (line.the-variants.Failure step set) s = tt
-judge-told t l line.the-variants.Malformed s = tt
+judge-told t l line.the-variants.Malformed s = λ z. omega arith
 
--- what the reading of lines after a trace t says of their bytes
+-- u is t with these events more, all of them fit
+abbrev pub Grown : Trace → List Event → Trace → Type 0
+Grown t es u = (u ≡ longer t es) × (allFit (t .procs) (t .events) es ≡ true) × (length (t .events) + length es ≤ 2048)
+
+-- what the reading of lines after a trace t says: of a refusal its number, of a trace its events, and where no failure line follows their bytes
 abbrev pub Heard : Trace → List (List ℕ) → Scan → Type 0
-Heard t ps (Scan.refused n k) = Unit
-Heard t ps (Scan.ended u k) =
-    (es : List Event) × (joined ps ≡ renderEvents es) × (u ≡ longer t es) × (allFit (t .procs) (t .events) es ≡ true) × (length (t .events) + length es ≤ 2048)
-Heard t ps (Scan.stopped u step set k rest) = Unit
+Heard t ps (Scan.refused n k) = n ≡ 0 → ⊥
+Heard t ps (Scan.ended u k) = (es : List Event) × (joined ps ≡ renderEvents es) × Grown t es u
+Heard t ps (Scan.stopped u step set k rest) = (es : List Event) × Grown t es u
+
+none-grown : (t : Trace) → length (t .events) ≤ 2048 → Grown t [] t
+unfolding allFit
+none-grown t h = (longer-none t, refl, omega arith)
+
+more-grown : (t u : Trace) (e : Event) (es : List Event) → faultOf (t .procs) (t .events) e ≡ 0 → valueFits e ≡ true → Grown (extended t e) es u → Grown t (e ∷ es) u
+unfolding allFit
+more-grown t u e es z v g = (
+  g .0 ∙ longer-more t e es,
+  and-both _ _ (eq-eqb _ 0 z) (and-both _ _ v (g .1)),
+  omega (arith, g .2, length-append (t .events) (e ∷ [])),
+)
 
 more-heard : (t : Trace) (l m : List ℕ) (ms : List (List ℕ)) (e : Event) → l ≡ renderEvent e → faultOf (t .procs) (t .events) e ≡ 0 → valueFits e ≡ true
     → (s : Scan) → Heard (extended t e) (m ∷ ms) s → Heard t (l ∷ (m ∷ ms)) s
-unfolding joined renderEvents allFit
-more-heard t l m ms e q z v (Scan.refused n k) h = tt
-more-heard t l m ms e q z v (Scan.ended u k) h = (
-  e ∷ h .0,
-  rw (q, h .1),
-  h .2 ∙ longer-more t e (h .0),
-  and-both _ _ (eq-eqb _ 0 z) (and-both _ _ v (h .3)),
-  omega (arith, h .4, length-append (t .events) (e ∷ [])),
-)
-more-heard t l m ms e q z v (Scan.stopped u step set k rest) h = tt
+unfolding joined renderEvents
+more-heard t l m ms e q z v (Scan.refused n k) h = h
+more-heard t l m ms e q z v (Scan.ended u k) h = (e ∷ h .0, rw (q, h .1), more-grown t u e (h .0) z v (h .2))
+more-heard t l m ms e q z v (Scan.stopped u step set k rest) h = (e ∷ h .0, more-grown t u e (h .0) z v (h .1))
 
 after-heard : (t : Trace) (k : ℕ) (l m : List ℕ) (ms : List (List ℕ)) (next : Event → Scan)
-    → ((e : Event) → length (t .events) < 2048 → Heard (extended t e) (m ∷ ms) (next e))
+    → length (t .events) ≤ 2048 → ((e : Event) → length (t .events) < 2048 → Heard (extended t e) (m ∷ ms) (next e))
     → (j : Judged) → Told t l j → Heard t (l ∷ (m ∷ ms)) (afterLine j t k (m ∷ ms) next)
-after-heard t k l m ms next more (Fit e) d =
+after-heard t k l m ms next few more (Fit e) d =
     let (room, fit) = fit-few t e (d .1) in
     more-heard t l m ms e (d .0) fit (d .2) (next e) (more e room)
-after-heard t k l m ms next more (Fails step set) d = tt
-after-heard t k l m ms next more (Unfit n) d = tt
+after-heard t k l m ms next few more (Fails step set) d = ([], none-grown t few)
+after-heard t k l m ms next few more (Unfit n) d = d
 
 pub lines-heard : (t : Trace) (k : ℕ) (ps : List (List ℕ)) → length (t .events) ≤ 2048 → Heard t ps (linesFrom t k ps)
-unfolding linesFrom joined renderEvents allFit
-lines-heard t k [] h = tt
-lines-heard t k ([] ∷ []) h = ([], refl, longer-none t, refl, omega arith)
-lines-heard t k ((b ∷ l) ∷ []) h = tt
+unfolding linesFrom joined renderEvents
+lines-heard t k [] h = λ z. omega arith
+lines-heard t k ([] ∷ []) h = ([], refl, none-grown t h)
+lines-heard t k ((b ∷ l) ∷ []) h = λ z. omega arith
 lines-heard t k (l ∷ (m ∷ ms)) h =
-    after-heard t k l m ms (λ e. linesFrom (extended t e) (k + 1) (m ∷ ms))
+    after-heard t k l m ms (λ e. linesFrom (extended t e) (k + 1) (m ∷ ms)) h
     (λ e room. lines-heard (extended t e) (k + 1) (m ∷ ms) (omega (arith, length-append (t .events) (e ∷ []))))
     (judge t (lineOf l)) (judge-told t l (lineOf l) (line-says l))
 

@@ -9,59 +9,74 @@ use lib.ListN.{length}
 use borrow.Author.Tests.{leb-true, le-leb, lt-ltb, le-ltb}
 use Rattle.words.proofs.Cases.{by-lt, and-left, and-right, and-both}
 use Rattle.text.specs.Number.{decimal}
+use Rattle.trace.specs.declared.Event.{Event}
 use Rattle.trace.specs.Trace.{Trace}
 use Rattle.trace.specs.Fit.{wellFormed}
 use Rattle.reader.specs.declared.Line.{Line}
 use Rattle.reader.specs.declared.Line as line
 use Rattle.reader.specs.Line.{kProcs, lineOf}
 use Rattle.reader.specs.Render.{renderEvents, render}
+use Rattle.reader.specs.Failure.{Failing, refused, failing, lastLine, failingOf, failureOf}
 use Rattle.reader.specs.Verdict.{pieces, Scan, linesFrom, firstLine, scanPieces, scan, Verdict, verdictOf, verdict}
 use Rattle.reader.proofs.OneLine.{Says, line-says, procs-line}
 use Rattle.reader.proofs.Pieces.{joined, first-piece, joined-pieces, line-piece, plain-procs}
-use Rattle.reader.proofs.Events.{Heard, lines-heard, lines-read}
+use Rattle.reader.proofs.Events.{Grown, Heard, lines-heard, lines-read}
 
--- what a verdict says of the text
-abbrev pub Taken : List ℕ → Verdict → Type 0
-Taken text (Verdict.refused n k) = Unit
-Taken text (Verdict.accepted t) = (wellFormed t ≡ true) × (text ≡ render t)
+-- what reading says of the text: a refusal has a number, a trace is well formed, and where no failure line follows the text is its rendering
+abbrev pub Taken : List ℕ → Scan → Type 0
+Taken text (Scan.refused n k) = n ≡ 0 → ⊥
+Taken text (Scan.ended t k) = (wellFormed t ≡ true) × (text ≡ render t)
+Taken text (Scan.stopped t step set k rest) = wellFormed t ≡ true
 
 -- a run of n processes before its first event
 abbrev quiet : ℕ → Trace
 quiet n = record { procs = n; events = [] }
 
+grown-fit : (n : ℕ) (es : List Event) (u : Trace) → 2 ≤ n → n ≤ 64 → Grown (quiet n) es u → wellFormed u ≡ true
+unfolding wellFormed
+grown-fit n es u low high g =
+    rw (g .0) (and-both _ _ (le-leb 2 n low) (and-both _ _ (le-leb n 64 high) (and-both _ _ (le-leb (length es) 2048 (omega (arith, g .2))) (g .1))))
+
 -- the first line, and what was heard of the others
 heard-taken : (n : ℕ) (l m : List ℕ) (ms : List (List ℕ)) → l ≡ kProcs ++ decimal n → 2 ≤ n → n ≤ 64
-    → (s : Scan) → Heard (quiet n) (m ∷ ms) s → Taken (joined (l ∷ (m ∷ ms))) (verdictOf s)
-unfolding joined wellFormed render
-heard-taken n l m ms q low high (Scan.refused k j) h = tt
-heard-taken n l m ms q low high (Scan.ended u k) h =
-    let es = h .0 in
-    let fit = and-both _ _ (le-leb 2 n low) (and-both _ _ (le-leb n 64 high) (and-both _ _ (le-leb (length es) 2048 (omega (arith, h .4))) (h .3))) in
-    rw (h .2) (fit, rw (q, h .1))
-heard-taken n l m ms q low high (Scan.stopped u step set k rest) h = tt
+    → (s : Scan) → Heard (quiet n) (m ∷ ms) s → Taken (joined (l ∷ (m ∷ ms))) s
+unfolding joined render
+heard-taken n l m ms q low high (Scan.refused k j) h = h
+heard-taken n l m ms q low high (Scan.ended u k) h = (grown-fit n (h .0) u low high (h .2), rw (h .2 .0, q, h .1))
+heard-taken n l m ms q low high (Scan.stopped u step set k rest) h = grown-fit n (h .0) u low high (h .1)
 
 first-taken : (l m : List ℕ) (ms : List (List ℕ)) (x : Line) → Says l x
-    → Taken (joined (l ∷ (m ∷ ms))) (verdictOf (firstLine x (λ n. linesFrom (quiet n) 2 (m ∷ ms))))
+    → Taken (joined (l ∷ (m ∷ ms))) (firstLine x (λ n. linesFrom (quiet n) 2 (m ∷ ms)))
 first-taken l m ms (line.the-variants.Procs n) s =
-    by-lt n 2 (λ low. rw (lt-ltb n 2 low) tt) (λ low.
-    by-lt 64 n (λ high. rw (le-ltb n 2 low, lt-ltb 64 n high) tt) (λ high.
+    by-lt n 2 (λ low. rw (lt-ltb n 2 low) (λ z. omega arith)) (λ low.
+    by-lt 64 n (λ high. rw (le-ltb n 2 low, lt-ltb 64 n high) (λ z. omega arith)) (λ high.
     rw (le-ltb n 2 low, le-ltb 64 n high)
     (heard-taken n l m ms (s .0) low high (linesFrom (quiet n) 2 (m ∷ ms)) (lines-heard (quiet n) 2 (m ∷ ms) (omega arith)))))
-first-taken l m ms (line.the-variants.Send at to val) s = tt
-first-taken l m ms (line.the-variants.Recv at from) s = tt
-first-taken l m ms (line.the-variants.Save at) s = tt
-first-taken l m ms (line.the-variants.Failure step set) s = tt
-first-taken l m ms line.the-variants.Malformed s = tt
+first-taken l m ms (line.the-variants.Send at to val) s = λ z. omega arith
+first-taken l m ms (line.the-variants.Recv at from) s = λ z. omega arith
+first-taken l m ms (line.the-variants.Save at) s = λ z. omega arith
+first-taken l m ms (line.the-variants.Failure step set) s = λ z. omega arith
+first-taken l m ms line.the-variants.Malformed s = λ z. omega arith
 
-pieces-taken : (ps : List (List ℕ)) → Taken (joined ps) (verdictOf (scanPieces ps))
+pieces-taken : (ps : List (List ℕ)) → Taken (joined ps) (scanPieces ps)
 unfolding scanPieces
-pieces-taken [] = tt
-pieces-taken (l ∷ []) = tt
+pieces-taken [] = λ z. omega arith
+pieces-taken (l ∷ []) = λ z. omega arith
 pieces-taken (l ∷ (m ∷ ms)) = first-taken l m ms (lineOf l) (line-says l)
 
-pub verdict-taken : (text : List ℕ) → Taken text (verdict text)
-unfolding verdict scan
-verdict-taken text = subst (λ (x : List ℕ). Taken x (verdict text)) (joined-pieces text) (pieces-taken (pieces text))
+pub scan-taken : (text : List ℕ) → Taken text (scan text)
+unfolding scan
+scan-taken text = subst (λ (x : List ℕ). Taken x (scan text)) (joined-pieces text) (pieces-taken (pieces text))
+
+-- as a verdict on a trace
+verdict-of : (text : List ℕ) (t : Trace) (s : Scan) → Taken text s → verdictOf s ≡ Verdict.accepted t → (wellFormed t ≡ true) × (text ≡ render t)
+verdict-of text t (Scan.refused n k) h e = let z : _≡_ {A = ℕ} 0 1 = cc in absurd (let y : ⊥ = omega arith in y)
+verdict-of text t (Scan.ended u k) h e = let q : u ≡ t = cc in rw q at h
+verdict-of text t (Scan.stopped u step set k rest) h e = let z : _≡_ {A = ℕ} 0 1 = cc in absurd (let y : ⊥ = omega arith in y)
+
+pub verdict-taken : (text : List ℕ) (t : Trace) → verdict text ≡ Verdict.accepted t → (wellFormed t ≡ true) × (text ≡ render t)
+unfolding verdict
+verdict-taken text t e = verdict-of text t (scan text) (scan-taken text) e
 
 scan-read : (n : ℕ) (text : List ℕ) → 2 ≤ n → n ≤ 64 → scanPieces ((kProcs ++ decimal n) ∷ pieces text) ≡ linesFrom (quiet n) 2 (pieces text)
 unfolding scanPieces
@@ -82,3 +97,38 @@ render-taken t w =
     ap (λ (x : List (List ℕ)). verdictOf (scanPieces x)) (line-piece (kProcs ++ decimal p) (renderEvents (t .events)) (plain-procs p))
     ∙ ap verdictOf (scan-read p (renderEvents (t .events)) low high)
     ∙ lines-read (quiet p) 2 (t .events) high (omega arith) (and-right (leb size 2048) _ b)
+
+-- ---- A text that ends with a failure line
+
+last-failing : (ls : List (List ℕ)) (k : ℕ) (f : Failing) (t : Trace) (step set : ℕ) → lastLine ls k f ≡ failing t step set → f ≡ failing t step set
+last-failing [] k f t step set e = e
+last-failing ([] ∷ []) k f t step set e = e
+last-failing ((b ∷ l) ∷ ls) k f t step set e = let z : _≡_ {A = ℕ} 0 1 = cc in absurd (let y : ⊥ = omega arith in y)
+last-failing ([] ∷ (l ∷ ls)) k f t step set e = let z : _≡_ {A = ℕ} 0 1 = cc in absurd (let y : ⊥ = omega arith in y)
+
+failing-of : (text : List ℕ) (t : Trace) (step set : ℕ) (s : Scan) → Taken text s → failingOf s ≡ failing t step set → wellFormed t ≡ true
+failing-of text t step set (Scan.refused n k) h e = let z : _≡_ {A = ℕ} 0 1 = cc in absurd (let y : ⊥ = omega arith in y)
+failing-of text t step set (Scan.ended u k) h e = let z : _≡_ {A = ℕ} 0 1 = cc in absurd (let y : ⊥ = omega arith in y)
+failing-of text t step set (Scan.stopped u i m k rest) h e =
+    let q : failing u i m ≡ failing t step set = last-failing rest k (failing u i m) t step set e in
+    let r : u ≡ t = cc in
+    rw r at h
+
+pub failing-taken : (text : List ℕ) (t : Trace) (step set : ℕ) → failureOf text ≡ failing t step set → wellFormed t ≡ true
+unfolding failureOf
+failing-taken text t step set e = failing-of text t step set (scan text) (scan-taken text) e
+
+last-refused : (ls : List (List ℕ)) (k : ℕ) (t : Trace) (step set n j : ℕ) → lastLine ls k (failing t step set) ≡ refused n j → n ≡ 0 → ⊥
+last-refused [] k t step set n j e z = let y : _≡_ {A = ℕ} 0 1 = cc in omega arith
+last-refused ([] ∷ []) k t step set n j e z = let y : _≡_ {A = ℕ} 0 1 = cc in omega arith
+last-refused ((b ∷ l) ∷ ls) k t step set n j e z = let y : _≡_ {A = ℕ} 1 n = cc in omega arith
+last-refused ([] ∷ (l ∷ ls)) k t step set n j e z = let y : _≡_ {A = ℕ} 1 n = cc in omega arith
+
+refused-of : (text : List ℕ) (n j : ℕ) (s : Scan) → Taken text s → failingOf s ≡ refused n j → n ≡ 0 → ⊥
+refused-of text n j (Scan.refused m k) h e z = let y : m ≡ n = cc in h (y ∙ z)
+refused-of text n j (Scan.ended u k) h e z = let y : _≡_ {A = ℕ} 1 n = cc in omega arith
+refused-of text n j (Scan.stopped u i m k rest) h e z = last-refused rest k u i m n j e z
+
+pub refused-taken : (text : List ℕ) (n k : ℕ) → failureOf text ≡ refused n k → n ≡ 0 → ⊥
+unfolding failureOf
+refused-taken text n k e = refused-of text n k (scan text) (scan-taken text) e

@@ -17,9 +17,11 @@ use Rattle.table.specs.Held.{held, holdsTrace}
 use Rattle.theory.specs.Lists.{pick}
 use Rattle.theory.specs.Epochs.{past}
 use Rattle.theory.specs.Line.{Run, LossFree}
-use Rattle.theory.specs.Order.{Outcome, carriedOut, refused, run, complete}
+use Rattle.theory.specs.Order.{Outcome, carriedOut, refused, run, steps, complete, lowestOrder}
 use Rattle.theory.specs.Refusals.{lineFault}
 use Rattle.theory.proofs.Epochs.{laws}
+use Rattle.theory.proofs.Orders.{complete-iff}
+use Rattle.theory.proofs.Lowest.{lowest-order}
 use Rattle.theory.proofs.Refusals.{line-fit}
 use Rattle.protocol.proofs.Passes.{held-valid, held-few}
 use Rattle.line.specs.declared.Line.{Line}
@@ -28,7 +30,7 @@ use Rattle.simulation.specs.Record.{recordAt, faultlessAt}
 use Rattle.simulation.proofs.Records.{complete-record}
 use Rattle.replay.specs.declared.Replayed.{Replayed}
 use Rattle.replay.specs.Answer.{answerOf, wordsOf}
-use Rattle.recovery.specs.Answers.{runOf, faultOf, refusal, replayAnswer, replayArea, Equal}
+use Rattle.recovery.specs.Answers.{runOf, faultOf, refusal, replayAnswer, replayArea, Equal, Completed}
 use Rattle.recovery.specs.Prepared.{Prepared}
 
 module _ (a : List ℕ) (room step set : ℕ) (l : Line) where
@@ -71,6 +73,9 @@ module _ (a area : List ℕ) (step set : ℕ) (l : Line) (order : List ℕ) wher
   refuses n r f z e =
       (e ∙ rw (← f, ne-eqb n 0 z), (rw (← f, ne-eqb n 0 z), λ h c. absurd (z (sym (ap (λ (x : Replayed). x .number) e) ∙ h))))
 
+  pub not-completed : (n : ℕ) (r : Replayed) → n ≡ faultOf a (length area) step set l → (n ≡ 0 → ⊥) → Completed a (length area) step set l r
+  not-completed n r f z h = absurd (z (f ∙ h))
+
   module _ (full gates : List ℕ) (P : Prepared a step set l full gates) where
     abbrev R : Run
     R = runOf a step l
@@ -84,6 +89,14 @@ module _ (a area : List ℕ) (step set : ℕ) (l : Line) (order : List ℕ) wher
         take-at w (drop 16384 area) 16384 (ap length q ∙ length-words (recordAt R s) 0 16384) ∙ q in
         rw front d
     equal (refused i) e w q n c = absurd (let y : ⊥ = omega arith in y)
+
+    -- the lowest order is carried out, and no choice is left
+    pub completed : (r : Replayed) → r ≡ answerOf R (run R (lowestOrder R)) (length (lowestOrder R)) → Completed a (length area) step set l r
+    unfolding answerOf
+    completed r e h =
+        let L = laws (held a) past (held-valid a (P .holds)) step (lineIn l) (P .given .cut-le) in
+        let (s, c, d) = lowest-order R L in
+        rw (e, c) (refl, complete-iff R s .1 d, refl)
 
     pub carried : (n : ℕ) (r : Replayed) (w : List ℕ) → n ≡ faultOf a (length area) step set l → n ≡ 0 → r ≡ answerOf R (run R order) (length order)
         → w ≡ wordsOf R (run R order) → Answered r (w ++ drop areaWords area)

@@ -13,7 +13,7 @@ use Rattle.table.specs.Held.{held, holdsTrace}
 use Rattle.theory.specs.Lists.{pick}
 use Rattle.theory.specs.Epochs.{past}
 use Rattle.theory.specs.Line.{Run, recorded, LossFree}
-use Rattle.theory.specs.Order.{run}
+use Rattle.theory.specs.Order.{run, steps, lowestOrder}
 use Rattle.theory.specs.Refusals.{lineFault}
 use Rattle.line.specs.declared.Line.{Line}
 use Rattle.line.specs.Given.{lineIn}
@@ -49,3 +49,8 @@ replayArea a area step set l order =
 abbrev pub Equal : List ℕ → ℕ → Line → Replayed → List ℕ → Type 0
 Equal a step l r w =
     r .number ≡ 0 → r .complete ≡ true → (take areaWords w ≡ wordsFrom (faultlessAt (held a)) 0 areaWords) ↔ LossFree (runOf a step l)
+
+-- "An order is complete when no choice is allowed": the lowest order is never refused, gets there, and has as many steps as choices.
+abbrev pub Completed : List ℕ → ℕ → ℕ → ℕ → Line → Replayed → Type 0
+Completed a room step set l r =
+    faultOf a room step set l ≡ 0 → (r .number ≡ 0) × (r .complete ≡ true) × (r .steps ≡ steps (lowestOrder (runOf a step l)))

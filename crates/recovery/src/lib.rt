@@ -9,7 +9,7 @@ ghost use Rattle.table.specs.Held.{held};
 ghost use Rattle.theory.specs.Events.{size};
 ghost use Rattle.theory.specs.Order.{lowestOrder};
 ghost use Rattle.line.specs.Given.{Tabled};
-ghost use Rattle.recovery.specs.Answers.{runOf, faultOf, refusal, replayAnswer, replayArea, Equal};
+ghost use Rattle.recovery.specs.Answers.{runOf, faultOf, refusal, replayAnswer, replayArea, Equal, Completed};
 ghost use Rattle.recovery.specs.Prepared.{Prepared};
 ghost use Rattle.recovery.specs.Messages.{messagesRefusal, messagesAnswer, messagesArea};
 ghost use Rattle.recovery.specs.Restart.{restartRefusal, restartOf, restartAnswer, Restarts};
@@ -87,6 +87,7 @@ pub fn lowest(table: &[u32], step: u64, set: u64, line: Line, area: &mut [u32]) 
     ensures answer { λ r. ⌜ r ≡ replayAnswer (now (table .entry)) (now (area .entry)) step set line (lowestOrder (runOf (now (table .entry)) step line)) ⌝ }
     ensures words { λ _. ⌜ now (area .exit) ≡ replayArea (now (table .entry)) (now (area .entry)) step set line (lowestOrder (runOf (now (table .entry)) step line)) ⌝ }
     ensures equal { λ r. ⌜ Equal (now (table .entry)) step line r (now (area .exit)) ⌝ }
+    ensures completed { λ r. ⌜ Completed (now (table .entry)) (length (now (area .entry))) step set line r ⌝ }
 {
     let mut full = [0u32; AREA_WORDS];
     let mut gates = [0u32; line::GATE_WORDS];

@@ -10,12 +10,13 @@ use Rattle.words.specs.Area.{areaWords, wordsFrom}
 use Rattle.trace.specs.Trace.{Trace}
 use Rattle.trace.specs.Fit.{wellFormed}
 use Rattle.trace.specs.Table.{tableWord}
+use Rattle.reader.specs.Failure.{failing, failureOf, failureArea}
 use Rattle.reader.specs.Verdict.{accepted, verdict}
 use Rattle.reader.specs.Answer.{readArea}
 use Rattle.reader.specs.Render.{render}
-use Rattle.reader.proofs.Claims.{accepted-fit, fit-accepted}
+use Rattle.reader.proofs.Claims.{accepted-fit, fit-accepted, failing-fit}
 use Rattle.table.specs.Held.{held, holdsTrace, heldTrace}
-use Rattle.table.proofs.Holding.{words-of, held-of, told, held-self, rule-area, read-words, read-length, read-same, same-front, same-held, zero-not-held}
+use Rattle.table.proofs.Holding.{words-of, held-of, told, held-self, rule-area, ruled-held, read-ruled, failing-ruled, ruled-same, same-front, same-held, zero-not-held}
 
 -- An area holds a trace exactly if it has 16,384 words, the trace is well formed, and the first 16,384 words are those of the trace.
 pub held-iff : (a : List ℕ) (t : Trace)
@@ -24,7 +25,12 @@ held-iff a t = (λ h. words-of a t h, λ h. held-of a t (h .0) (h .1) (h .2))
 
 -- "reading .. leaves there": after a text is accepted, the area holds the trace that it was accepted as.
 pub read-held : (text a : List ℕ) (t : Trace) → verdict text ≡ accepted t → areaWords ≤ length a → heldTrace (readArea text a) ≡ some t
-read-held text a t e l = held-iff (readArea text a) t .1 (rw (read-length text a l) l, accepted-fit text t e, read-words text a t e l)
+read-held text a t e l = rw (read-ruled text a t e l) (ruled-held a t (accepted-fit text t e) l)
+
+-- The same for a text that ends with a failure line.
+pub failing-held : (text a : List ℕ) (t : Trace) (step set : ℕ) → failureOf text ≡ failing t step set → areaWords ≤ length a
+    → heldTrace (failureArea text a) ≡ some t
+failing-held text a t step set e l = rw (failing-ruled text a t step set e l) (ruled-held a t (failing-fit text t step set e) l)
 
 -- 13: the area holds a trace exactly if its first 16,384 words are what reading some accepted trace leaves there, so that the
 -- reading would change nothing.
@@ -36,7 +42,7 @@ check-13 a = (to, from)
     to h =
         let (size, fit, words) = held-iff a (held a) .0 (held-self a h) in
         let e = fit-accepted (held a) fit in
-        (render (held a), held a, e, size, read-same (render (held a)) a (held a) e size words)
+        (render (held a), held a, e, size, read-ruled (render (held a)) a (held a) e size ∙ ruled-same a (held a) words)
 
     from : (text : List ℕ) × (t : Trace) × (verdict text ≡ accepted t) × (areaWords ≤ length a) × (readArea text a ≡ a) → holdsTrace a ≡ true
     from (text, t, e, size, same) = told a t (subst (λ (x : List ℕ). heldTrace x ≡ some t) same (read-held text a t e size)) .0

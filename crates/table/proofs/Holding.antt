@@ -6,7 +6,7 @@ use mathlib.Core.Bool.{Bool, true, false}
 use mathlib.Core.Option.{Option, none, some}
 use native.Mathlib.Omega.{arith}
 use lib.Dec.{leb}
-use lib.ListN.{length, getD, take, drop, replicate, length-append, length-drop, take-append-drop, getD-replicate}
+use lib.ListN.{length, getD, take, drop, replicate, length-append, take-append-drop, getD-replicate}
 use lib.Seq.{length-take-le, getD-take, take-at, take-all}
 use borrow.Author.Tests.{leb-true, le-leb, le-ltb}
 use Rattle.words.specs.Area.{wordsFrom, ruled}
@@ -15,8 +15,9 @@ use Rattle.words.proofs.Cases.{by-bool, and-left, and-right, and-both}
 use Rattle.trace.specs.Trace.{Trace}
 use Rattle.trace.specs.Fit.{wellFormed}
 use Rattle.trace.specs.Table.{tableWord}
+use Rattle.reader.specs.Failure.{failing, failureOf, failureArea}
 use Rattle.reader.specs.Verdict.{accepted, verdict}
-use Rattle.reader.specs.Answer.{ruleOf, readArea}
+use Rattle.reader.specs.Answer.{readArea}
 use Rattle.table.specs.Held.{heldEvents, held, holdsTrace, heldIf, heldTrace}
 use Rattle.table.proofs.Places.{word-procs, word-count, word-event, word-value, events-back}
 use Rattle.table.proofs.Testing.{words-each, each-words, holds-facts}
@@ -90,23 +91,27 @@ rule-area f = let l = length-words f 0 16384 in (omega arith, take-all 16384 (wo
 
 -- ---- what a reading leaves
 
-module _ (text a : List ℕ) where
-  read-ruled : (t : Trace) → verdict text ≡ accepted t → 16384 ≤ length a → readArea text a ≡ wordsFrom (tableWord t) 0 16384 ++ drop 16384 a
-  unfolding readArea ruled
-  read-ruled t e l = rw (le-ltb (length a) 16384 l, e)
+-- the words of a trace before the rest of an area
+pub ruled-held : (a : List ℕ) (t : Trace) → wellFormed t ≡ true → 16384 ≤ length a → heldTrace (ruled (tableWord t) 16384 a) ≡ some t
+unfolding ruled
+ruled-held a t w l =
+    let f = tableWord t in
+    held-of (wordsFrom f 0 16384 ++ drop 16384 a) t
+    (rw (length-append (wordsFrom f 0 16384) (drop 16384 a), length-words f 0 16384) (omega arith)) w
+    (take-at (wordsFrom f 0 16384) (drop 16384 a) 16384 (length-words f 0 16384))
 
-  pub read-length : 16384 ≤ length a → length (readArea text a) ≡ length a
-  unfolding readArea ruled
-  read-length l =
-      let f = ruleOf (verdict text) in
-      rw (le-ltb (length a) 16384 l) (length-append (wordsFrom f 0 16384) (drop 16384 a) ∙ rw (length-words f 0 16384, length-drop 16384 a) (omega arith))
+pub read-ruled : (text a : List ℕ) (t : Trace) → verdict text ≡ accepted t → 16384 ≤ length a → readArea text a ≡ ruled (tableWord t) 16384 a
+unfolding readArea
+read-ruled text a t e l = rw (le-ltb (length a) 16384 l, e)
 
-  module _ (t : Trace) (e : verdict text ≡ accepted t) (l : 16384 ≤ length a) where
-    pub read-words : take 16384 (readArea text a) ≡ wordsFrom (tableWord t) 0 16384
-    read-words = rw (read-ruled t e l) (take-at (wordsFrom (tableWord t) 0 16384) (drop 16384 a) 16384 (length-words (tableWord t) 0 16384))
+pub failing-ruled : (text a : List ℕ) (t : Trace) (step set : ℕ) → failureOf text ≡ failing t step set → 16384 ≤ length a
+    → failureArea text a ≡ ruled (tableWord t) 16384 a
+unfolding failureArea
+failing-ruled text a t step set e l = rw (le-ltb (length a) 16384 l, e)
 
-    pub read-same : take 16384 a ≡ wordsFrom (tableWord t) 0 16384 → readArea text a ≡ a
-    read-same h = read-ruled t e l ∙ ap (λ (x : List ℕ). x ++ drop 16384 a) (sym h) ∙ take-append-drop 16384 a
+pub ruled-same : (a : List ℕ) (t : Trace) → take 16384 a ≡ wordsFrom (tableWord t) 0 16384 → ruled (tableWord t) 16384 a ≡ a
+unfolding ruled
+ruled-same a t h = ap (λ (x : List ℕ). x ++ drop 16384 a) (sym h) ∙ take-append-drop 16384 a
 
 -- ---- words past 16,384
 

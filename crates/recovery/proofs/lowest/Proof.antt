@@ -7,7 +7,7 @@ use Rattle.table.specs.Held.{held}
 use Rattle.theory.specs.Order.{lowestOrder}
 use Rattle.line.specs.Given.{lineIn}
 use Rattle.recovery.specs.Answers.{runOf}
-use Rattle.recovery.proofs.Replaying.{refuses, carried, room-enough}
+use Rattle.recovery.proofs.Replaying.{refuses, not-completed, carried, completed, room-enough}
 use native.Mathlib.Omega.{arith}
 use borrow.Author.Needs.{needs}
 use Rattle.recovery.proofs.lowest.Statement.{statement}
@@ -19,7 +19,9 @@ returns c =
     let prepare = c .before .before .before .before .prepare in
     let if1 = c .before .if1 in
     let refused = c .refused in
-    refuses (args .table .now) (args .area .now) (args .step) (args .set) (args .line) (lowestOrder (runOf (args .table .now) (args .step) (args .line))) _ _ (prepare .ensures .0) (if1 .taken) (refused .ensures)
+    let order = lowestOrder (runOf (args .table .now) (args .step) (args .line)) in
+    let x = refuses (args .table .now) (args .area .now) (args .step) (args .set) (args .line) order _ _ (prepare .ensures .0) (if1 .taken) (refused .ensures) in
+    (x .0, (x .1 .0, (x .1 .1, not-completed (args .table .now) (args .area .now) (args .step) (args .set) (args .line) order _ (refused .result) (prepare .ensures .0) (if1 .taken))))
 
 slice-relend-prefix-lowest : tie.Need-slice-relend-prefix-lowest
 slice-relend-prefix-lowest c =
@@ -48,7 +50,12 @@ returns-2 c =
     let prepare = c .before .before .before .before .before .before .before .before .before .prepare in
     let if1 = c .before .before .before .before .before .before .if1 in
     let lowest = c .before .before .lowest in
-    carried (args .table .now) (args .area .now) (args .step) (args .set) (args .line) (lowestOrder (runOf (args .table .now) (args .step) (args .line))) _ _ ((prepare .ensures .1) (if1 .left)) _ _ _ (prepare .ensures .0) (if1 .left) ((lowest .ensures .0) (held (args .table .now)) (lineIn (args .line)) (((prepare .ensures .1) (if1 .left)) .given)) ((lowest .ensures .1) (held (args .table .now)) (lineIn (args .line)) (((prepare .ensures .1) (if1 .left)) .given))
+    let order = lowestOrder (runOf (args .table .now) (args .step) (args .line)) in
+    let P = (prepare .ensures .1) (if1 .left) in
+    let answer = (lowest .ensures .0) (held (args .table .now)) (lineIn (args .line)) (P .given) in
+    let words = (lowest .ensures .1) (held (args .table .now)) (lineIn (args .line)) (P .given) in
+    let x = carried (args .table .now) (args .area .now) (args .step) (args .set) (args .line) order _ _ P _ _ _ (prepare .ensures .0) (if1 .left) answer words in
+    (x .0, (x .1 .0, (x .1 .1, completed (args .table .now) (args .area .now) (args .step) (args .set) (args .line) order _ _ P _ answer)))
 
 pub lowest-spec : {M : Type 1} → statement M
 lowest-spec =
