@@ -1,188 +1,103 @@
 -- One law for each way out of a function and each way round a loop, over the values that the code has there.
-use mathlib.Core.Path.{_≡_, refl, sym, _∙_, ap, ap₂, subst}
-use mathlib.Core.Bool.{Bool, true, false, _&&_, _||_, not}
-use mathlib.Core.List.{List, [], _∷_}
-use Prim.Native.Nat.{ℕ, zero, suc, _+_, _-_, _*_, _/_, _%_, _^_, _≤_, _<_}
+use mathlib.Core.Path.{_≡_, refl, sym, _∙_, ap, ap₂}
+use mathlib.Core.Bool.{Bool, true, false, and-false}
+use mathlib.Core.List.{List}
+use Prim.Native.Nat.{ℕ, _+_, _-_, _/_, _%_, _^_, _≤_, _<_}
 use native.Mathlib.Omega.{arith}
-use native.Mathlib.Numerals.{add-one}
 use lib.ListN.{length, getD, set, length-set}
 use lib.Seq.{getD-set-same, getD-set-other}
 use lib.Dec.{leb, ltb, eqb}
-use borrow.Author.Tests.{lt-ltb, le-ltb, le-leb, lt-leb, eq-eqb, ne-eqb, ltb-true}
-use Rattle.words.proofs.Cases.{by-bool, by-lt, by-eq, clash, and-left, and-right}
+use borrow.Author.Tests.{lt-ltb, le-ltb, le-leb, lt-leb, eq-eqb, ne-eqb}
+use Rattle.words.proofs.Cases.{by-bool, by-eq}
 use Rattle.theory.specs.Lists.{pick}
 use Rattle.theory.specs.Line.{inSet}
-use Rattle.line.specs.Words.{atW, peerW, kindW, epochW, phaseW, matchW, lostE, lostW, lowerAt, passW, flagW, passes, Lowered, Planes, staysW, restartW, gateW, Gated}
-use Rattle.theory.proofs.Refusals.{neither}
+use Rattle.line.specs.Words.{atW, peerW, kindW, epochW, phaseW, matchW, lostE, lostW, lowerAt, undoneW, betterW, Found, Planes, staysW, restartW, gateW, Gated}
 
 -- ---- `lower_at`
 
 module _ (t m : List ℕ) (e k : ℕ) (ek : k ≡ kindW t e) where
-  stays-so : lostW t m e ≡ false → (false ≡ lostW t m e) × (m ≡ lowerAt t m e)
-  unfolding lowerAt
-  stays-so h = (sym h, rw h)
-
-  pub no-receive : (k ≡ 2 → ⊥) → (false ≡ lostW t m e) × (m ≡ lowerAt t m e)
+  pub no-receive : (k ≡ 2 → ⊥) → lostW t m e ≡ false
   unfolding lostW
-  no-receive h = let n : eqb (kindW t e) 2 ≡ false = ne-eqb (kindW t e) 2 (λ q. h (ek ∙ q)) in stays-so (rw n)
+  no-receive h = let n : eqb (kindW t e) 2 ≡ false = ne-eqb (kindW t e) 2 (λ q. h (ek ∙ q)) in rw n
 
   module _ (q p d : ℕ) (ek2 : k ≡ 2) (eq : q ≡ atW t e) (ep : p ≡ peerW t e) (ed : d ≡ matchW t e) where
     is-two : eqb (kindW t e) 2 ≡ true
     is-two = eq-eqb (kindW t e) 2 (sym ek ∙ ek2)
 
-    pub received-early : epochW t e < getD m q 0 → (false ≡ lostW t m e) × (m ≡ lowerAt t m e)
+    pub received-early : epochW t e < getD m q 0 → lostW t m e ≡ false
     unfolding lostW lostE
     received-early h =
         let a : leb (getD m (atW t e) 0) (epochW t e) ≡ false = rw (← eq) (lt-leb (getD m q 0) (epochW t e) h) in
-        stays-so (rw (is-two, a))
+        rw (is-two, a)
 
-    module _ (g : getD m q 0 ≤ epochW t e) where
-      a : leb (getD m (atW t e) 0) (epochW t e) ≡ true
-      a = rw (← eq) (le-leb (getD m q 0) (epochW t e) g)
+    pub is-logged : epochW t d < epochW t e → lostW t m e ≡ false
+    unfolding lostW lostE
+    is-logged l =
+        let c : ltb (epochW t (matchW t e)) (epochW t e) ≡ true = rw (← ed) (lt-ltb (epochW t d) (epochW t e) l) in
+        rw (is-two, c, and-false (ltb (epochW t (matchW t e)) (getD m (peerW t e) 0)), and-false (leb (getD m (atW t e) 0) (epochW t e)))
 
-      pub sent-late : getD m p 0 ≤ epochW t d → (false ≡ lostW t m e) × (m ≡ lowerAt t m e)
-      unfolding lostW lostE
-      sent-late h =
-          let b : ltb (epochW t (matchW t e)) (getD m (peerW t e) 0) ≡ false = rw (← ed, ← ep) (le-ltb (epochW t d) (getD m p 0) h) in
-          stays-so (rw (is-two, a, b))
+    pub sent-late : getD m p 0 ≤ epochW t d → lostW t m e ≡ false
+    unfolding lostW lostE
+    sent-late h =
+        let b : ltb (epochW t (matchW t e)) (getD m (peerW t e) 0) ≡ false = rw (← ed, ← ep) (le-ltb (epochW t d) (getD m p 0) h) in
+        rw (is-two, b, and-false (leb (getD m (atW t e) 0) (epochW t e)))
 
-      module _ (h : epochW t d < getD m p 0) where
-        b : ltb (epochW t (matchW t e)) (getD m (peerW t e) 0) ≡ true
-        b = rw (← ed, ← ep) (lt-ltb (epochW t d) (getD m p 0) h)
+    pub is-lost : getD m q 0 ≤ epochW t e → epochW t d < getD m p 0 → epochW t e ≤ epochW t d → lostW t m e ≡ true
+    unfolding lostW lostE
+    is-lost g h l =
+        let a : leb (getD m (atW t e) 0) (epochW t e) ≡ true = rw (← eq) (le-leb (getD m q 0) (epochW t e) g) in
+        let b : ltb (epochW t (matchW t e)) (getD m (peerW t e) 0) ≡ true = rw (← ed, ← ep) (lt-ltb (epochW t d) (getD m p 0) h) in
+        let c : ltb (epochW t (matchW t e)) (epochW t e) ≡ false = rw (← ed) (le-ltb (epochW t d) (epochW t e) l) in
+        rw (is-two, a, b, c)
 
-        pub is-logged : epochW t d < epochW t e → (false ≡ lostW t m e) × (m ≡ lowerAt t m e)
-        unfolding lostW lostE
-        is-logged l =
-            let c : ltb (epochW t (matchW t e)) (epochW t e) ≡ true = rw (← ed) (lt-ltb (epochW t d) (epochW t e) l) in
-            stays-so (rw (is-two, a, b, c))
+    pub is-lowered : lostW t m e ≡ true → set m p (epochW t d) ≡ lowerAt t m e
+    unfolding lowerAt
+    is-lowered h = rw (h, ed, ep)
 
-        pub is-lost : epochW t e ≤ epochW t d → (true ≡ lostW t m e) × (set m p (epochW t d) ≡ lowerAt t m e)
-        unfolding lostW lostE lowerAt
-        is-lost l =
-            let c : ltb (epochW t (matchW t e)) (epochW t e) ≡ false = rw (← ed) (le-ltb (epochW t d) (epochW t e) l) in
-            (rw (is-two, a, b, c), rw (is-two, a, b, c, ed, ep))
-
--- ---- `pass`
-
-pub length-lower : (t m : List ℕ) (e : ℕ) → length (lowerAt t m e) ≡ length m
+pub not-lowered : (t m : List ℕ) (e : ℕ) → lostW t m e ≡ false → m ≡ lowerAt t m e
 unfolding lowerAt
-length-lower t m e = by-bool (lostW t m e) (λ k. rw (k, length-set)) (λ k. rw k)
+not-lowered t m e h = rw h
 
-pub length-pass : (t m : List ℕ) (x : ℕ) → length (passW t m x) ≡ length m
-unfolding passW
-length-pass t m zero = refl
-length-pass t m (suc x) = length-lower t (passW t m x) (suc x) ∙ length-pass t m x
+-- ---- `undoes`, `lowest`, `next`
 
-or-no : (b : Bool) → b ≡ (b || false)
-or-no true = refl
-or-no false = refl
+pub undoes-none : (t m latest : List ℕ) (z : ℕ) → getD latest z 0 ≡ 0 → false ≡ undoneW t m latest z
+undoes-none t m latest z h = rw h
 
-or-yes : (b : Bool) → true ≡ (b || true)
-or-yes true = refl
-or-yes false = refl
+pub undoes-some : (t m latest : List ℕ) (z : ℕ) → (getD latest z 0 ≡ 0 → ⊥) → leb (getD m z 0) (epochW t (getD latest z 0)) ≡ undoneW t m latest z
+undoes-some t m latest z n = rw (lt-ltb 0 (getD latest z 0) (let h : 0 < getD latest z 0 = omega arith in h))
 
-module _ (t l m n : List ℕ) (e : ℕ) (any r : Bool) (em : m ≡ passW t l e) (ea : any ≡ flagW t l e) (er : r ≡ lostW t m (e + 1)) (en : n ≡ lowerAt t m (e + 1)) where
-  next-line : n ≡ passW t l (e + 1)
-  unfolding passW
-  next-line = en ∙ rw (add-one e, em)
-
-  pub pass-skips : r ≡ false → (n ≡ passW t l (e + 1)) × (any ≡ flagW t l (e + 1))
-  unfolding flagW
-  pass-skips f =
-      let h : lostW t (passW t l e) (suc e) ≡ false = rw (← add-one e, ← em) (sym er ∙ f) in
-      (next-line, rw (add-one e, h) (ea ∙ or-no (flagW t l e)))
-
-  pub pass-lowers : r ≡ true → (n ≡ passW t l (e + 1)) × (true ≡ flagW t l (e + 1))
-  unfolding flagW
-  pass-lowers f =
-      let h : lostW t (passW t l e) (suc e) ≡ true = rw (← add-one e, ← em) (sym er ∙ f) in
-      (next-line, rw (add-one e, h) (or-yes (flagW t l e)))
-
--- ---- `lower`: each pass that lowers the line takes from the sum of its numbers
-
-unfoldable pub sumL : List ℕ → ℕ
-sumL [] = 0
-sumL (x ∷ xs) = x + sumL xs
-
-sum-set : (m : List ℕ) (i v : ℕ) → i < length m → v < getD m i 0 → sumL (set m i v) < sumL m
-unfolding sumL
-sum-set [] i v h k = absurd (let z : ⊥ = omega arith in z)
-sum-set (x ∷ xs) zero v h k = omega arith
-sum-set (x ∷ xs) (suc i) v h k = omega (arith, sum-set xs i v (omega arith) k)
-
-lost-below : (t m : List ℕ) (e : ℕ) → lostW t m e ≡ true → epochW t (matchW t e) < getD m (peerW t e) 0
-unfolding lostW lostE
-lost-below t m e h =
-    by-bool (eqb (kindW t e) 2)
-    (λ k. let l : lostE t m (peerW t e) (atW t e) (matchW t e) e ≡ true = rw k at h in
-    let n = not (ltb (epochW t (matchW t e)) (epochW t e)) in
-    let b = ltb (epochW t (matchW t e)) (getD m (peerW t e) 0) in
-    ltb-true (epochW t (matchW t e)) (getD m (peerW t e) 0) (and-left b n (and-right (leb (getD m (atW t e) 0) (epochW t e)) (b && n) l)))
-    (λ k. clash {b = false} (rw k at h) refl)
-
-lower-sum : (t m : List ℕ) (e : ℕ) → length m ≡ 64 → (lostW t m e ≡ true → sumL (lowerAt t m e) < sumL m) × (sumL (lowerAt t m e) ≤ sumL m)
-unfolding lowerAt
-lower-sum t m e l =
-    by-bool (lostW t m e)
-    (λ k. let s = sum-set m (peerW t e) (epochW t (matchW t e)) (omega arith) (lost-below t m e k) in rw k (λ u. s, omega (arith, s)))
-    (λ k. rw k (λ u. clash {b = false} u refl, omega arith))
-
-pass-sum : (t m : List ℕ) (x : ℕ) → length m ≡ 64 → (flagW t m x ≡ true → sumL (passW t m x) < sumL m) × (sumL (passW t m x) ≤ sumL m)
-unfolding passW flagW
-pass-sum t m zero l = (λ u. clash {b = false} u refl, omega arith)
-pass-sum t m (suc x) l =
-    let ih = pass-sum t m x l in
-    let s = lower-sum t (passW t m x) (suc x) (length-pass t m x ∙ l) in (
-      λ f. by-bool (lostW t (passW t m x) (suc x))
-          (λ k. omega (arith, s .0 k, ih .1))
-          (λ k. by-bool (flagW t m x) (λ y. omega (arith, ih .0 y, s .1)) (λ y. clash {b = false} (rw (y, k) at f) refl)),
-      omega (arith, s .1, ih .1),
-    )
-
--- a pass that lowers nothing leaves the line, and no event of it receives a lost message
-
-pub pass-same : (t m : List ℕ) (x : ℕ) → flagW t m x ≡ false → (passW t m x ≡ m) × ((e : ℕ) → 0 < e → e ≤ x → lostW t m e ≡ false)
-unfolding passW flagW lowerAt
-pass-same t m zero f = (refl, λ e a b. absurd (let z : ⊥ = omega arith in z))
-pass-same t m (suc x) f =
-    let o = neither (flagW t m x) (lostW t (passW t m x) (suc x)) f in
-    let ih = pass-same t m x (o .0) in
-    let l : lostW t m (suc x) ≡ false = subst (λ y. lostW t y (suc x) ≡ false) (ih .0) (o .1) in
-    (rw (o .1) (ih .0), λ e a b. by-lt x e (λ c. let i : e ≡ suc x = omega arith in rw i l) (λ c. ih .1 e a c))
-
-abbrev pub oneMore : Bool → ℕ
-oneMore true = 1
-oneMore false = 0
-
--- passes so far, and, when there is to be no other, the last of them lowered nothing
-pub record Passing (t : List ℕ) (cut : ℕ) (l m : List ℕ) (again : Bool) : Type 0 where
-  pub passed : (n : ℕ) × (m ≡ passes t cut n l)
-  pub long : length m ≡ 64
-  pub done : again ≡ false → flagW t m cut ≡ false
-
-pub passing-begins : (t : List ℕ) (cut : ℕ) (l : List ℕ) → length l ≡ 64 → Passing t cut l l true
-unfolding passes
-passing-begins t cut l h = record { passed = (0, refl); long = h; done = λ f. clash {b = true} refl f }
-
-module _ (t : List ℕ) (cut : ℕ) (l m n : List ℕ) (again r : Bool) (P : Passing t cut l m again) (er : r ≡ flagW t m cut) (en : n ≡ passW t m cut) where
-  pub passing-next : Passing t cut l n r
-  unfolding passes
-  passing-next = record {
-    passed = (suc (P .passed .0), en ∙ ap (λ (y : List ℕ). passW t y cut) (P .passed .1));
-    long = ap length en ∙ length-pass t m cut ∙ P .long;
-    done = λ f. subst (λ (y : List ℕ). flagW t y cut ≡ false) (sym (en ∙ (pass-same t m cut (sym er ∙ f)) .0)) (sym er ∙ f);
+module _ (t m latest : List ℕ) where
+  pub found-none : Found t m latest 0 64
+  found-none = record {
+    within = omega arith;
+    one = λ h. absurd (let y : ⊥ = omega arith in y);
+    none = λ h z q. absurd (let y : ⊥ = omega arith in y);
   }
 
-  pub passing-less : again ≡ true → 2 * sumL n + oneMore r < 2 * sumL m + oneMore again
-  passing-less a =
-      let s = pass-sum t m cut (P .long) in
-      let ee : sumL n ≡ sumL (passW t m cut) = ap sumL en in
-      by-bool r
-      (λ f. rw (f, a) (omega (arith, ee, s .0 (sym er ∙ f))))
-      (λ f. rw (f, a) (omega (arith, ee, s .1)))
+  pub found-at : (n z : ℕ) (b : Bool) → z < 64 → b ≡ undoneW t m latest z → b ≡ true → Found t m latest n z
+  found-at n z b l eb h = record {
+    within = omega arith;
+    one = λ k. sym eb ∙ h;
+    none = λ e. absurd (let y : ⊥ = omega arith in y);
+  }
 
-pub passing-ends : (t : List ℕ) (cut : ℕ) (l m : List ℕ) (again : Bool) → Passing t cut l m again → again ≡ false → Lowered t cut l m
-passing-ends t cut l m again P f = (P .passed .0, P .passed .1, P .done f)
+  module _ (n r : ℕ) (b : Bool) (F : Found t m latest n r) (eb : b ≡ undoneW t m latest n) where
+    pub found-skips : b ≡ false → Found t m latest (n + 1) r
+    found-skips h = record {
+      within = F .within;
+      one = F .one;
+      none = λ e z q. by-eq z n (λ i. rw i (sym eb ∙ h)) (λ d. F .none e z (omega arith));
+    }
+
+    -- each of the two has an undone event
+    pub found-next : n < 64 → b ≡ true → Found t m latest (n + 1) (betterW m r n)
+    found-next l h =
+        by-eq r 64
+        (λ e. rw (eq-eqb r 64 e) (found-at (n + 1) n b l eb h))
+        (λ d. let k : r < 64 = omega (arith, F .within) in
+        by-bool (ltb (getD m n 0) (getD m r 0))
+        (λ c. rw (ne-eqb r 64 d, c) (found-at (n + 1) n b l eb h))
+        (λ c. rw (ne-eqb r 64 d, c) (found-at (n + 1) r true k (sym (F .one k)) refl)))
 
 -- ---- Loops over the processes
 

@@ -1,8 +1,8 @@
--- The words of a line, lowered pass by pass, become the greatest line without a lost message: `greatest-words`.
+-- The words of a line, lowered at one event after another, become the greatest line without a lost message: `greatest-words`.
 use mathlib.Core.Path.{_≡_, refl, sym, _∙_, ap, subst, fun-ext}
 use mathlib.Core.Bool.{Bool, true, false, _&&_, not}
 use mathlib.Core.List.{List}
-use Prim.Native.Nat.{ℕ, zero, suc, _+_, _-_, _≤_, _<_}
+use Prim.Native.Nat.{ℕ, _+_, _≤_, _<_}
 use native.Mathlib.Omega.{arith}
 use lib.ListN.{length, getD, set, List·getD-eq-default}
 use lib.Seq.{getD-set-same, getD-set-other}
@@ -24,9 +24,10 @@ use Rattle.theory.proofs.Lines.{Number, ByEpochs, epoch-le, number-of, lost-in,
 use Rattle.theory.proofs.Claims.{epoch-counts, reached-usable, lowering-begins, lowering-goes-on, lowering-ends, greatest-line, greatest-only}
 use Rattle.line.specs.declared.Line.{Line}
 use Rattle.line.specs.Given.{Tabled, each, lineIn, lineTo}
-use Rattle.line.specs.Words.{atW, peerW, kindW, epochW, matchW, lostE, lostW, lowerAt, passW, flagW, passes, Lowered}
-use Rattle.line.proofs.Table.{fit, procs-is, kind-receive, receive-kind}
-use Rattle.line.proofs.Laws.{length-pass, pass-same}
+use Rattle.line.specs.Words.{atW, peerW, kindW, epochW, matchW, lostE, lostW, lowerAt, Lowers, Rising, Lowered}
+use Rattle.line.specs.Words.Lowers.{same, more}
+use Rattle.line.proofs.Table.{fit, procs-is, at-is, kind-receive, receive-kind}
+use Rattle.line.proofs.Worklist.{length-lower}
 
 not-true : (b : Bool) → not b ≡ true → b ≡ false
 not-true true h = clash {b = false} h refl
@@ -112,6 +113,14 @@ module _ (t : Trace) (full : List ℕ) (G : Tabled t full) (cut : ℕ) (cl : cut
       let h3 : ltb (epochW full (matchW full e)) (epochW full e) ≡ false = le-ltb (epochW full (matchW full e)) (epochW full e) (omega (arith, s, r, n)) in
       rw (h1, h2, h3)
 
+  -- no event lowers the epoch of a process
+  rising : Rising full cut
+  rising x y a l b i =
+      let z = at t y in
+      let j : at t x ≡ z = sym (at-is t full G x a (omega arith)) ∙ i ∙ at-is t full G y (omega arith) (omega arith) in
+      let ex : epochW full x ≡ epochAt t past z x = G .columns .epoch x a (omega arith) ∙ ap (λ (w : ℕ). epochAt t past w x) j in
+      omega (arith, ex, G .columns .epoch y (omega arith) (omega arith), epoch-le t past (fit t full G) y (omega arith) z x l)
+
   -- ---- Lowering
 
   abbrev U : Usable t past cut (reached t past cut)
@@ -184,26 +193,17 @@ module _ (t : Trace) (full : List ℕ) (G : Tabled t full) (cut : ℕ) (cl : cut
         (λ h. rw (k, h) (v, λ z l. refl)))
         (λ k. rw k (v, λ z l. refl))
 
-    pass-above : (m : List ℕ) (x : ℕ) → length m ≡ 64 → x ≤ cut → Over (lineOf m)
-        → Over (lineOf (passW full m x)) × ((z : ℕ) → t .procs ≤ z → getD (passW full m x) z 0 ≡ getD m z 0)
-    unfolding passW
-    pass-above m zero len h v = (v, λ z l. refl)
-    pass-above m (suc x) len h v =
-        let ih = pass-above m x len (omega arith) v in
-        let r = lower-above (passW full m x) (suc x) (length-pass full m x ∙ len) (omega arith) h (ih .0) in
-        (r .0, λ z l. r .1 z l ∙ ih .1 z l)
-
-    passes-above : (m : List ℕ) (n : ℕ) → length m ≡ 64 → Over (lineOf m)
-        → Over (lineOf (passes full cut n m)) × ((z : ℕ) → t .procs ≤ z → getD (passes full cut n m) z 0 ≡ getD m z 0) × (length (passes full cut n m) ≡ 64)
-    unfolding passes
-    passes-above m zero len v = (v, λ z l. refl, len)
-    passes-above m (suc n) len v =
-        let ih = passes-above m n len v in
-        let r = pass-above (passes full cut n m) cut (ih .2) (omega arith) (ih .0) in
-        (r .0, λ z l. r .1 z l ∙ ih .1 z l, length-pass full (passes full cut n m) cut ∙ ih .2)
+    -- and any number of events: the same
+    lowers-above : (m r : List ℕ) → Lowers full cut m r → length m ≡ 64 → Over (lineOf m)
+        → Over (lineOf r) × ((z : ℕ) → t .procs ≤ z → getD r z 0 ≡ getD m z 0) × (length r ≡ 64)
+    lowers-above m r same len v = (v, λ z l. refl, len)
+    lowers-above m r (more {r = x} e a b s) len v =
+        let ih = lowers-above m x s len v in
+        let w = lower-above x e (ih .2) a b (ih .0) in
+        (w .0, λ z l. w .1 z l ∙ ih .1 z l, length-lower full x e ∙ ih .2)
 
     -- no event up to the cut receives a lost message: none is lost
-    none-lost : (m : List ℕ) → Over (lineOf m) → flagW full m cut ≡ false → LossFree (recorded t past cut (lineOf m))
+    none-lost : (m : List ℕ) → Over (lineOf m) → ((e : ℕ) → 0 < e → e ≤ cut → lostW full m e ≡ false) → LossFree (recorded t past cut (lineOf m))
     unfolding lostW
     none-lost m v f p q k = by-bool (lost (recorded t past cut (lineOf m)) p q k)
         (λ h.
@@ -211,7 +211,7 @@ module _ (t : Trace) (full : List ℕ) (G : Tabled t full) (cut : ℕ) (cl : cut
         let x = lost-epochs t past (fit t full G) cut cl (lineOf m) p q k (number m v p (i .0)) (number m v q (i .1)) h in
         let w = receive-kind t full G (x .e) (x .e-pos) (omega (arith, x .e-cut)) p q (x .e-recv) in
         let n : pick (eqb (kindW full (x .e)) 2) (lostE full m (peerW full (x .e)) (atW full (x .e)) (matchW full (x .e)) (x .e)) false ≡ false =
-        (pass-same full m cut f) .1 (x .e) (x .e-pos) (x .e-cut) in
+        f (x .e) (x .e-pos) (x .e-cut) in
         let g : lostE full m p q (matchW full (x .e)) (x .e) ≡ false = rw (eq-eqb (kindW full (x .e)) 2 (w .0), w .1, w .2) at n in
         clash (by-epochs m p q k x) g)
         (λ h. h)
@@ -229,24 +229,21 @@ module _ (t : Trace) (full : List ℕ) (G : Tabled t full) (cut : ℕ) (cl : cut
 
     module _ (m r : List ℕ) (len : length m ≡ 64) (f : (z : ℕ) → z < t .procs → getD m z 0 ≡ pick (failed z) (current t past cut z) 32)
         (past-zero : (z : ℕ) → t .procs ≤ z → getD m z 0 ≡ 0) (L : Lowered full cut m r) where
-      all : Over (lineOf (passes full cut (L .0) m)) × ((z : ℕ) → t .procs ≤ z → getD (passes full cut (L .0) m) z 0 ≡ getD m z 0) × (length (passes full cut (L .0) m) ≡ 64)
-      all = passes-above m (L .0) len (first-above m f)
-
-      over : Over (lineOf r)
-      over = subst (λ (x : List ℕ). Over (lineOf x)) (sym (L .1)) (all .0)
+      all : Over (lineOf r) × ((z : ℕ) → t .procs ≤ z → getD r z 0 ≡ getD m z 0) × (length r ≡ 64)
+      all = lowers-above m r (L .steps) len (first-above m f)
 
       greatest-words : Greatest t past cut (reached t past cut) failed (lineOf r)
-      greatest-words = lowering-ends t (G .formed) past cut cl (reached t past cut) U failed (lineOf r) over (none-lost r over (L .2))
+      greatest-words = lowering-ends t (G .formed) past cut cl (reached t past cut) U failed (lineOf r) (all .0) (none-lost r (all .0) (L .none-lost rising))
 
       -- the words are those of the theory's line
       pub greatest-list : r ≡ wordsFrom (each t (greatestLine t past cut (reached t past cut) failed)) 0 64
       greatest-list =
-          words-ext (each t (greatestLine t past cut (reached t past cut) failed)) 64 r (ap length (L .1) ∙ all .2)
+          words-ext (each t (greatestLine t past cut (reached t past cut) failed)) 64 r (all .2)
           (λ z h. by-lt z (t .procs)
           (λ l. greatest-only t (G .formed) past cut cl (reached t past cut) U failed (lineOf r) (greatestLine t past cut (reached t past cut) failed) greatest-words
           (greatest-line t (G .formed) past cut cl (reached t past cut) U failed) z l
           ∙ rw (lt-ltb z (t .procs) l))
-          (λ l. ap (λ (x : List ℕ). getD x z 0) (L .1) ∙ all .1 z l ∙ past-zero z l ∙ rw (le-ltb z (t .procs) l)))
+          (λ l. all .1 z l ∙ past-zero z l ∙ rw (le-ltb z (t .procs) l)))
 
 -- ---- `greatest`: the epochs at the cut d, the first line m, the last line r
 

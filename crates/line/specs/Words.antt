@@ -1,8 +1,8 @@
--- A line in words, lowered by one pass over the events after another. No public contract cites these.
-use Prim.Native.Nat.{ℕ, zero, suc, _+_, _-_, _*_, _/_, _%_, _<_, _≤_}
+-- A line in words, lowered at one event after another. Of these the public contracts cite `Sized` only.
+use Prim.Native.Nat.{ℕ, _+_, _-_, _/_, _%_, _<_, _≤_}
 use mathlib.Core.Path.{_≡_}
 use mathlib.Core.Bool.{Bool, true, false, _&&_, _||_, not}
-use mathlib.Core.List.{List, [], _∷_}
+use mathlib.Core.List.{List}
 use lib.ListN.{length, getD, set}
 use lib.Dec.{leb, ltb, eqb}
 use Rattle.words.specs.Area.{areaWords}
@@ -50,23 +50,60 @@ lostW t m e = pick (eqb (kindW t e) 2) (lostE t m (peerW t e) (atW t e) (matchW 
 unfoldable pub lowerAt : List ℕ → List ℕ → ℕ → List ℕ
 lowerAt t m e = pick (lostW t m e) (set m (peerW t e) (epochW t (matchW t e))) m
 
--- a pass over the events 1 .. x, and whether it lowered the line
-unfoldable pub passW : List ℕ → List ℕ → ℕ → List ℕ
-passW t m zero = m
-passW t m (suc x) = lowerAt t (passW t m x) (suc x)
+-- the words that are read for that are in their range
+pub record Lowerable (t m : List ℕ) (e : ℕ) : Type 0 where
+  pub whole : length t ≡ areaWords
+  pub long : length m ≡ 64
+  pub few : e ≤ 2048
+  pub matched : kindW t e ≡ 2 → matchW t e ≤ 2048
 
-unfoldable pub flagW : List ℕ → List ℕ → ℕ → Bool
-flagW t m zero = false
-flagW t m (suc x) = flagW t m x || lostW t (passW t m x) (suc x)
+-- the lines that lowering a line at events up to the cut leads to
+pub data Lowers (t : List ℕ) (cut : ℕ) (m : List ℕ) : List ℕ → Type 0 where
+  same : Lowers t cut m m
+  more : {r : List ℕ} (e : ℕ) → 0 < e → e ≤ cut → Lowers t cut m r → Lowers t cut m (lowerAt t r e)
 
--- n passes over the events up to the cut
-unfoldable pub passes : List ℕ → ℕ → ℕ → List ℕ → List ℕ
-passes t cut zero m = m
-passes t cut (suc n) m = passW t (passes t cut n m) cut
+-- in the order of events the epochs of a process do not fall
+abbrev pub Rising : List ℕ → ℕ → Type 0
+Rising t cut = (x y : ℕ) → 0 < x → x ≤ y → y ≤ cut → atW t x ≡ atW t y → epochW t x ≤ epochW t y
 
--- passes until one lowers nothing
-abbrev pub Lowered : List ℕ → ℕ → List ℕ → List ℕ → Type 0
-Lowered t cut m r = (n : ℕ) × (r ≡ passes t cut n m) × (flagW t r cut ≡ false)
+-- lowered until no event up to the cut receives a lost message
+pub record Lowered (t : List ℕ) (cut : ℕ) (m r : List ℕ) : Type 0 where
+  pub steps : Lowers t cut m r
+  pub none-lost : Rising t cut → (e : ℕ) → 0 < e → e ≤ cut → lostW t r e ≡ false
+
+-- e is the newest event of process z up to event x, or 0 where there is none
+pub record Newest (t : List ℕ) (z x e : ℕ) : Type 0 where
+  pub within : e ≤ x
+  pub own : 0 < e → atW t e ≡ z
+  pub others : (y : ℕ) → e < y → y ≤ x → atW t y ≡ z → ⊥
+
+-- the events of each process up to event x, linked from the newest back
+pub record Linked (t : List ℕ) (x : ℕ) (earlier latest : List ℕ) : Type 0 where
+  pub long : length earlier ≡ 2049
+  pub wide : length latest ≡ 64
+  pub before : (e : ℕ) → 0 < e → e ≤ x → Newest t (atW t e) (e - 1) (getD earlier e 0)
+  pub last : (z : ℕ) → z < 64 → Newest t z x (getD latest z 0)
+
+-- the words that are read to ask about events that were not looked at yet are in their range
+pub record Pending (t m latest : List ℕ) : Type 0 where
+  pub whole : length t ≡ areaWords
+  pub long : length m ≡ 64
+  pub wide : length latest ≡ 64
+  pub few : (z : ℕ) → z < 64 → getD latest z 0 ≤ 2048
+
+-- does the line undo the newest event of process z that was not looked at yet
+abbrev pub undoneW : List ℕ → List ℕ → List ℕ → ℕ → Bool
+undoneW t m latest z = ltb 0 (getD latest z 0) && leb (getD m z 0) (epochW t (getD latest z 0))
+
+-- of process z and the best one so far, the one with the lower number
+abbrev pub betterW : List ℕ → ℕ → ℕ → ℕ
+betterW m best z = pick (eqb best 64) z (pick (ltb (getD m z 0) (getD m best 0)) z best)
+
+-- r is a process with such an undone event, or 64, and then none of the first n has one
+pub record Found (t m latest : List ℕ) (n r : ℕ) : Type 0 where
+  pub within : r ≤ 64
+  pub one : r < 64 → undoneW t m latest r ≡ true
+  pub none : r ≡ 64 → (z : ℕ) → z < n → undoneW t m latest z ≡ false
 
 -- 1 for each of so many processes, and 0 past the last
 pub record Begun (count : ℕ) (l : List ℕ) : Type 0 where

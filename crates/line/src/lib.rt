@@ -16,7 +16,7 @@ ghost use Rattle.theory.specs.Events.{size};
 ghost use Rattle.theory.specs.Epochs.{past};
 ghost use Rattle.theory.specs.Line.{inSet, staysIn, current, reached, Greatest, highest, greatestLine};
 ghost use Rattle.line.specs.Given.{Tabled, each, lineIn, lineTo, restartWord, gateWord, numbersOf, backOf, backOnes};
-ghost use Rattle.line.specs.Words.{kindW, peerW, atW, epochW, matchW, Sized, lostW, lowerAt, passW, flagW, Lowered, Begun, staysW, RestartsBegun, restartW, gateW, Gated, reachedW, mayStayW, mayW};
+ghost use Rattle.line.specs.Words.{matchW, Sized, lowerAt, Lowered, Linked, Pending, undoneW, betterW, Found, Lowerable, Begun, staysW, RestartsBegun, restartW, gateW, Gated, reachedW, mayStayW, mayW};
 use protocol::EPOCH_BASE;
 use protocol::MATCH_BASE;
 use protocol::PHASE_BASE;
@@ -132,14 +132,13 @@ fn first_line(epochs: &mut [u32], count: usize, set: u64)
 }
 
 // Where event e receives a message that the line loses, its sender is lowered to the epoch of the send.
-fn lower_at(full: &[u32], epochs: &mut [u32], e: usize) -> bool
-    requires { ⌜ (length (now full) ≡ areaWords) × (length (now epochs) ≡ 64) × (e ≤ 2048) × (kindW (now full) e ≡ 2 → matchW (now full) e ≤ 2048) ⌝ }
-    ensures lost { λ r. ⌜ r ≡ lostW (now (full .entry)) (now (epochs .entry)) e ⌝ }
-    ensures line { λ r. ⌜ now (epochs .exit) ≡ lowerAt (now (full .entry)) (now (epochs .entry)) e ⌝ }
+fn lower_at(full: &[u32], epochs: &mut [u32], e: usize)
+    requires { ⌜ Lowerable (now full) (now epochs) e ⌝ }
+    ensures { λ _. ⌜ now (epochs .exit) ≡ lowerAt (now (full .entry)) (now (epochs .entry)) e ⌝ }
 {
     let w = full[EVENT_BASE + e];
     if kind(w) != RECEIVE {
-        return false;
+        return;
     }
     let q = process(w);
     let p = peer(w);
@@ -147,43 +146,108 @@ fn lower_at(full: &[u32], epochs: &mut [u32], e: usize) -> bool
     let taken = full[EPOCH_BASE + e];
     let sent = full[EPOCH_BASE + d];
     if epochs[q] > taken {
-        return false;
+        return;
     }
     if epochs[p] <= sent {
-        return false;
+        return;
     }
     if sent < taken {
-        return false;
+        return;
     }
     epochs[p] = sent;
-    true
 }
 
-// One pass over the events up to the cut; whether it lowered the line.
-fn pass(full: &[u32], epochs: &mut [u32], cut: usize) -> bool
-    requires { ⌜ Sized (now full) cut × (length (now epochs) ≡ 64) ⌝ }
-    ensures lowered { λ r. ⌜ r ≡ flagW (now (full .entry)) (now (epochs .entry)) cut ⌝ }
-    ensures line { λ r. ⌜ now (epochs .exit) ≡ passW (now (full .entry)) (now (epochs .entry)) cut ⌝ }
+// Links the events of each process up to the cut, from the newest back: for each event the one of its process before it, and for each process
+// its newest; 0 where there is none.
+fn link(full: &[u32], cut: usize, earlier: &mut [u32], latest: &mut [u32])
+    requires { ⌜ Sized (now full) cut × (length (now earlier) ≡ 2049) × (length (now latest) ≡ 64) × ((z : ℕ) → getD (now latest) z 0 ≡ 0) ⌝ }
+    ensures { λ _. ⌜ Linked (now (full .entry)) cut (now (earlier .exit)) (now (latest .exit)) ⌝ }
 {
-    let mut any = false;
     let mut e: usize = 0;
     while e < cut {
         e += 1;
-        if lower_at(full, epochs, e) {
-            any = true;
-        }
+        let z = process(full[EVENT_BASE + e]);
+        earlier[e] = latest[z];
+        latest[z] = e as u32;
     }
-    any
 }
 
-// Passes until one lowers nothing.
+// Does the line undo the newest event of process z that was not looked at yet.
+fn undoes(full: &[u32], epochs: &[u32], latest: &[u32], z: usize) -> bool
+    requires { ⌜ Pending (now full) (now epochs) (now latest) × (z < 64) ⌝ }
+    ensures { λ r. ⌜ r ≡ undoneW (now (full .entry)) (now (epochs .entry)) (now (latest .entry)) z ⌝ }
+{
+    let e = latest[z] as usize;
+    if e == 0 {
+        return false;
+    }
+    epochs[z] <= full[EPOCH_BASE + e]
+}
+
+// Of process z and the best one so far (64: none), the one with the lower number.
+fn better(epochs: &[u32], best: usize, z: usize) -> usize
+    requires { ⌜ (length (now epochs) ≡ 64) × (best ≤ 64) × (z < 64) ⌝ }
+    ensures { λ r. ⌜ r ≡ betterW (now (epochs .entry)) best z ⌝ }
+{
+    if best == 64 {
+        return z;
+    }
+    if epochs[z] < epochs[best] { z } else { best }
+}
+
+// A process with an undone event that was not looked at yet, or 64 if there is none. It has the lowest number of all these, which saves time:
+// a lost message lowers its sender to no less than its receiver's number, so a process looked at is not lowered later, and none comes twice.
+// (Argued, not proved: any such process would do.)
+fn lowest(full: &[u32], epochs: &[u32], latest: &[u32]) -> usize
+    requires { ⌜ Pending (now full) (now epochs) (now latest) ⌝ }
+    ensures { λ r. ⌜ Found (now (full .entry)) (now (epochs .entry)) (now (latest .entry)) 64 r ⌝ }
+{
+    let mut best: usize = 64;
+    let mut z: usize = 0;
+    while z < 64 {
+        if undoes(full, epochs, latest, z) {
+            best = better(epochs, best, z);
+        }
+        z += 1;
+    }
+    best
+}
+
+// The same, but process z again while it has such an event: all of its undone events are looked at before another process is looked for.
+fn next(full: &[u32], epochs: &[u32], latest: &[u32], z: usize) -> usize
+    requires { ⌜ Pending (now full) (now epochs) (now latest) × (z < 64) ⌝ }
+    ensures { λ r. ⌜ Found (now (full .entry)) (now (epochs .entry)) (now (latest .entry)) 64 r ⌝ }
+{
+    if undoes(full, epochs, latest, z) {
+        return z;
+    }
+    lowest(full, epochs, latest)
+}
+
+// Looks at the newest event of process z that was not looked at yet.
+fn look(full: &[u32], earlier: &[u32], epochs: &mut [u32], latest: &mut [u32], z: usize)
+    requires { ⌜ (length (now earlier) ≡ 2049) × (length (now latest) ≡ 64) × (z < 64) × Lowerable (now full) (now epochs) (getD (now latest) z 0) ⌝ }
+    ensures line { λ _. ⌜ now (epochs .exit) ≡ lowerAt (now (full .entry)) (now (epochs .entry)) (getD (now (latest .entry)) z 0) ⌝ }
+    ensures rest { λ _. ⌜ now (latest .exit) ≡ set (now (latest .entry)) z (getD (now (earlier .entry)) (getD (now (latest .entry)) z 0) 0) ⌝ }
+{
+    let e = latest[z] as usize;
+    lower_at(full, epochs, e);
+    latest[z] = earlier[e];
+}
+
+// Lowers the line until it loses no message. An undone event is looked at once: then its message is logged, or its sender restarts no later
+// than the send, and since numbers only fall that stays so. An event that is not undone receives no lost message.
 fn lower(full: &[u32], epochs: &mut [u32], cut: usize)
     requires { ⌜ Sized (now full) cut × (length (now epochs) ≡ 64) ⌝ }
     ensures { λ _. ⌜ Lowered (now (full .entry)) cut (now (epochs .entry)) (now (epochs .exit)) ⌝ }
 {
-    let mut again = true;
-    while again {
-        again = pass(full, epochs, cut);
+    let mut earlier = [0u32; 2049];
+    let mut latest = [0u32; 64];
+    link(full, cut, &mut earlier, &mut latest);
+    let mut z = lowest(full, epochs, &latest);
+    while z < 64 {
+        look(full, &earlier, epochs, &mut latest, z);
+        z = next(full, epochs, &latest, z);
     }
 }
 

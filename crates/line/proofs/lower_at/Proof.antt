@@ -1,6 +1,6 @@
 -- `line::lower_at` meets its contract: one test after another, as lostW has them.
 use mathlib.Core.Path.{sym, _∙_}
-use Rattle.line.proofs.Laws.{no-receive, received-early, sent-late, is-logged, is-lost}
+use Rattle.line.proofs.Laws.{no-receive, received-early, sent-late, is-logged, is-lost, is-lowered, not-lowered}
 use borrow.Author.Needs.{needs}
 use Rattle.line.proofs.lower_at.Statement.{statement}
 use Rattle.line.proofs.lower_at.Tie as tie
@@ -9,14 +9,14 @@ returns : tie.Need-returns
 returns c =
     let kind = c .before .kind in
     let if1 = c .if1 in
-    no-receive _ _ _ _ (kind .ensures) (if1 .taken)
+    not-lowered _ _ _ (no-receive _ _ _ _ (kind .ensures) (if1 .taken))
 
 matched-requires : tie.Need-matched-requires
 matched-requires c κs =
     let pre = c .before .before .before .before .before .before .before .pre in
     let kind = c .before .before .before .kind in
     let if1 = c .before .before .if1 in
-    ((pre .0), (pre .2), (pre .3) (sym (kind .ensures) ∙ (if1 .left)))
+    ((pre .whole), (pre .few), (pre .matched) (sym (kind .ensures) ∙ (if1 .left)))
 
 returns-2 : tie.Need-returns-2
 returns-2 c =
@@ -26,7 +26,7 @@ returns-2 c =
     let peer = c .before .before .before .before .before .peer in
     let matched = c .before .before .before .before .matched in
     let if2 = c .if2 in
-    received-early _ _ _ _ (kind .ensures) _ _ _ (if1 .left) (process .ensures .0) (peer .ensures .0) (matched .ensures .0) (if2 .taken)
+    not-lowered _ _ _ (received-early _ _ _ _ (kind .ensures) _ _ _ (if1 .left) (process .ensures .0) (peer .ensures .0) (matched .ensures .0) (if2 .taken))
 
 returns-3 : tie.Need-returns-3
 returns-3 c =
@@ -35,9 +35,8 @@ returns-3 c =
     let process = c .before .before .before .before .before .before .before .before .process in
     let peer = c .before .before .before .before .before .before .before .peer in
     let matched = c .before .before .before .before .before .before .matched in
-    let if2 = c .before .before .if2 in
     let if3 = c .if3 in
-    sent-late _ _ _ _ (kind .ensures) _ _ _ (if1 .left) (process .ensures .0) (peer .ensures .0) (matched .ensures .0) (if2 .left) (if3 .taken)
+    not-lowered _ _ _ (sent-late _ _ _ _ (kind .ensures) _ _ _ (if1 .left) (process .ensures .0) (peer .ensures .0) (matched .ensures .0) (if3 .taken))
 
 returns-4 : tie.Need-returns-4
 returns-4 c =
@@ -46,10 +45,8 @@ returns-4 c =
     let process = c .before .before .before .before .before .before .before .before .before .process in
     let peer = c .before .before .before .before .before .before .before .before .peer in
     let matched = c .before .before .before .before .before .before .before .matched in
-    let if2 = c .before .before .before .if2 in
-    let if3 = c .before .if3 in
     let if4 = c .if4 in
-    is-logged _ _ _ _ (kind .ensures) _ _ _ (if1 .left) (process .ensures .0) (peer .ensures .0) (matched .ensures .0) (if2 .left) (if3 .left) (if4 .taken)
+    not-lowered _ _ _ (is-logged _ _ _ _ (kind .ensures) _ _ _ (if1 .left) (process .ensures .0) (peer .ensures .0) (matched .ensures .0) (if4 .taken))
 
 returns-5 : tie.Need-returns-5
 returns-5 c =
@@ -61,7 +58,7 @@ returns-5 c =
     let if2 = c .before .before .before .if2 in
     let if3 = c .before .if3 in
     let if4 = c .if4 in
-    is-lost _ _ _ _ (kind .ensures) _ _ _ (if1 .left) (process .ensures .0) (peer .ensures .0) (matched .ensures .0) (if2 .left) (if3 .left) (if4 .left)
+    is-lowered _ _ _ _ (kind .ensures) _ _ _ (if1 .left) (process .ensures .0) (peer .ensures .0) (matched .ensures .0) (is-lost _ _ _ _ (kind .ensures) _ _ _ (if1 .left) (process .ensures .0) (peer .ensures .0) (matched .ensures .0) (if2 .left) (if3 .left) (if4 .left))
 
 pub lower-at-spec : {M : Type 1} → statement M
 lower-at-spec =
