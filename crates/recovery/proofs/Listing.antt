@@ -15,6 +15,7 @@ use Rattle.theory.specs.Answers.{orphans, keptOnes, lostOnes}
 use Rattle.theory.proofs.WellFormed.{valid}
 use Rattle.protocol.proofs.Passes.{held-few}
 use Rattle.classes.specs.Listing.{listWord, Given}
+use Rattle.classes.proofs.Whole.{rows-few}
 use Rattle.line.specs.declared.Line.{Line}
 use Rattle.line.specs.Given.{lineIn}
 use Rattle.recovery.specs.declared.Counted.{Counted}
@@ -40,13 +41,17 @@ module _ (a : List ℕ) (step set : ℕ) (l : Line) (full gates : List ℕ) (P :
       few : (z : ℕ) → z < held a .procs → z < 128
       few z h = omega (arith, h, valid (held a) (P .given .formed) .few)
 
+  pub few-listed : length gates ≡ 192 → length (orphans (runOf a step l)) + (length (keptOnes (runOf a step l)) + length (lostOnes (runOf a step l))) ≤ 2048
+  few-listed n = rows-few (held a) (lineIn l) full (take 128 (drop 64 gates)) step (listed n)
+
 module _ (a area : List ℕ) (step set : ℕ) (l : Line) where
   abbrev pub Listed : Counted → List ℕ → Type 0
-  Listed r w = (r ≡ messagesAnswer a area step set l) × (w ≡ messagesArea a area step set l)
+  Listed r w =
+      (r ≡ messagesAnswer a area step set l) × ((w ≡ messagesArea a area step set l) × (r .orphans + (r .kept + r .lost) ≤ 2048))
 
   pub refuses-messages : (n : ℕ) (r : Counted) → n ≡ faultOf a (length area) step set l → (n ≡ 0 → ⊥) → r ≡ messagesRefusal n → Listed r area
   unfolding messagesAnswer messagesArea
-  refuses-messages n r f z e = (e ∙ rw (← f, ne-eqb n 0 z), rw (← f, ne-eqb n 0 z))
+  refuses-messages n r f z e = (e ∙ rw (← f, ne-eqb n 0 z), (rw (← f, ne-eqb n 0 z), rw e (omega arith)))
 
   -- a word of the list, behind which the rest of the area stands
   front : (w d : List ℕ) → w ≡ wordsFrom (listWord (runOf a step l)) 0 areaWords → (k : ℕ) → k < 16384 → getD (w ++ d) k 0 ≡ listWord (runOf a step l) k
@@ -55,15 +60,17 @@ module _ (a area : List ℕ) (step set : ℕ) (l : Line) where
       List·getD-append w d 0 k (omega arith) ∙ ap (λ (x : List ℕ). getD x k 0) e ∙ getD-words (listWord (runOf a step l)) 0 16384 k h
       ∙ ap (listWord (runOf a step l)) (let q : 0 + k ≡ k = omega arith in q)
 
-  pub lists : (n : ℕ) (w : List ℕ) → n ≡ faultOf a (length area) step set l → n ≡ 0 → w ≡ wordsFrom (listWord (runOf a step l)) 0 areaWords
+  pub lists : (n : ℕ) (w : List ℕ) → n ≡ faultOf a (length area) step set l → n ≡ 0
+      → length (orphans (runOf a step l)) + (length (keptOnes (runOf a step l)) + length (lostOnes (runOf a step l))) ≤ 2048 → w ≡ wordsFrom (listWord (runOf a step l)) 0 areaWords
       → let v = w ++ drop areaWords area in
       Listed (record { number = 0; place = 0; orphans = getD v 0 0; kept = getD v 1 0; lost = getD v 2 0 }) v
   unfolding messagesAnswer messagesArea listWord
-  lists n w f z e =
-      let d = drop 16384 area in (
-        rw (← f, z, front w d e 0 (omega arith), front w d e 1 (omega arith), front w d e 2 (omega arith)),
-        ap (λ (x : List ℕ). x ++ d) e ∙ rw (← f, z),
-      )
+  lists n w f z few e =
+      let d = drop 16384 area in
+      let h₀ = front w d e 0 (omega arith) in
+      let h₁ = front w d e 1 (omega arith) in
+      let h₂ = front w d e 2 (omega arith) in
+      (rw (← f, z, h₀, h₁, h₂), (ap (λ (x : List ℕ). x ++ d) e ∙ rw (← f, z), rw (h₀, h₁, h₂) few))
 
 -- the words of the list are there to be read
 pub within : (f : ℕ → ℕ) (w d : List ℕ) → w ≡ wordsFrom f 0 areaWords → (k : ℕ) → k < 16384 → k < length (w ++ d)

@@ -1,7 +1,7 @@
 // Recovery: a table area, a failure, a recovery line and an order of choices, answered and carried out. specs/Answers says what each
 // function answers and leaves, for every input; no public function has a `requires`. Assumes nothing.
 ghost use mathlib.Core.Path.{_≡_};
-ghost use Prim.Native.Nat.{ℕ, _<_, _≤_};
+ghost use Prim.Native.Nat.{ℕ, _+_, _<_, _≤_};
 ghost use lib.ListN.{length, getD};
 ghost use Rattle.words.specs.Area.{areaWords};
 ghost use Rattle.trace.specs.Trace.{Trace};
@@ -126,6 +126,7 @@ const RESTARTS: usize = 64;
 pub fn messages(table: &[u32], step: u64, set: u64, line: Line, area: &mut [u32]) -> Counted
     ensures answer { λ r. ⌜ r ≡ messagesAnswer (now (table .entry)) (now (area .entry)) step set line ⌝ }
     ensures words { λ _. ⌜ now (area .exit) ≡ messagesArea (now (table .entry)) (now (area .entry)) step set line ⌝ }
+    ensures few { λ r. ⌜ r .orphans + (r .kept + r .lost) ≤ 2048 ⌝ }
 {
     let mut full = [0u32; AREA_WORDS];
     let mut gates = [0u32; line::GATE_WORDS];

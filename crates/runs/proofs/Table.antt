@@ -21,13 +21,14 @@ use Rattle.theory.specs.Answers.{lineOf, Listed}
 use Rattle.theory.specs.Refusals.{failureFault, permits, lineFault}
 use Rattle.theory.proofs.Runs.{opens}
 use Rattle.theory.proofs.Claims.{reached-usable, greatest-line, greatest-only}
-use Rattle.runs.specs.Bytes.{bytesOf, linesOf}
+use Rattle.report.specs.Bytes.{bytesOf, linesOf}
 use Rattle.runs.specs.Texts.{linesH, linesL, linesS, linesT, linesFirst, failing, textH}
-use Rattle.runs.specs.Report.{Answer, refused, given, Failure, failureOf, losses, Replayed, replay, Recovery, engineLine, recoveryBy, recovery, messageLines, printedOf, printed}
+use Rattle.report.specs.Report.{Answer, refused, given, Failure, failureOf, Recovery, engineLine, recoveryBy, recovery, processLine, messageLine, messageLines, totalLine, refusalLine, printedOf, printed}
+use Rattle.runs.specs.Answers.{losses, Replayed, replay}
 
 -- all that a row computes with, beside what the theory's rows do: `opens`
 unfoldable reads : ℕ
-unfolding bytesOf linesOf failing startsWith fieldAt isDigit pushed digitsFrom numberAt lastDigits procsOf sendOf recvOf saveOf failOf lineIn pieces faultHere judgeEvent judge linesFrom scanPieces scan verdict lastFailure failureFault permits lineFault failureOf losses replay engineLine recoveryBy recovery messageLines printedOf printed
+unfolding bytesOf linesOf failing startsWith fieldAt isDigit pushed digitsFrom numberAt lastDigits procsOf sendOf recvOf saveOf failOf lineIn pieces faultHere judgeEvent judge linesFrom scanPieces scan verdict lastFailure failureFault permits lineFault failureOf losses replay engineLine recoveryBy recovery processLine messageLine messageLines totalLine refusalLine printedOf printed
 reads = 0
 
 -- a trace of two processes

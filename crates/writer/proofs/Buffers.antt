@@ -15,11 +15,11 @@ use Rattle.writer.specs.Buffer.{Laid, pickLaid, putOne, puts, Puts, room
 
 pub put-in : (b at : ℕ) (out : List ℕ) → at < length out → Puts (b ∷ []) out at (set out at b) (at + 1)
 unfolding puts putOne
-put-in b at out h = rw (lt-ltb at (length out) h)
+put-in b at out h = record { is = rw (lt-ltb at (length out) h) }
 
 pub put-full : (b at : ℕ) (out : List ℕ) → length out ≤ at → Puts (b ∷ []) out at out at
 unfolding puts putOne
-put-full b at out h = rw (le-ltb at (length out) h)
+put-full b at out h = record { is = rw (le-ltb at (length out) h) }
 
 -- ---- In parts
 
@@ -30,21 +30,26 @@ puts-append (b ∷ xs) ys s = puts-append xs ys (putOne b s)
 
 pub none : (out : List ℕ) (at : ℕ) → Puts [] out at out at
 unfolding puts
-none out at = refl
+none out at = record { is = refl }
 
 pub then : (xs ys out out′ out″ : List ℕ) (at at′ at″ : ℕ) → Puts xs out at out′ at′ → Puts ys out′ at′ out″ at″ → Puts (xs ++ ys) out at out″ at″
-then xs ys out out′ out″ at at′ at″ g h = h ∙ ap (puts ys) g ∙ sym (puts-append xs ys (record { bytes = out; next = at }))
+then xs ys out out′ out″ at at′ at″ g h = record { is = h .is ∙ ap (puts ys) (g .is) ∙ sym (puts-append xs ys (record { bytes = out; next = at })) }
+
+pub same-bytes : (xs ys out out′ : List ℕ) (at at′ : ℕ) → xs ≡ ys → Puts xs out at out′ at′ → Puts ys out at out′ at′
+same-bytes xs ys out out′ at at′ e h = record { is = h .is ∙ ap (λ (b : List ℕ). puts b (record { bytes = out; next = at })) e }
 
 -- what is still to write from byte i on is written by the bytes from i + 1 on, once byte i is
 pub next-byte : (bs out out′ : List ℕ) (i at at′ : ℕ) (s : Laid) → i < length bs → Puts (getD bs i 0 ∷ []) out at out′ at′
     → puts (drop i bs) (record { bytes = out; next = at }) ≡ s → puts (drop (i + 1) bs) (record { bytes = out′; next = at′ }) ≡ s
 next-byte bs out out′ i at at′ s h one e =
-    ap (puts (drop (i + 1) bs)) one ∙ sym (puts-append (getD bs i 0 ∷ []) (drop (i + 1) bs) (record { bytes = out; next = at }))
+    ap (puts (drop (i + 1) bs)) (one .is) ∙ sym (puts-append (getD bs i 0 ∷ []) (drop (i + 1) bs) (record { bytes = out; next = at }))
     ∙ ap (λ (x : List ℕ). puts x (record { bytes = out; next = at })) (ap (λ (j : ℕ). getD bs i 0 ∷ drop j bs) (add-one i) ∙ sym (drop-cons bs i 0 h)) ∙ e
 
-pub all-put : (bs out : List ℕ) (i at : ℕ) (s : Laid) → length bs ≤ i → puts (drop i bs) (record { bytes = out; next = at }) ≡ s → record { bytes = out; next = at } ≡ s
+pub all-put : (bs before out : List ℕ) (i at next : ℕ) → length bs ≤ i
+    → puts (drop i bs) (record { bytes = out; next = next }) ≡ puts bs (record { bytes = before; next = at }) → Puts bs before at out next
 unfolding puts
-all-put bs out i at s h e = ap (λ (x : List ℕ). puts x (record { bytes = out; next = at })) (sym (drop-of-length-le bs h)) ∙ e
+all-put bs before out i at next h e =
+    record { is = ap (λ (x : List ℕ). puts x (record { bytes = out; next = next })) (sym (drop-of-length-le bs h)) ∙ e }
 
 -- ---- From the first place on
 
@@ -69,7 +74,7 @@ whole-at (b ∷ bs) pre (y ∷ ys) =
 pub whole : (bs before after : List ℕ) (next : ℕ) → Puts bs before 0 after next → (after ≡ written bs before) × (next ≡ length (room bs before))
 unfolding room written
 whole bs before after next h =
-    let e = h ∙ whole-at bs [] before in
+    let e = h .is ∙ whole-at bs [] before in
     let q : 0 + length (take (length before) bs) ≡ length (take (length before) bs) = omega arith in
     (ap (λ (s : Laid). s .bytes) e, ap (λ (s : Laid). s .next) e ∙ q)
 

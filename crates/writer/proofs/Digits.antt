@@ -7,7 +7,8 @@ use lib.Dec.{ltb}
 use lib.ListN.{length, getD, set, drop, length-set, take, length-drop, drop-of-length-le}
 use lib.Seq.{drop-cons, drop-set-lt, getD-set-same, take-all}
 use borrow.Author.Tests.{lt-ltb, le-ltb}
-use Rattle.writer.specs.Buffer.{puts, Puts}
+use Rattle.writer.specs.Buffer.{Puts}
+use Rattle.writer.proofs.Buffers.{same-bytes}
 use Rattle.text.specs.Number.{pickBytes, lastDigits, decimal}
 
 drop-set : (l : List ℕ) (j a : ℕ) → j < length l → drop j (set l j a) ≡ a ∷ drop (suc j) l
@@ -53,4 +54,4 @@ pub digit-slice : (n r : ℕ) (d before after : List ℕ) (at next : ℕ) → le
     → Puts (take (20 - r) (drop r d)) before at after next → Puts (decimal n) before at after next
 digit-slice n r d before after at next l e h =
     let q : take (20 - r) (drop r d) ≡ drop r d = take-all (20 - r) (drop r d) (omega (arith, length-drop r d)) in
-    h ∙ ap (λ (x : List ℕ). puts x (record { bytes = before; next = at })) (q ∙ e)
+    same-bytes (take (20 - r) (drop r d)) (decimal n) before after at next (q ∙ e) h

@@ -23,8 +23,8 @@ puts [] s = s
 puts (b ∷ bs) s = puts bs (putOne b s)
 
 -- these bytes, from a place of a buffer on, leave that buffer and that next place
-abbrev pub Puts : List ℕ → List ℕ → ℕ → List ℕ → ℕ → Type 0
-Puts bs before at after next = record { bytes = after; next = next } ≡ puts bs (record { bytes = before; next = at })
+pub record Puts (bs before : List ℕ) (at : ℕ) (after : List ℕ) (next : ℕ) : Type 0 where
+  pub is : record { bytes = after; next = next } ≡ puts bs (record { bytes = before; next = at })
 
 -- ---- The same from the buffer's first place on: what a caller of a whole text sees (proofs/Buffers, `whole`)
 

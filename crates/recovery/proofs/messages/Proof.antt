@@ -6,7 +6,7 @@ use Rattle.words.specs.Area.{areaWords}
 use Rattle.table.specs.Held.{held}
 use Rattle.line.specs.Given.{lineIn}
 use Rattle.recovery.proofs.Replaying.{room-enough}
-use Rattle.recovery.proofs.Listing.{step-fits, listed, refuses-messages, lists, within}
+use Rattle.recovery.proofs.Listing.{step-fits, listed, few-listed, refuses-messages, lists, within}
 use native.Mathlib.Omega.{arith}
 use borrow.Author.Needs.{needs}
 use Rattle.recovery.proofs.messages.Statement.{statement}
@@ -78,7 +78,7 @@ returns-2 c =
     let prepare = c .before .before .before .before .before .before .before .before .before .before .before .before .before .prepare in
     let if1 = c .before .before .before .before .before .before .before .before .before .before .if1 in
     let list = c .before .before .before .before .before .list in
-    lists (args .table .now) (args .area .now) (args .step) (args .set) (args .line) _ _ (prepare .ensures .0) (if1 .left) ((list .ensures) (held (args .table .now)) (lineIn (args .line)) (listed (args .table .now) (args .step) (args .set) (args .line) _ _ ((prepare .ensures .1) (if1 .left)) (search needs)))
+    lists (args .table .now) (args .area .now) (args .step) (args .set) (args .line) _ _ (prepare .ensures .0) (if1 .left) (few-listed (args .table .now) (args .step) (args .set) (args .line) _ _ ((prepare .ensures .1) (if1 .left)) (search needs)) ((list .ensures) (held (args .table .now)) (lineIn (args .line)) (listed (args .table .now) (args .step) (args .set) (args .line) _ _ ((prepare .ensures .1) (if1 .left)) (search needs)))
 
 pub messages-spec : {M : Type 1} → statement M
 messages-spec =

@@ -34,7 +34,7 @@ returns : tie.Need-returns Inv-loop μ-loop
 returns c =
     let loop-test = c .loop-test in
     let loop = c .before .loop in
-    all-put _ _ _ _ _ (loop-test .left) (loop .inv .2)
+    all-put _ _ _ _ _ _ (loop-test .left) (loop .inv .2)
 
 pub put-bytes-spec : {M : Type 1} → statement M
 put-bytes-spec =

@@ -1,5 +1,5 @@
--- What is answered to a text that ends with a failure line (document 01, "Runs to check"): the failure, the engine's line with all that is
--- printed of it, what another line loses, what an order does; or a refusal's number and place.
+-- What the program prints for a text that ends with a failure line (document 01, "Runs to check"): the engine's line with all that is said of
+-- it, or a refusal's number and place.
 use mathlib.Core.List.{List, [], _∷_, _++_}
 use mathlib.Core.Bool.{Bool, not}
 use Prim.Native.Nat.{ℕ, zero, suc, _+_}
@@ -15,7 +15,7 @@ use Rattle.theory.specs.Line.{inSet, Run, recorded, current, reached, greatestL
 use Rattle.theory.specs.Order.{Outcome, carriedOut, run, steps, complete, lowestOrder}
 use Rattle.theory.specs.Answers.{lineOf, Listed, gather, orphans, keptOnes, lostOnes, sameRecord}
 use Rattle.theory.specs.Refusals.{failureFault, lineFault, orderFault}
-use Rattle.runs.specs.Bytes.{bytesOf}
+use Rattle.report.specs.Bytes.{bytesOf}
 
 -- an answer, or a refusal: its number and its place
 pub data Answer (A : Type 0) : Type 0 where
@@ -51,33 +51,11 @@ abbrev pub then : {A B : Type 0} → Answer A → (A → Answer B) → Answer B
 then (refused n k) f = refused n k
 then (given a) f = f a
 
--- ---- Another line: the messages that it loses
+-- ---- The engine's line
 
+-- the recorded run with a failure and a line
 abbrev pub runOf : Failure → List ℕ → Run
 runOf f l = recorded (f .trace) past (f .step) (lineOf l)
-
--- what is wrong with a line, where the failure is fit: 10, or 0
-abbrev pub fault : Failure → List ℕ → ℕ
-fault f l = lineFault (f .trace) (f .step) (f .failed) (length l) (lineOf l)
-
-unfoldable pub losses : List ℕ → List ℕ → Answer (List Listed)
-losses text l = then (failureOf text) (λ f. unless (fault f l) (given (lostOnes (runOf f l))))
-
--- ---- An order from a line: whether it is complete, whether the record that it leaves equals that of the run without failure, its steps
-
-pub record Replayed : Type 0 where
-  pub complete : Bool
-  pub equal : Bool
-  pub steps : ℕ
-
-abbrev pub replayOf : Run → List ℕ → Outcome → Answer Replayed
-replayOf R order (carriedOut s) = given (record { complete = complete R s; equal = sameRecord R s; steps = steps order })
-replayOf R order (Outcome.refused i) = refused (orderFault (Outcome.refused i)) i
-
-unfoldable pub replay : List ℕ → List ℕ → List ℕ → Answer Replayed
-replay text l order = then (failureOf text) (λ f. unless (fault f l) (replayOf (runOf f l) order (run (runOf f l) order)))
-
--- ---- The engine's line
 
 -- of each process its epoch at the cut, its number in the line and its phase at the restart, "or at the cut for 32"
 pub record Recovery : Type 0 where
@@ -110,8 +88,14 @@ recoveryBy f l =
       steps = steps (lowestOrder R);
     }
 
+abbrev pub recoveryOf : Failure → Recovery
+recoveryOf f = recoveryBy f (engineLine f)
+
+abbrev pub recoveryFor : Trace → ℕ → ℕ → Recovery
+recoveryFor t step set = recoveryOf (record { trace = t; step = step; failed = set })
+
 unfoldable pub recovery : List ℕ → Answer Recovery
-recovery text = then (failureOf text) (λ f. given (recoveryBy f (engineLine f)))
+recovery text = then (failureOf text) (λ f. given (recoveryOf f))
 
 -- ---- What the program prints
 
@@ -119,24 +103,38 @@ recovery text = then (failureOf text) (λ f. given (recoveryBy f (engineLine f))
 abbrev pub pair : String → ℕ → List ℕ → List ℕ
 pair key n rest = bytesOf key ++ decimal n ++ rest
 
-abbrev pub processLine : Recovery → ℕ → List ℕ
-processLine r z =
-    pair "out=proc at=" z (pair " epoch=" (getD (r .epochs) z 0)
-    (pair " restart=" (getD (r .line) z 0) (pair " phase=" (getD (r .phases) z 0) (10 ∷ []))))
+unfoldable pub processLine : ℕ → ℕ → ℕ → ℕ → List ℕ
+processLine at epoch restart phase = pair "out=proc at=" at (pair " epoch=" epoch (pair " restart=" restart (pair " phase=" phase (10 ∷ []))))
+
+abbrev pub processLineOf : Recovery → ℕ → List ℕ
+processLineOf r z = processLine z (getD (r .epochs) z 0) (getD (r .line) z 0) (getD (r .phases) z 0)
+
+unfoldable pub messageLine : String → ℕ → ℕ → ℕ → ℕ → List ℕ
+messageLine key from to number phase = pair key from (pair " to=" to (pair " no=" number (pair " phase=" phase (10 ∷ []))))
 
 unfoldable pub messageLines : String → List Listed → List ℕ
 messageLines key [] = []
-messageLines key (m ∷ ms) =
-    pair key (m .from) (pair " to=" (m .to) (pair " no=" (m .number) (pair " phase=" (m .phase) (10 ∷ messageLines key ms))))
+messageLines key (m ∷ ms) = messageLine key (m .from) (m .to) (m .number) (m .phase) ++ messageLines key ms
 
-abbrev pub totalLine : Recovery → List ℕ
-totalLine r =
-    pair "out=total back=" (r .back) (pair " orphans=" (length (r .orphans)) (pair " kept=" (length (r .kept)) (pair " steps=" (r .steps) (10 ∷ []))))
+unfoldable pub totalLine : ℕ → ℕ → ℕ → ℕ → List ℕ
+totalLine back orphans kept steps = pair "out=total back=" back (pair " orphans=" orphans (pair " kept=" kept (pair " steps=" steps (10 ∷ []))))
 
+unfoldable pub refusalLine : ℕ → ℕ → List ℕ
+refusalLine number place = pair "refused=" number (pair " place=" place (10 ∷ []))
+
+-- "Orphans, then kept messages"
+abbrev pub keyOrphan : String
+keyOrphan = "out=orphan from="
+
+abbrev pub keyKept : String
+keyKept = "out=kept from="
+
+-- "A refusal prints only `refused=N place=P`."
 unfoldable pub printedOf : Answer Recovery → List ℕ
-printedOf (refused n k) = pair "refused=" n (pair " place=" k (10 ∷ []))
+printedOf (refused n k) = refusalLine n k
 printedOf (given r) =
-    gather (processLine r) (length (r .line)) ++ messageLines "out=orphan from=" (r .orphans) ++ messageLines "out=kept from=" (r .kept) ++ totalLine r
+    gather (processLineOf r) (length (r .line)) ++ messageLines keyOrphan (r .orphans) ++ messageLines keyKept (r .kept)
+    ++ totalLine (r .back) (length (r .orphans)) (length (r .kept)) (r .steps)
 
 -- "The program takes at most 65,536 bytes; more is 1 at place 0, before anything else."
 unfoldable pub printed : List ℕ → List ℕ

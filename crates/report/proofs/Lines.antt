@@ -1,0 +1,69 @@
+-- Lines written one after another: what a loop has after each, and what the keys of a line are.
+use Prim.Native.Nat.{ℕ, suc, _+_, _/_, _%_}
+use mathlib.Core.Path.{_≡_, sym, ap, subst}
+use mathlib.Core.List.{List, [], _∷_, _++_}
+use native.Mathlib.Omega.{arith}
+use native.Mathlib.Numerals.{add-one}
+use lib.ListN.{getD}
+use Rattle.text.specs.Number.{decimal}
+use Rattle.theory.specs.Answers.{gather}
+use Rattle.writer.specs.Buffer.{Puts}
+use Rattle.writer.proofs.Buffers.{none, then}
+use Rattle.report.specs.Bytes.{bytesOf}
+use Rattle.report.specs.Report.{processLine, refusalLine, totalLine}
+use Rattle.report.specs.Rows.{rowBytes, wordsRow, messageRow}
+
+-- four keys with their numbers, and the end of the line
+pub row-put : (k l m n o₀ o₁ o₂ o₃ o₄ o₅ : List ℕ) (a b c d p₀ p₁ p₂ p₃ p₄ p₅ : ℕ)
+    → Puts (k ++ decimal a) o₀ p₀ o₁ p₁ → Puts (l ++ decimal b) o₁ p₁ o₂ p₂ → Puts (m ++ decimal c) o₂ p₂ o₃ p₃ → Puts (n ++ decimal d) o₃ p₃ o₄ p₄
+    → Puts (10 ∷ []) o₄ p₄ o₅ p₅ → Puts (rowBytes k a l b m c n d) o₀ p₀ o₅ p₅
+unfolding rowBytes
+row-put k l m n o₀ o₁ o₂ o₃ o₄ o₅ a b c d p₀ p₁ p₂ p₃ p₄ p₅ ha hb hc hd he =
+    let lf : List ℕ = 10 ∷ [] in
+    let td = then (n ++ decimal d) lf o₃ o₄ o₅ p₃ p₄ p₅ hd he in
+    let tc = then (m ++ decimal c) (n ++ decimal d ++ lf) o₂ o₃ o₅ p₂ p₃ p₅ hc td in
+    let tb = then (l ++ decimal b) (m ++ decimal c ++ (n ++ decimal d ++ lf)) o₁ o₂ o₅ p₁ p₂ p₅ hb tc in
+    then (k ++ decimal a) (l ++ decimal b ++ (m ++ decimal c ++ (n ++ decimal d ++ lf))) o₀ o₁ o₅ p₀ p₁ p₅ ha tb
+
+-- ---- Lines f 0, f 1, ..
+
+pub lines-none : (f : ℕ → List ℕ) (out : List ℕ) (at : ℕ) → Puts (gather f 0) out at out at
+unfolding gather
+lines-none f out at = none out at
+
+pub lines-next : (f : ℕ → List ℕ) (z : ℕ) (before out after : List ℕ) (at next end : ℕ)
+    → Puts (gather f z) before at out next → Puts (f z) out next after end → Puts (gather f (z + 1)) before at after end
+unfolding gather
+lines-next f z before out after at next end g h = rw (add-one z) (then (gather f z) (f z) before out after at next end g h)
+
+-- ---- The keys
+
+pub process-keys : (k l m n : List ℕ) (z epoch restart phase e r p : ℕ) → k ≡ bytesOf "out=proc at=" → l ≡ bytesOf " epoch=" → m ≡ bytesOf " restart="
+    → n ≡ bytesOf " phase=" → e ≡ epoch → r ≡ restart → p ≡ phase → rowBytes k z l e m r n p ≡ processLine z epoch restart phase
+unfolding rowBytes processLine
+process-keys k l m n z epoch restart phase e r p hk hl hm hn he hr hp = rw (hk, hl, hm, hn, he, hr, hp)
+
+-- a message's words, as the code finds them
+pub message-keys : (k l m n run : List ℕ) (before i : ℕ) (from to number phase : ℕ) → l ≡ bytesOf " to=" → m ≡ bytesOf " no=" → n ≡ bytesOf " phase="
+    → from ≡ getD run (16 + (before + i + 1)) 0 % 64 → to ≡ getD run (16 + (before + i + 1)) 0 / 64 % 64
+    → number ≡ getD run (2065 + (before + i + 1)) 0 → phase ≡ getD run (4114 + (before + i + 1)) 0
+    → rowBytes k from l to m number n phase ≡ messageRow k run before i
+unfolding wordsRow rowBytes
+message-keys k l m n run before i from to number phase hl hm hn hf ht hr hp =
+    let w : 16 + (before + i + 1) ≡ 17 + (before + i) = omega arith in
+    let r : 2065 + (before + i + 1) ≡ 2066 + (before + i) = omega arith in
+    let p : 4114 + (before + i + 1) ≡ 4115 + (before + i) = omega arith in
+    rw (hl, hm, hn, hf, ht, hr, hp, w, r, p)
+
+pub total-keys : (k l m n : List ℕ) (a b c d back : ℕ) → k ≡ bytesOf "out=total back=" → l ≡ bytesOf " orphans=" → m ≡ bytesOf " kept="
+    → n ≡ bytesOf " steps=" → a ≡ back → rowBytes k a l b m c n d ≡ totalLine back b c d
+unfolding rowBytes totalLine
+total-keys k l m n a b c d back hk hl hm hn ha = rw (hk, hl, hm, hn, ha)
+
+pub refusal-put : (k l o₀ o₁ o₂ o₃ : List ℕ) (a b p₀ p₁ p₂ p₃ : ℕ) → k ≡ bytesOf "refused=" → l ≡ bytesOf " place="
+    → Puts (k ++ decimal a) o₀ p₀ o₁ p₁ → Puts (l ++ decimal b) o₁ p₁ o₂ p₂ → Puts (10 ∷ []) o₂ p₂ o₃ p₃ → Puts (refusalLine a b) o₀ p₀ o₃ p₃
+unfolding refusalLine
+refusal-put k l o₀ o₁ o₂ o₃ a b p₀ p₁ p₂ p₃ hk hl ha hb he =
+    let lf : List ℕ = 10 ∷ [] in
+    let tb = then (l ++ decimal b) lf o₁ o₂ o₃ p₁ p₂ p₃ hb he in
+    rw (← hk, ← hl) (then (k ++ decimal a) (l ++ decimal b ++ lf) o₀ o₁ o₃ p₀ p₁ p₃ ha tb)

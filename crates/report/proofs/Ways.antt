@@ -1,0 +1,110 @@
+-- Each way out of `report`: what is written is what the text's definition prints.
+use Prim.Native.Nat.{ℕ, zero, suc, _<_, _≤_}
+use mathlib.Core.Path.{_≡_, refl, sym, ap, subst, _∙_}
+use mathlib.Core.Bool.{Bool, true, false, not}
+use mathlib.Core.List.{List}
+use mathlib.Core.Option.{some}
+use native.Mathlib.Omega.{arith}
+use lib.Dec.{ltb, eqb}
+use lib.ListN.{length}
+use borrow.Author.Tests.{lt-ltb, le-ltb, ne-eqb}
+use Rattle.words.specs.Area.{areaWords}
+use Rattle.words.proofs.Cases.{by-eq}
+use Rattle.trace.specs.Trace.{Trace}
+use Rattle.trace.specs.Fit.{orElse}
+use Rattle.reader.specs.declared.FailureAnswer.{FailureAnswer}
+use Rattle.reader.specs.Failure.{Failing, failureAnswerOf, failureAnswer, failureArea}
+use Rattle.reader.specs.Failure.{failureOf as lastFailure}
+use Rattle.reader.proofs.Claims.{refusal-numbered}
+use Rattle.table.specs.Held.{held, holdsTrace, heldTrace}
+use Rattle.table.proofs.Holding.{told}
+use Rattle.table.proofs.Claims.{failing-held, held-iff}
+use Rattle.theory.specs.Lists.{pick}
+use Rattle.theory.specs.Refusals.{failureFault}
+use Rattle.recovery.specs.declared.Restarted.{Restarted}
+use Rattle.recovery.specs.Restart.{failureFaultOf, restartBy, restartOf, restartRefusal, restartAnswer, Restarts}
+use Rattle.writer.specs.Buffer.{Puts, room, written}
+use Rattle.writer.proofs.Buffers.{same-bytes, whole}
+use Rattle.report.specs.Report.{Answer, refused, given, unless, failureIn, checked, then, failureOf, recoveryFor, recovery, refusalLine, printedOf, printed}
+use Rattle.report.specs.Rows.{Ready}
+
+-- from what was written to the contract
+pub answered : (x text out after : List ℕ) (n : ℕ) → x ≡ printed text → Puts x out 0 after n
+    → (n ≡ length (room (printed text) out)) × (after ≡ written (printed text) out)
+answered x text out after n e h = let w = whole (printed text) out after n (same-bytes x (printed text) out after 0 n e h) in (w .1, w .0)
+
+pub too-long : (text : List ℕ) → 65536 < length text → refusalLine 1 0 ≡ printed text
+unfolding printed printedOf
+too-long text h = rw (lt-ltb 65536 (length text) h)
+
+unless-some : {A : Type 0} (n : ℕ) (a : Answer A) → (n ≡ 0 → ⊥) → unless n a ≡ refused n 0
+unless-some zero a h = absurd (h refl)
+unless-some (suc n) a h = refl
+
+module _ (text : List ℕ) (short : length text ≤ 65536) (before : List ℕ) (room-is : length before ≡ 16384)
+    (r : FailureAnswer) (hr : r ≡ failureAnswer text before) where
+  read-is : (x : Failing) → lastFailure text ≡ x → r ≡ failureAnswerOf x
+  unfolding failureAnswer
+  read-is x e = hr ∙ rw (le-ltb (length before) 16384 (omega arith), e)
+
+  -- the text is refused
+  refused-of : (x : Failing) → lastFailure text ≡ x → (r .number ≡ 0 → ⊥) → refusalLine (r .number) (r .place) ≡ printed text
+  unfolding printed printedOf recovery failureOf
+  refused-of (Failing.refused n k) e h = rw (read-is (Failing.refused n k) e, le-ltb 65536 (length text) short, e)
+  refused-of (Failing.failing t step set) e h = absurd (h (ap (λ (y : FailureAnswer). y .number) (read-is (Failing.failing t step set) e)))
+
+  pub text-refused : (r .number ≡ 0 → ⊥) → refusalLine (r .number) (r .place) ≡ printed text
+  text-refused = refused-of (lastFailure text) refl
+
+  -- the text is a trace and a failure
+  failing-of : (x : Failing) → lastFailure text ≡ x → r .number ≡ 0 → (t : Trace) × (lastFailure text ≡ Failing.failing t (r .step) (r .set))
+  failing-of (Failing.refused n k) e h =
+      absurd (refusal-numbered text n k e (sym (ap (λ (y : FailureAnswer). y .number) (read-is (Failing.refused n k) e)) ∙ h))
+  failing-of (Failing.failing t step set) e h =
+      let q = read-is (Failing.failing t step set) e in
+      (t, rw (ap (λ (y : FailureAnswer). y .step) q, ap (λ (y : FailureAnswer). y .set) q) e)
+
+  module _ (z : r .number ≡ 0) (a : List ℕ) (ha : a ≡ failureArea text before) where
+    T : (t : Trace) × (lastFailure text ≡ Failing.failing t (r .step) (r .set))
+    T = failing-of (lastFailure text) refl z
+
+    area-held : heldTrace a ≡ some (T .0)
+    area-held = subst (λ (x : List ℕ). heldTrace x ≡ some (T .0)) (sym ha) (failing-held text before (T .0) (r .step) (r .set) (T .1) (omega arith))
+
+    holds : holdsTrace a ≡ true
+    holds = told a (T .0) area-held .0
+
+    long : 16384 ≤ length a
+    long = held-iff a (T .0) .0 area-held .0
+
+    same : lastFailure text ≡ Failing.failing (held a) (r .step) (r .set)
+    same = T .1 ∙ ap (λ (t : Trace). Failing.failing t (r .step) (r .set)) (sym (told a (T .0) area-held .1))
+
+    abbrev F : ℕ
+    F = failureFault (held a) (r .step) (r .set)
+
+    fault-is : failureFaultOf a (r .step) (r .set) ≡ F
+    unfolding failureFaultOf
+    fault-is = rw (le-ltb (length a) 16384 long, holds)
+
+    module _ (s : Restarted) (hs : s ≡ restartAnswer a (r .step) (r .set)) where
+      number-is : s .number ≡ F
+      unfolding restartAnswer restartOf
+      number-is = by-eq F 0
+          (λ e. let q : s ≡ restartOf (held a) (r .step) (r .set) = hs ∙ rw (fault-is, e) in ap (λ (x : Restarted). x .number) q ∙ sym e)
+          (λ e. let q : s ≡ restartRefusal F = hs ∙ rw (fault-is, ne-eqb F 0 e) in ap (λ (x : Restarted). x .number) q)
+
+      -- the failure is refused
+      pub failure-refused : (s .number ≡ 0 → ⊥) → refusalLine (s .number) 0 ≡ printed text
+      unfolding printed printedOf recovery failureOf
+      failure-refused h =
+          let n : F ≡ 0 → ⊥ = λ e. h (number-is ∙ e) in
+          rw (number-is, le-ltb 65536 (length text) short, same, unless-some F _ n)
+
+      pub ready : s .number ≡ 0 → Restarts (held a) (r .step) (r .set) s → Ready a (r .step) (r .set) s
+      unfolding restartAnswer
+      ready h m = record { whole = long; holds = holds; fit = sym number-is ∙ h; answer = hs ∙ rw (fault-is, sym number-is ∙ h); means = m }
+
+      pub found-printed : s .number ≡ 0 → printedOf (given (recoveryFor (held a) (r .step) (r .set))) ≡ printed text
+      unfolding printed recovery failureOf
+      found-printed h = rw (le-ltb 65536 (length text) short, same, sym number-is ∙ h)

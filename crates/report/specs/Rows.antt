@@ -1,0 +1,38 @@
+-- The lines of the report from the words that the code has. No public contract cites these.
+use mathlib.Core.List.{List, [], _∷_, _++_}
+use Prim.Native.Nat.{ℕ, _+_, _/_, _%_, _≤_}
+use mathlib.Core.Path.{_≡_}
+use mathlib.Core.Bool.{true}
+use lib.ListN.{length, getD}
+use Rattle.text.specs.Number.{decimal}
+use Rattle.words.specs.Area.{areaWords}
+use Rattle.table.specs.Held.{held, holdsTrace}
+use Rattle.theory.specs.Refusals.{failureFault}
+use Rattle.recovery.specs.Restart.{restartOf, Restarts}
+use Rattle.recovery.specs.declared.Restarted.{Restarted}
+use Rattle.report.specs.Bytes.{bytesOf}
+use Rattle.report.specs.Report.{processLine, refusalLine}
+
+-- four keys with their numbers
+unfoldable pub rowBytes : List ℕ → ℕ → List ℕ → ℕ → List ℕ → ℕ → List ℕ → ℕ → List ℕ
+rowBytes key a second b third c fourth d = key ++ decimal a ++ (second ++ decimal b ++ (third ++ decimal c ++ (fourth ++ decimal d ++ (10 ∷ []))))
+
+-- the line of a process of an answer
+abbrev pub processRow : Restarted → ℕ → List ℕ
+processRow r z = processLine z (getD (r .epochs) z 0) (getD (r .line .epochs) z 0) (getD (r .phases) z 0)
+
+-- the line of a message, from its three words
+unfoldable pub wordsRow : List ℕ → ℕ → ℕ → ℕ → List ℕ
+wordsRow key w number phase = rowBytes key (w % 64) (bytesOf " to=") (w / 64 % 64) (bytesOf " no=") number (bytesOf " phase=") phase
+
+-- the line of message i, from 0, after the first ones of a list in a run area
+abbrev pub messageRow : List ℕ → List ℕ → ℕ → ℕ → List ℕ
+messageRow key run before i = wordsRow key (getD run (17 + (before + i)) 0) (getD run (2066 + (before + i)) 0) (getD run (4115 + (before + i)) 0)
+
+-- what the report of a recovery is given: a table area that holds a trace, a failure that is fit, and the answer to it
+pub record Ready (a : List ℕ) (step set : ℕ) (r : Restarted) : Type 0 where
+  pub whole : areaWords ≤ length a
+  pub holds : holdsTrace a ≡ true
+  pub fit : failureFault (held a) step set ≡ 0
+  pub answer : r ≡ restartOf (held a) step set
+  pub means : Restarts (held a) step set r

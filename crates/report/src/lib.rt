@@ -1,0 +1,169 @@
+// The report on a text that ends with a failure line: read, recovered and printed into a lent buffer, byte for byte by specs/Report. Assumes
+// nothing.
+ghost use mathlib.Core.Path.{_≡_};
+ghost use Prim.Native.Nat.{ℕ, _+_, _/_, _%_, _≤_};
+ghost use lib.ListN.{length, getD};
+ghost use Rattle.words.specs.Area.{areaWords};
+ghost use Rattle.table.specs.Held.{held};
+ghost use Rattle.theory.specs.Answers.{gather};
+ghost use Rattle.writer.specs.Buffer.{Puts, room, written};
+ghost use Rattle.report.specs.Report.{given, recoveryFor, refusalLine, printedOf, printed};
+ghost use Rattle.report.specs.Rows.{rowBytes, processRow, messageRow, Ready};
+use recovery::Restarted;
+use words::AREA_WORDS;
+
+// What the program takes: "at most 65,536 bytes".
+const TEXT_MOST: usize = 65536;
+
+// A line of four keys with their numbers.
+fn put_row(
+    out: &mut [u8],
+    at: usize,
+    key: &[u8],
+    a: u64,
+    second: &[u8],
+    b: u64,
+    third: &[u8],
+    c: u64,
+    fourth: &[u8],
+    d: u64,
+) -> usize
+    ensures { λ r. ⌜ Puts (rowBytes (now (key .entry)) a (now (second .entry)) b (now (third .entry)) c (now (fourth .entry)) d) (now (out .entry)) at (now (out .exit)) r ⌝ }
+{
+    let to_b = writer::put_pair(out, at, key, a);
+    let to_c = writer::put_pair(out, to_b, second, b);
+    let to_d = writer::put_pair(out, to_c, third, c);
+    let end = writer::put_pair(out, to_d, fourth, d);
+    writer::put_bytes(out, end, b"\n")
+}
+
+fn wide(x: u32) -> u64
+    ensures { λ r. ⌜ r ≡ x ⌝ }
+{
+    x as u64
+}
+
+// A line for each process of the recovery line.
+fn put_processes(out: &mut [u8], r: Restarted) -> usize
+    requires { ⌜ r .line .count ≤ 64 ⌝ }
+    ensures { λ n. ⌜ Puts (gather (processRow r) (r .line .count)) (now (out .entry)) 0 (now (out .exit)) n ⌝ }
+{
+    let epochs = r.epochs;
+    let numbers = r.line.epochs;
+    let phases = r.phases;
+    let count = r.line.count;
+    let mut next: usize = 0;
+    let mut z: usize = 0;
+    while z < count {
+        next = put_row(
+            out,
+            next,
+            b"out=proc at=",
+            z as u64,
+            b" epoch=",
+            wide(epochs[z]),
+            b" restart=",
+            wide(numbers[z]),
+            b" phase=",
+            wide(phases[z]),
+        );
+        z += 1;
+    }
+    next
+}
+
+// The words before row 1 of each plane of a list of messages (docs/LAYOUT.md).
+const ROW_BASE: usize = 16;
+
+const ROW_NUMBER_BASE: usize = 2065;
+
+const ROW_PHASE_BASE: usize = 4114;
+
+// A line for each of `count` messages of the list in the run area, after the first `before` of them.
+fn put_messages(
+    out: &mut [u8],
+    at: usize,
+    key: &[u8],
+    run: &[u32],
+    before: usize,
+    count: usize,
+) -> usize
+    requires { ⌜ (length (now run) ≡ areaWords) × (before + count ≤ 2048) ⌝ }
+    ensures { λ r. ⌜ Puts (gather (messageRow (now (key .entry)) (now (run .entry)) before) count) (now (out .entry)) at (now (out .exit)) r ⌝ }
+{
+    let mut next = at;
+    let mut i: usize = 0;
+    while i < count {
+        let row = before + i + 1;
+        let w = run[ROW_BASE + row];
+        next = put_row(
+            out,
+            next,
+            key,
+            wide(w % 64),
+            b" to=",
+            wide(w / 64 % 64),
+            b" no=",
+            wide(run[ROW_NUMBER_BASE + row]),
+            b" phase=",
+            wide(run[ROW_PHASE_BASE + row]),
+        );
+        i += 1;
+    }
+    next
+}
+
+fn put_refusal(out: &mut [u8], number: u32, place: usize) -> usize
+    ensures { λ r. ⌜ Puts (refusalLine number place) (now (out .entry)) 0 (now (out .exit)) r ⌝ }
+{
+    let next = writer::put_pair(out, 0, b"refused=", wide(number));
+    let end = writer::put_pair(out, next, b" place=", place as u64);
+    writer::put_bytes(out, end, b"\n")
+}
+
+// The report of a failure that is not refused.
+fn put_recovery(table: &[u32], step: u64, set: u64, r: Restarted, out: &mut [u8]) -> usize
+    requires { ⌜ Ready (now table) step set r ⌝ }
+    ensures { λ n. ⌜ Puts (printedOf (given (recoveryFor (held (now (table .entry))) step set))) (now (out .entry)) 0 (now (out .exit)) n ⌝ }
+{
+    let mut run = [0u32; AREA_WORDS];
+    let replayed = recovery::lowest(table, step, set, r.line, &mut run);
+    let listed = recovery::messages(table, step, set, r.line, &mut run);
+    let orphans = listed.orphans as usize;
+    let kept = listed.kept as usize;
+    let to_orphans = put_processes(out, r);
+    let to_kept = put_messages(out, to_orphans, b"out=orphan from=", &run, 0, orphans);
+    let to_total = put_messages(out, to_kept, b"out=kept from=", &run, orphans, kept);
+    put_row(
+        out,
+        to_total,
+        b"out=total back=",
+        wide(r.back),
+        b" orphans=",
+        orphans as u64,
+        b" kept=",
+        kept as u64,
+        b" steps=",
+        replayed.steps as u64,
+    )
+}
+
+// What the program prints for a text, into a lent buffer: how many bytes of it there are, or are room for.
+pub fn report(text: &[u8], out: &mut [u8]) -> usize
+    ensures length { λ r. ⌜ r ≡ length (room (printed (now (text .entry))) (now (out .entry))) ⌝ }
+    ensures bytes { λ _. ⌜ now (out .exit) ≡ written (printed (now (text .entry))) (now (out .entry)) ⌝ }
+{
+    if text.len() > TEXT_MOST {
+        return put_refusal(out, 1, 0);
+    }
+    let mut table = [0u32; AREA_WORDS];
+    let read = reader::read_failure(text, &mut table);
+    if read.number != 0 {
+        return put_refusal(out, read.number, read.place);
+    }
+    let r = recovery::restart(&table, read.step, read.set);
+    if r.number != 0 {
+        return put_refusal(out, r.number, 0);
+    }
+    put_recovery(&table, read.step, read.set, r, out)
+}

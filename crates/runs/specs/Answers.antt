@@ -1,0 +1,34 @@
+-- Two more answers to a text that ends with a failure line: the messages that another line loses, and what an order does.
+use mathlib.Core.List.{List}
+use mathlib.Core.Bool.{Bool}
+use Prim.Native.Nat.{ℕ}
+use lib.ListN.{length}
+use Rattle.theory.specs.Epochs.{past}
+use Rattle.theory.specs.Line.{Run}
+use Rattle.theory.specs.Order.{Outcome, carriedOut, run, steps, complete}
+use Rattle.theory.specs.Answers.{lineOf, Listed, lostOnes, sameRecord}
+use Rattle.theory.specs.Refusals.{lineFault, orderFault}
+use Rattle.report.specs.Report.{Answer, refused, given, unless, then, Failure, failureOf, runOf}
+
+-- ---- Another line: the messages that it loses
+
+-- what is wrong with a line, where the failure is fit: 10, or 0
+abbrev pub fault : Failure → List ℕ → ℕ
+fault f l = lineFault (f .trace) (f .step) (f .failed) (length l) (lineOf l)
+
+unfoldable pub losses : List ℕ → List ℕ → Answer (List Listed)
+losses text l = then (failureOf text) (λ f. unless (fault f l) (given (lostOnes (runOf f l))))
+
+-- ---- An order from a line: whether it is complete, whether the record that it leaves equals that of the run without failure, its steps
+
+pub record Replayed : Type 0 where
+  pub complete : Bool
+  pub equal : Bool
+  pub steps : ℕ
+
+abbrev pub replayOf : Run → List ℕ → Outcome → Answer Replayed
+replayOf R order (carriedOut s) = given (record { complete = complete R s; equal = sameRecord R s; steps = steps order })
+replayOf R order (Outcome.refused i) = refused (orderFault (Outcome.refused i)) i
+
+unfoldable pub replay : List ℕ → List ℕ → List ℕ → Answer Replayed
+replay text l order = then (failureOf text) (λ f. unless (fault f l) (replayOf (runOf f l) order (run (runOf f l) order)))
