@@ -1,19 +1,16 @@
 -- From the table area and the line that a call is given to what the layers below ask: the full table of the trace that the area holds, and
 -- the gates of the line.
 use Prim.Native.Nat.{ℕ, _+_, _-_, _<_, _≤_}
-use mathlib.Core.Path.{_≡_, refl, sym, ap, _∙_}
-use mathlib.Core.Bool.{Bool, true, false, _&&_}
+use mathlib.Core.Path.{_≡_, ap, _∙_}
+use mathlib.Core.Bool.{Bool, true, _&&_}
 use mathlib.Core.List.{List}
 use native.Mathlib.Omega.{arith}
-use lib.Dec.{ltb, eqb}
+use lib.Dec.{eqb}
 use lib.ListN.{length, getD, replicate, length-replicate}
 use borrow.Author.Tests.{eq-eqb, lt-ltb, le-ltb}
 use Rattle.words.specs.Area.{areaWords, wordsFrom}
 use Rattle.words.proofs.Area.{getD-words}
-use Rattle.words.proofs.Cases.{and-right}
-use Rattle.trace.specs.Trace.{Trace}
 use Rattle.table.specs.Held.{held, holdsTrace}
-use Rattle.theory.specs.Lists.{pick}
 use Rattle.theory.specs.Events.{size}
 use Rattle.theory.specs.Epochs.{past}
 use Rattle.theory.specs.Line.{recorded, restartIn}
@@ -27,7 +24,6 @@ use Rattle.line.specs.declared.Line.{Line}
 use Rattle.line.specs.Given.{Tabled, lineIn, gateWord}
 use Rattle.line.specs.Words.{Sized}
 use Rattle.line.proofs.Table.{sized, size-is}
-use Rattle.simulation.specs.Related.{Gated}
 use Rattle.replay.specs.Given.{Given}
 
 -- `tabulate` on a table of 16,384 words says whether the area holds a trace

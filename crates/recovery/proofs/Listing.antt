@@ -1,16 +1,14 @@
 -- Each way out of `messages`: the counts and the list by the definitions.
 use Prim.Native.Nat.{ℕ, _+_, _<_, _≤_}
-use mathlib.Core.Path.{_≡_, refl, sym, ap, _∙_}
+use mathlib.Core.Path.{_≡_, ap, _∙_}
 use mathlib.Core.List.{List, _++_}
 use native.Mathlib.Omega.{arith}
-use lib.Dec.{eqb}
 use lib.ListN.{length, getD, take, drop, length-append, length-drop, List·getD-append}
 use lib.Seq.{getD-take, getD-drop, length-take-le}
 use borrow.Author.Tests.{ne-eqb}
 use Rattle.words.specs.Area.{areaWords, wordsFrom}
 use Rattle.words.proofs.Area.{length-words, getD-words}
 use Rattle.table.specs.Held.{held}
-use Rattle.theory.specs.Lists.{pick}
 use Rattle.theory.specs.Answers.{orphans, keptOnes, lostOnes}
 use Rattle.theory.proofs.WellFormed.{valid}
 use Rattle.protocol.proofs.Passes.{held-few}

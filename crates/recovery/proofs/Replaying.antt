@@ -1,32 +1,29 @@
 -- Each way out of `prepare`, `replay` and `lowest`: answer and run area by the definitions, and demand 3 for a complete order.
 use Prim.Native.Nat.{ℕ, _<_, _≤_}
 use mathlib.Core.Path.{_≡_, refl, sym, ap, _∙_}
-use mathlib.Core.Logic.{_↔_}
-use mathlib.Core.Bool.{Bool, true, false, not}
+use mathlib.Core.Bool.{Bool, true, false}
 use mathlib.Core.List.{List, _++_}
 use native.Mathlib.Omega.{arith}
-use lib.Dec.{ltb, eqb}
+use lib.Dec.{ltb}
 use lib.ListN.{length, take, drop}
 use lib.Seq.{take-at}
-use borrow.Author.Tests.{lt-ltb, le-ltb, eq-eqb, ne-eqb}
+use borrow.Author.Tests.{lt-ltb, le-ltb, ne-eqb}
 use Rattle.words.specs.Area.{areaWords, wordsFrom}
 use Rattle.words.proofs.Area.{length-words}
 use Rattle.words.proofs.Cases.{by-lt}
 use Rattle.trace.specs.Fit.{orElse}
 use Rattle.table.specs.Held.{held, holdsTrace}
-use Rattle.theory.specs.Lists.{pick}
 use Rattle.theory.specs.Epochs.{past}
-use Rattle.theory.specs.Line.{Run, LossFree}
-use Rattle.theory.specs.Order.{Outcome, carriedOut, refused, run, steps, complete, lowestOrder}
+use Rattle.theory.specs.Line.{Run}
+use Rattle.theory.specs.Order.{Outcome, carriedOut, refused, run, complete, lowestOrder}
 use Rattle.theory.specs.Refusals.{lineFault}
 use Rattle.theory.proofs.Epochs.{laws}
 use Rattle.theory.proofs.Orders.{complete-iff}
 use Rattle.theory.proofs.Lowest.{lowest-order}
-use Rattle.theory.proofs.Refusals.{line-fit}
 use Rattle.protocol.proofs.Passes.{held-valid, held-few}
 use Rattle.line.specs.declared.Line.{Line}
 use Rattle.line.specs.Given.{lineIn}
-use Rattle.simulation.specs.Record.{recordAt, faultlessAt}
+use Rattle.simulation.specs.Record.{recordAt}
 use Rattle.simulation.proofs.Records.{complete-record}
 use Rattle.replay.specs.declared.Replayed.{Replayed}
 use Rattle.replay.specs.Answer.{answerOf, wordsOf}

@@ -1,18 +1,17 @@
 -- Each way out of `restart`: the answer by its definition, and demand 2.
 use Prim.Native.Nat.{ℕ, _+_, _<_, _≤_}
-use mathlib.Core.Path.{_≡_, refl, sym, ap, _∙_}
-use mathlib.Core.Bool.{Bool, true, false, _&&_, not}
+use mathlib.Core.Path.{_≡_, sym, ap, _∙_}
+use mathlib.Core.Bool.{true, false, _&&_, not}
 use mathlib.Core.List.{List}
 use native.Mathlib.Omega.{arith}
 use lib.Count.{ones}
-use lib.Dec.{ltb, eqb}
+use lib.Dec.{ltb}
 use lib.ListN.{length, getD}
 use borrow.Author.Tests.{lt-ltb, le-ltb, ne-eqb}
 use Rattle.words.specs.Area.{areaWords, wordsFrom}
 use Rattle.words.proofs.Area.{getD-words, words-ext}
 use Rattle.trace.specs.Trace.{Trace}
 use Rattle.table.specs.Held.{held, holdsTrace}
-use Rattle.theory.specs.Lists.{pick}
 use Rattle.theory.specs.Events.{size}
 use Rattle.theory.specs.Epochs.{past, phaseAt}
 use Rattle.theory.specs.Line.{inSet, staysIn, restartIn, current, reached, Greatest, greatestLine}

@@ -1,25 +1,23 @@
 -- From what recovery answers to the report's definition: the line as a list, the recorded run, the lines of the processes.
 use Prim.Native.Nat.{ℕ, zero, suc, _+_, _<_, _≤_}
 use mathlib.Core.Path.{_≡_, refl, sym, ap, _∙_, fun-ext}
-use mathlib.Core.Bool.{Bool, true, false, not}
+use mathlib.Core.Bool.{true, not}
 use mathlib.Core.List.{List, [], _∷_, _++_}
 use native.Mathlib.Omega.{arith}
-use lib.Dec.{ltb, eqb}
-use lib.ListN.{length, getD, take, drop, length-append, List·getD-append, List·getD-eq-default, length-replicate}
+use lib.Dec.{eqb}
+use lib.ListN.{length, getD, take, drop, length-append, List·getD-append, List·getD-eq-default}
 use lib.Seq.{getD-take, getD-at, length-take-le}
 use borrow.Author.Tests.{lt-ltb, le-ltb}
 use Rattle.words.specs.Area.{areaWords, wordsFrom}
 use Rattle.words.proofs.Area.{length-words, getD-words, words-ext}
-use Rattle.words.proofs.Cases.{by-lt, by-bool, clash}
+use Rattle.words.proofs.Cases.{by-lt}
 use Rattle.trace.specs.Trace.{Trace}
-use Rattle.trace.specs.Fit.{orElse}
 use Rattle.table.specs.Held.{held, holdsTrace}
-use Rattle.theory.specs.Lists.{pick, keep}
+use Rattle.theory.specs.Lists.{keep}
 use Rattle.theory.specs.Epochs.{past, phaseAt}
 use Rattle.theory.specs.Line.{inSet, Run, recorded, restartIn, current, reached, greatestLine}
 use Rattle.theory.specs.Order.{steps, lowestOrder}
-use Rattle.theory.specs.Answers.{lineOf, Listed, gather, orphans, keptOnes, lostOnes}
-use Rattle.theory.specs.Refusals.{failureFault, lineFault}
+use Rattle.theory.specs.Answers.{lineOf, gather, orphans, keptOnes, lostOnes}
 use Rattle.theory.proofs.Refusals.{failure-fit, line-fit}
 use Rattle.theory.proofs.WellFormed.{valid}
 use Rattle.protocol.proofs.Passes.{held-formed}
@@ -32,12 +30,13 @@ use Rattle.recovery.specs.declared.Counted.{Counted}
 use Rattle.recovery.specs.Messages.{messagesAnswer, messagesArea}
 use Rattle.replay.specs.declared.Replayed.{Replayed}
 use Rattle.recovery.specs.Answers.{faultOf, runOf as codeRun, Completed}
-use Rattle.recovery.specs.Restart.{ofEach, restartBy, restartOf, engineLine as codeLine}
+use Rattle.recovery.specs.Restart.{ofEach, restartOf, engineLine as codeLine}
 use Rattle.writer.specs.Buffer.{Puts}
 use Rattle.writer.proofs.Buffers.{then, same-bytes}
 use Rattle.report.specs.Bytes.{bytesOf}
-use Rattle.report.specs.Report.{given, Failure, runOf, Recovery, tabled, engineLine, recoveryBy, processLine, processLineOf, messageLines, totalLine, keyOrphan, keyKept, printedOf}
+use Rattle.report.specs.Report.{given, Failure, runOf, Recovery, tabled, engineLine, recoveryBy, processLineOf, messageLines, totalLine, keyOrphan, keyKept, printedOf, reportBytes}
 use Rattle.report.specs.Rows.{processRow, messageRow, Ready}
+use Rattle.report.proofs.Lengths.{found-few}
 use Rattle.report.proofs.Messages.{orphan-lines, kept-lines}
 
 -- ---- f 0 .. f (n - 1)
@@ -213,3 +212,7 @@ module _ (a : List ℕ) (step set : ℕ) (r : Restarted) (G : Ready a step set r
         let l : totalLine (r .back) (c .orphans) (c .kept) s ≡ totalLine (found .back) (length (orphans R)) (length (keptOnes R)) (steps (lowestOrder R)) = rw (back-is, orphans-are, kept-are, es) in
         let g₄ = same-bytes _ _ o₃ o₄ p₃ p₄ l h₄ in
         then (A ++ B ++ C) _ out o₃ o₄ 0 p₃ p₄ (then (A ++ B) C out o₂ o₃ 0 p₂ p₃ (then A B out o₁ o₂ 0 p₁ p₂ g₁ g₂) g₃) g₄
+
+    pub all-few : length (printedOf (given found)) ≤ reportBytes
+    unfolding recoveryBy
+    all-few = found-few found (omega (arith, found-length, few)) (omega (arith, few-rows))

@@ -1,4 +1,5 @@
 pub mod Lines
 pub mod Messages
+pub mod Lengths
 pub mod Found
 pub mod Ways

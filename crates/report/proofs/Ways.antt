@@ -1,17 +1,14 @@
 -- Each way out of `report`: what is written is what the text's definition prints.
 use Prim.Native.Nat.{ℕ, zero, suc, _<_, _≤_}
 use mathlib.Core.Path.{_≡_, refl, sym, ap, subst, _∙_}
-use mathlib.Core.Bool.{Bool, true, false, not}
+use mathlib.Core.Bool.{true}
 use mathlib.Core.List.{List}
 use mathlib.Core.Option.{some}
 use native.Mathlib.Omega.{arith}
-use lib.Dec.{ltb, eqb}
 use lib.ListN.{length}
 use borrow.Author.Tests.{lt-ltb, le-ltb, ne-eqb}
-use Rattle.words.specs.Area.{areaWords}
 use Rattle.words.proofs.Cases.{by-eq}
 use Rattle.trace.specs.Trace.{Trace}
-use Rattle.trace.specs.Fit.{orElse}
 use Rattle.reader.specs.declared.FailureAnswer.{FailureAnswer}
 use Rattle.reader.specs.Failure.{Failing, failureAnswerOf, failureAnswer, failureArea}
 use Rattle.reader.specs.Failure.{failureOf as lastFailure}
@@ -19,19 +16,19 @@ use Rattle.reader.proofs.Claims.{refusal-numbered}
 use Rattle.table.specs.Held.{held, holdsTrace, heldTrace}
 use Rattle.table.proofs.Holding.{told}
 use Rattle.table.proofs.Claims.{failing-held, held-iff}
-use Rattle.theory.specs.Lists.{pick}
 use Rattle.theory.specs.Refusals.{failureFault}
 use Rattle.recovery.specs.declared.Restarted.{Restarted}
-use Rattle.recovery.specs.Restart.{failureFaultOf, restartBy, restartOf, restartRefusal, restartAnswer, Restarts}
+use Rattle.recovery.specs.Restart.{failureFaultOf, restartOf, restartRefusal, restartAnswer, Restarts}
 use Rattle.writer.specs.Buffer.{Puts, room, written}
 use Rattle.writer.proofs.Buffers.{same-bytes, whole}
-use Rattle.report.specs.Report.{Answer, refused, given, unless, failureIn, checked, then, failureOf, recoveryFor, recovery, refusalLine, printedOf, printed}
+use Rattle.report.specs.Report.{Answer, refused, given, unless, failureOf, recoveryFor, recovery, refusalLine, printedOf, printed, reportBytes}
 use Rattle.report.specs.Rows.{Ready}
 
 -- from what was written to the contract
-pub answered : (x text out after : List ℕ) (n : ℕ) → x ≡ printed text → Puts x out 0 after n
-    → (n ≡ length (room (printed text) out)) × (after ≡ written (printed text) out)
-answered x text out after n e h = let w = whole (printed text) out after n (same-bytes x (printed text) out after 0 n e h) in (w .1, w .0)
+pub answered : (x text out after : List ℕ) (n : ℕ) → x ≡ printed text → length x ≤ reportBytes → Puts x out 0 after n
+    → (n ≡ length (room (printed text) out)) × ((after ≡ written (printed text) out) × (length (printed text) ≤ reportBytes))
+answered x text out after n e l h =
+    let w = whole (printed text) out after n (same-bytes x (printed text) out after 0 n e h) in (w .1, (w .0, rw e at l))
 
 pub too-long : (text : List ℕ) → 65536 < length text → refusalLine 1 0 ≡ printed text
 unfolding printed printedOf

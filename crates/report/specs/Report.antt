@@ -1,7 +1,7 @@
 -- What the program prints for a text that ends with a failure line (document 01, "Runs to check"): the engine's line with all that is said of
 -- it, or a refusal's number and place.
 use mathlib.Core.List.{List, [], _∷_, _++_}
-use mathlib.Core.Bool.{Bool, not}
+use mathlib.Core.Bool.{not}
 use Prim.Native.Nat.{ℕ, zero, suc, _+_}
 use Prim.Native.String.{String}
 use lib.ListN.{length, getD}
@@ -12,9 +12,9 @@ use Rattle.reader.specs.Failure.{Failing, failureOf as lastFailure}
 use Rattle.theory.specs.Lists.{pick, keep}
 use Rattle.theory.specs.Epochs.{past}
 use Rattle.theory.specs.Line.{inSet, Run, recorded, current, reached, greatestLine}
-use Rattle.theory.specs.Order.{Outcome, carriedOut, run, steps, complete, lowestOrder}
-use Rattle.theory.specs.Answers.{lineOf, Listed, gather, orphans, keptOnes, lostOnes, sameRecord}
-use Rattle.theory.specs.Refusals.{failureFault, lineFault, orderFault}
+use Rattle.theory.specs.Order.{run, steps, lowestOrder}
+use Rattle.theory.specs.Answers.{lineOf, Listed, gather, orphans, keptOnes}
+use Rattle.theory.specs.Refusals.{failureFault}
 use Rattle.report.specs.Bytes.{bytesOf}
 
 -- an answer, or a refusal: its number and its place
@@ -139,3 +139,7 @@ printedOf (given r) =
 -- "The program takes at most 65,536 bytes; more is 1 at place 0, before anything else."
 unfoldable pub printed : List ℕ → List ℕ
 printed text = printedOf (pick (ltb 65536 (length text)) (refused 1 0) (recovery text))
+
+-- a buffer of so many bytes holds every report
+abbrev pub reportBytes : ℕ
+reportBytes = 262144

@@ -11,7 +11,7 @@ use Rattle.theory.specs.Refusals.{failureFault}
 use Rattle.recovery.specs.Restart.{restartOf, Restarts}
 use Rattle.recovery.specs.declared.Restarted.{Restarted}
 use Rattle.report.specs.Bytes.{bytesOf}
-use Rattle.report.specs.Report.{processLine, refusalLine}
+use Rattle.report.specs.Report.{processLine}
 
 -- four keys with their numbers
 unfoldable pub rowBytes : List ℕ → ℕ → List ℕ → ℕ → List ℕ → ℕ → List ℕ → ℕ → List ℕ

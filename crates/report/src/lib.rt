@@ -7,10 +7,13 @@ ghost use Rattle.words.specs.Area.{areaWords};
 ghost use Rattle.table.specs.Held.{held};
 ghost use Rattle.theory.specs.Answers.{gather};
 ghost use Rattle.writer.specs.Buffer.{Puts, room, written};
-ghost use Rattle.report.specs.Report.{given, recoveryFor, refusalLine, printedOf, printed};
+ghost use Rattle.report.specs.Report.{given, recoveryFor, refusalLine, printedOf, printed, reportBytes};
 ghost use Rattle.report.specs.Rows.{rowBytes, processRow, messageRow, Ready};
 use recovery::Restarted;
 use words::AREA_WORDS;
+
+// A buffer of so many bytes holds every report.
+pub const REPORT_BYTES: usize = 262144;
 
 // What the program takes: "at most 65,536 bytes".
 const TEXT_MOST: usize = 65536;
@@ -124,7 +127,8 @@ fn put_refusal(out: &mut [u8], number: u32, place: usize) -> usize
 // The report of a failure that is not refused.
 fn put_recovery(table: &[u32], step: u64, set: u64, r: Restarted, out: &mut [u8]) -> usize
     requires { ⌜ Ready (now table) step set r ⌝ }
-    ensures { λ n. ⌜ Puts (printedOf (given (recoveryFor (held (now (table .entry))) step set))) (now (out .entry)) 0 (now (out .exit)) n ⌝ }
+    ensures bytes { λ n. ⌜ Puts (printedOf (given (recoveryFor (held (now (table .entry))) step set))) (now (out .entry)) 0 (now (out .exit)) n ⌝ }
+    ensures few { λ _. ⌜ length (printedOf (given (recoveryFor (held (now (table .entry))) step set))) ≤ reportBytes ⌝ }
 {
     let mut run = [0u32; AREA_WORDS];
     let replayed = recovery::lowest(table, step, set, r.line, &mut run);
@@ -152,6 +156,7 @@ fn put_recovery(table: &[u32], step: u64, set: u64, r: Restarted, out: &mut [u8]
 pub fn report(text: &[u8], out: &mut [u8]) -> usize
     ensures length { λ r. ⌜ r ≡ length (room (printed (now (text .entry))) (now (out .entry))) ⌝ }
     ensures bytes { λ _. ⌜ now (out .exit) ≡ written (printed (now (text .entry))) (now (out .entry)) ⌝ }
+    ensures few { λ _. ⌜ length (printed (now (text .entry))) ≤ reportBytes ⌝ }
 {
     if text.len() > TEXT_MOST {
         return put_refusal(out, 1, 0);

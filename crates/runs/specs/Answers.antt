@@ -3,7 +3,6 @@ use mathlib.Core.List.{List}
 use mathlib.Core.Bool.{Bool}
 use Prim.Native.Nat.{ℕ}
 use lib.ListN.{length}
-use Rattle.theory.specs.Epochs.{past}
 use Rattle.theory.specs.Line.{Run}
 use Rattle.theory.specs.Order.{Outcome, carriedOut, run, steps, complete}
 use Rattle.theory.specs.Answers.{lineOf, Listed, lostOnes, sameRecord}

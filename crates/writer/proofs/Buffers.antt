@@ -9,7 +9,7 @@ use lib.Dec.{ltb}
 use lib.ListN.{length, getD, set, take, drop, length-append, drop-of-length-le}
 use lib.Seq.{drop-cons, drop-nil, set-append-seam}
 use borrow.Author.Tests.{lt-ltb, le-ltb}
-use Rattle.writer.specs.Buffer.{Laid, pickLaid, putOne, puts, Puts, room, written}
+use Rattle.writer.specs.Buffer.{Laid, putOne, puts, Puts, room, written}
 
 -- ---- One byte
 
@@ -87,3 +87,6 @@ take-few (suc n) (x ∷ xs) = omega (arith, take-few n xs)
 pub room-within : (bs before : List ℕ) → length (room bs before) ≤ length before
 unfolding room
 room-within bs before = take-few (length before) bs
+
+pub next-within : (bs before after : List ℕ) (next : ℕ) → next ≡ length (room bs before) → length after ≡ length before → next ≤ length after
+next-within bs before after next e l = omega (arith, room-within bs before)

@@ -1,15 +1,14 @@
 -- The digits of a number, written from the last one down.
-use Prim.Native.Nat.{ℕ, zero, suc, _+_, _-_, _/_, _%_, _<_, _≤_}
-use mathlib.Core.Path.{_≡_, refl, sym, ap, _∙_}
+use Prim.Native.Nat.{ℕ, suc, _+_, _-_, _/_, _%_, _<_, _≤_}
+use mathlib.Core.Path.{_≡_, sym, ap, _∙_}
 use mathlib.Core.List.{List, [], _∷_, _++_, append-assoc, append-nil}
 use native.Mathlib.Omega.{arith}
-use lib.Dec.{ltb}
-use lib.ListN.{length, getD, set, drop, length-set, take, length-drop, drop-of-length-le}
+use lib.ListN.{length, set, drop, length-set, take, length-drop, drop-of-length-le}
 use lib.Seq.{drop-cons, drop-set-lt, getD-set-same, take-all}
 use borrow.Author.Tests.{lt-ltb, le-ltb}
 use Rattle.writer.specs.Buffer.{Puts}
 use Rattle.writer.proofs.Buffers.{same-bytes}
-use Rattle.text.specs.Number.{pickBytes, lastDigits, decimal}
+use Rattle.text.specs.Number.{lastDigits, decimal}
 
 drop-set : (l : List ℕ) (j a : ℕ) → j < length l → drop j (set l j a) ≡ a ∷ drop (suc j) l
 drop-set l j a h =

@@ -1,5 +1,5 @@
 -- `recovery::lowest` meets its contract: a refusal changes nothing; otherwise the first 16,384 words are lent on.
-use mathlib.Core.Path.{_≡_, sym, _∙_}
+use mathlib.Core.Path.{sym, _∙_}
 use lib.ListN.{length}
 use lib.Seq.{length-take-le}
 use Rattle.words.specs.Area.{areaWords}
@@ -8,7 +8,6 @@ use Rattle.theory.specs.Order.{lowestOrder}
 use Rattle.line.specs.Given.{lineIn}
 use Rattle.recovery.specs.Answers.{runOf}
 use Rattle.recovery.proofs.Replaying.{refuses, not-completed, carried, completed, room-enough}
-use native.Mathlib.Omega.{arith}
 use borrow.Author.Needs.{needs}
 use Rattle.recovery.proofs.lowest.Statement.{statement}
 use Rattle.recovery.proofs.lowest.Tie as tie

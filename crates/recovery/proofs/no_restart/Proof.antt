@@ -1,4 +1,3 @@
-use native.Mathlib.Omega.{arith}
 use borrow.Author.Needs.{needs}
 use Rattle.recovery.proofs.no_restart.Statement.{statement}
 use Rattle.recovery.proofs.no_restart.Tie as tie

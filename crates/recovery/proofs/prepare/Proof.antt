@@ -1,5 +1,5 @@
 -- `recovery::prepare` meets its contract, one law for each way out.
-use mathlib.Core.Path.{_≡_, sym, _∙_}
+use mathlib.Core.Path.{sym, _∙_}
 use Rattle.table.specs.Held.{held}
 use Rattle.recovery.proofs.Given.{tabled-holds, tabled, sized-all, sized-cut, step-within, count-is, given}
 use Rattle.recovery.proofs.Replaying.{short-table, short-area, no-trace, line-number}

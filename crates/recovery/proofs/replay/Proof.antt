@@ -1,14 +1,11 @@
 -- `recovery::replay` meets its contract: a refusal changes nothing; otherwise the first 16,384 words are lent on.
-use mathlib.Core.Path.{_≡_, sym, _∙_}
+use mathlib.Core.Path.{sym, _∙_}
 use lib.ListN.{length}
 use lib.Seq.{length-take-le}
 use Rattle.words.specs.Area.{areaWords}
 use Rattle.table.specs.Held.{held}
-use Rattle.theory.specs.Order.{lowestOrder}
 use Rattle.line.specs.Given.{lineIn}
-use Rattle.recovery.specs.Answers.{runOf}
 use Rattle.recovery.proofs.Replaying.{refuses, carried, room-enough}
-use native.Mathlib.Omega.{arith}
 use borrow.Author.Needs.{needs}
 use Rattle.recovery.proofs.replay.Statement.{statement}
 use Rattle.recovery.proofs.replay.Tie as tie

@@ -1,5 +1,5 @@
 -- `recovery::restart` meets its contract, one law for each way out.
-use mathlib.Core.Path.{_≡_, sym, _∙_}
+use mathlib.Core.Path.{sym, _∙_}
 use Rattle.table.specs.Held.{held}
 use Rattle.recovery.proofs.Given.{fresh-holds, tabled, sized-all, size-of}
 use Rattle.recovery.proofs.Restarting.{short, none-held, failure-number, refuses-restart, answers-restart}

@@ -3,7 +3,6 @@ use mathlib.Core.Path.{_≡_}
 use lib.ListN.{length}
 use Rattle.line.proofs.Table.{sized}
 use Rattle.recovery.proofs.Restarting.{count-of, count-few, made, means}
-use native.Mathlib.Omega.{arith}
 use borrow.Author.Needs.{needs}
 use Rattle.recovery.proofs.restart_from.Statement.{statement}
 use Rattle.recovery.proofs.restart_from.Tie as tie

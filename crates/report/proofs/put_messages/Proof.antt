@@ -1,8 +1,7 @@
 -- `report::put_messages` meets its contract: after i turns the lines of the first i messages.
-use mathlib.Core.Path.{_≡_, refl, ap, _∙_}
-use mathlib.Core.List.{List}
-use Prim.Native.Nat.{ℕ, _-_, _≤_}
-use lib.ListN.{length, getD}
+use mathlib.Core.Path.{_≡_, refl, _∙_}
+use Prim.Native.Nat.{_-_, _≤_}
+use lib.ListN.{length}
 use Rattle.theory.specs.Answers.{gather}
 use Rattle.writer.specs.Buffer.{Puts}
 use Rattle.writer.proofs.Buffers.{same-bytes}

@@ -1,7 +1,6 @@
 -- `report::put_processes` meets its contract: after z turns the lines of the first z processes.
-use mathlib.Core.Path.{_≡_, refl, ap, _∙_}
-use mathlib.Core.List.{List}
-use Prim.Native.Nat.{ℕ, _-_, _≤_}
+use mathlib.Core.Path.{_≡_, refl, _∙_}
+use Prim.Native.Nat.{_-_, _≤_}
 use lib.ListN.{length, getD}
 use Rattle.theory.specs.Answers.{gather}
 use Rattle.writer.specs.Buffer.{Puts}

@@ -5,7 +5,7 @@ use lib.ListN.{length, length-replicate}
 use Rattle.writer.proofs.Buffers.{same-bytes}
 use Rattle.report.specs.Bytes.{bytesOf}
 use Rattle.report.proofs.Lines.{total-keys}
-use Rattle.report.proofs.Found.{few, count-is, steps-are, all-put}
+use Rattle.report.proofs.Found.{few, count-is, steps-are, all-put, all-few}
 use native.Mathlib.Omega.{arith}
 use borrow.Author.Needs.{needs}
 use Rattle.report.proofs.put_recovery.Statement.{statement}
@@ -33,7 +33,7 @@ returns c =
     let n : length (lowest .last .1 .1 .1 .1 .0) ≡ 16384 = (lowest .kept .1 .1 .1 .1 .0) ∙ length-replicate {A = ℕ} 16384 0 in
     let s = steps-are a (args .step) (args .set) (args .r) pre _ (search needs) (lowest .result) (lowest .ensures .1 .1 .1) in
     let total = same-bytes _ _ _ _ _ _ (total-keys _ _ _ _ _ _ _ _ _ refl refl refl refl (wide .ensures)) (put-row .ensures) in
-    all-put a (args .step) (args .set) (args .r) pre _ _ (messages .result) n (messages .ensures .0) (messages .ensures .1 .0) (messages .ensures .1 .1) _ _ _ _ _ _ _ _ _ _ _ _ refl refl s (put-processes .ensures) (put-messages .ensures) (put-messages2 .ensures) total
+    (all-put a (args .step) (args .set) (args .r) pre _ _ (messages .result) n (messages .ensures .0) (messages .ensures .1 .0) (messages .ensures .1 .1) _ _ _ _ _ _ _ _ _ _ _ _ refl refl s (put-processes .ensures) (put-messages .ensures) (put-messages2 .ensures) total, all-few a (args .step) (args .set) (args .r) pre _ _ (messages .result) n (messages .ensures .0) (messages .ensures .1 .0) (messages .ensures .1 .1))
 
 pub put-recovery-spec : {M : Type 1} → statement M
 put-recovery-spec =

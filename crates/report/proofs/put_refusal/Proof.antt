@@ -6,7 +6,6 @@ use Rattle.text.specs.Number.{decimal}
 use Rattle.writer.proofs.Buffers.{same-bytes}
 use Rattle.report.specs.Bytes.{bytesOf}
 use Rattle.report.proofs.Lines.{refusal-put}
-use native.Mathlib.Omega.{arith}
 use borrow.Author.Needs.{needs}
 use Rattle.report.proofs.put_refusal.Statement.{statement}
 use Rattle.report.proofs.put_refusal.Tie as tie

@@ -1,6 +1,5 @@
 -- `report::put_row` meets its contract: four pairs and the end of the line.
 use Rattle.report.proofs.Lines.{row-put}
-use native.Mathlib.Omega.{arith}
 use borrow.Author.Needs.{needs}
 use Rattle.report.proofs.put_row.Statement.{statement}
 use Rattle.report.proofs.put_row.Tie as tie

@@ -1,6 +1,5 @@
 -- `writer::put` meets its contract: there is room for the byte, or not.
 use Rattle.writer.proofs.Buffers.{put-in, put-full}
-use native.Mathlib.Omega.{arith}
 use borrow.Author.Needs.{needs}
 use Rattle.writer.proofs.put.Statement.{statement}
 use Rattle.writer.proofs.put.Tie as tie

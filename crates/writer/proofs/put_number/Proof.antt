@@ -1,6 +1,5 @@
 -- `writer::put_number` meets its contract: the digits' bytes.
 use Rattle.writer.proofs.Digits.{digit-slice}
-use native.Mathlib.Omega.{arith}
 use borrow.Author.Needs.{needs}
 use Rattle.writer.proofs.put_number.Statement.{statement}
 use Rattle.writer.proofs.put_number.Tie as tie

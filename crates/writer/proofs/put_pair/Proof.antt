@@ -1,6 +1,5 @@
 -- `writer::put_pair` meets its contract: the key, then the number.
 use Rattle.writer.proofs.Buffers.{then}
-use native.Mathlib.Omega.{arith}
 use borrow.Author.Needs.{needs}
 use Rattle.writer.proofs.put_pair.Statement.{statement}
 use Rattle.writer.proofs.put_pair.Tie as tie

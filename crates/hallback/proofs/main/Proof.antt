@@ -1,0 +1,22 @@
+-- `hallback::main` stays within its buffers: the report's length is at most the buffer's.
+use mathlib.Core.Path.{sym}
+use lib.Seq.{length-take-le}
+use Rattle.writer.proofs.Buffers.{next-within}
+use borrow.Author.Needs.{needs}
+use Rattle.hallback.proofs.main.Statement.{statement}
+use Rattle.hallback.proofs.main.Tie as tie
+
+array-share-prefix-out : tie.Need-array-share-prefix-out
+array-share-prefix-out c =
+    let report = c .before .report in
+    next-within _ _ (report .last .1 .0) _ (report .ensures .0) (report .kept .1 .0)
+
+slice-aggregate-write-all : tie.Need-slice-aggregate-write-all
+slice-aggregate-write-all c =
+    let report = c .before .before .report in
+    sym (length-take-le _ (report .last .1 .0) (next-within _ _ (report .last .1 .0) _ (report .ensures .0) (report .kept .1 .0)))
+
+pub main-spec : {M : Type 1} → statement M
+main-spec =
+    tie.close
+    (tie.spec (λ c. search needs) (λ c κs. search needs) (λ c. search needs) (λ c. search needs) (λ c. search needs) (λ c κs. search needs) array-share-prefix-out slice-aggregate-write-all (λ c κs. search needs) (λ c. search needs))
