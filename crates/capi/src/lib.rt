@@ -1,14 +1,223 @@
-// The reader for C and Rust: what `reader::read` gives, under a plain name. No function has a `requires`. Assumes nothing.
+// The library for C and Rust: its public functions under plain names, numbers and slices only (include/hallback.h). Each returns the number
+// of the refusal, or 0, and writes the rest of its answer into a lent slice, as far as that has room (specs/Answers). No function has a
+// `requires`. Assumes nothing.
 ghost use mathlib.Core.Path.{_≡_};
+ghost use mathlib.Core.List.{[], _∷_};
+ghost use lib.ListN.{length, getD};
+ghost use Rattle.theory.specs.Lists.{pick};
+ghost use Rattle.writer.specs.Buffer.{Puts, room, written};
 ghost use Rattle.reader.specs.Answer.{readAnswer, readArea};
-ghost use Rattle.capi.specs.Packed.{packed};
+ghost use Rattle.reader.specs.Failure.{failureAnswer, failureArea};
+ghost use Rattle.recovery.specs.Answers.{replayAnswer, replayArea};
+ghost use Rattle.recovery.specs.Messages.{messagesAnswer, messagesArea};
+ghost use Rattle.recovery.specs.Restart.{restartAnswer};
+ghost use Rattle.report.specs.Report.{printed};
+ghost use Rattle.capi.specs.Answers.{lineGiven, readNumbers, failureNumbers, restartNumbers, messagesNumbers, replayNumbers, lowestAnswer, lowestArea};
+use line::Line;
+use recovery::Restarted;
+use replay::Replayed;
 
-// Reads a trace text into the table area. The answer is packed: the number in the high 32 bits, the place in the low.
+// As `writer::put`, for numbers: a full slice takes no more.
+fn put(answer: &mut [u64], at: usize, v: u64) -> usize
+    ensures { λ r. ⌜ Puts (v ∷ []) (now (answer .entry)) at (now (answer .exit)) r ⌝ }
+{
+    if at < answer.len() {
+        answer[at] = v;
+        return at + 1;
+    }
+    at
+}
+
+fn wide(x: u32) -> u64
+    ensures { λ r. ⌜ r ≡ x ⌝ }
+{
+    x as u64
+}
+
+fn put_words(answer: &mut [u64], at: usize, words: &[u32]) -> usize
+    ensures { λ r. ⌜ Puts (now (words .entry)) (now (answer .entry)) at (now (answer .exit)) r ⌝ }
+{
+    let mut next = at;
+    let mut i: usize = 0;
+    while i < words.len() {
+        next = put(answer, next, wide(words[i]));
+        i += 1;
+    }
+    next
+}
+
+fn put_three(answer: &mut [u64], a: u64, b: u64, c: u64) -> usize
+    ensures { λ r. ⌜ Puts (a ∷ b ∷ c ∷ []) (now (answer .entry)) 0 (now (answer .exit)) r ⌝ }
+{
+    let second = put(answer, 0, a);
+    let third = put(answer, second, b);
+    put(answer, third, c)
+}
+
+fn put_four(answer: &mut [u64], a: u64, b: u64, c: u64, d: u64) -> usize
+    ensures { λ r. ⌜ Puts (a ∷ b ∷ c ∷ d ∷ []) (now (answer .entry)) 0 (now (answer .exit)) r ⌝ }
+{
+    let fourth = put_three(answer, a, b, c);
+    put(answer, fourth, d)
+}
+
+fn one_if(yes: bool) -> u64
+    ensures { λ r. ⌜ r ≡ pick yes 1 0 ⌝ }
+{
+    if yes { 1 } else { 0 }
+}
+
+fn number_at(numbers: &[u32], z: usize) -> u32
+    ensures { λ r. ⌜ r ≡ getD (now (numbers .entry)) z 0 ⌝ }
+{
+    if z < numbers.len() { numbers[z] } else { 0 }
+}
+
+// A line from the slice of its numbers.
+fn line_from(numbers: &[u32]) -> Line
+    ensures { λ r. ⌜ r ≡ lineGiven (now (numbers .entry)) ⌝ }
+{
+    let mut epochs = [0u32; 64];
+    let mut z: usize = 0;
+    while z < 64 {
+        epochs[z] = number_at(numbers, z);
+        z += 1;
+    }
+    Line {
+        epochs: epochs,
+        count: numbers.len(),
+    }
+}
+
+// Reads a trace text into the table area. Answer: place.
 #[no_mangle]
-pub extern "C" fn hallback_read(text: &[u8], table: &mut [u32]) -> u64
-    ensures answer { λ r. ⌜ r ≡ packed (readAnswer (now (text .entry)) (now (table .entry))) ⌝ }
+pub extern "C" fn hallback_read(text: &[u8], table: &mut [u32], answer: &mut [u64]) -> u32
+    ensures number { λ r. ⌜ r ≡ readAnswer (now (text .entry)) (now (table .entry)) .number ⌝ }
     ensures words { λ _. ⌜ now (table .exit) ≡ readArea (now (text .entry)) (now (table .entry)) ⌝ }
+    ensures numbers { λ _. ⌜ now (answer .exit) ≡ written (readNumbers (readAnswer (now (text .entry)) (now (table .entry)))) (now (answer .entry)) ⌝ }
 {
     let a = reader::read(text, table);
-    (a.number as u64) * 4294967296 + (a.place % 4294967296) as u64
+    put(answer, 0, a.place as u64);
+    a.number
+}
+
+// The same for a text whose last line is a failure line. Answer: place, step, set.
+#[no_mangle]
+pub extern "C" fn hallback_read_failure(text: &[u8], table: &mut [u32], answer: &mut [u64]) -> u32
+    ensures number { λ r. ⌜ r ≡ failureAnswer (now (text .entry)) (now (table .entry)) .number ⌝ }
+    ensures words { λ _. ⌜ now (table .exit) ≡ failureArea (now (text .entry)) (now (table .entry)) ⌝ }
+    ensures numbers { λ _. ⌜ now (answer .exit) ≡ written (failureNumbers (failureAnswer (now (text .entry)) (now (table .entry)))) (now (answer .entry)) ⌝ }
+{
+    let a = reader::read_failure(text, table);
+    put_three(answer, a.place as u64, a.step, a.set);
+    a.number
+}
+
+fn put_restart(answer: &mut [u64], r: Restarted) -> usize
+    ensures { λ n. ⌜ Puts (restartNumbers r) (now (answer .entry)) 0 (now (answer .exit)) n ⌝ }
+{
+    let numbers = r.line.epochs;
+    let epochs = r.epochs;
+    let phases = r.phases;
+    let to_numbers = put_four(
+        answer,
+        r.place as u64,
+        r.line.count as u64,
+        wide(r.back),
+        r.going,
+    );
+    let to_epochs = put_words(answer, to_numbers, &numbers);
+    let to_phases = put_words(answer, to_epochs, &epochs);
+    put_words(answer, to_phases, &phases)
+}
+
+// The greatest line without a lost message. Answer: place, count, back, the set of those that go back; then 64 words each: the line's
+// numbers, the epochs at the cut, the phases at the restart or at the cut.
+#[no_mangle]
+pub extern "C" fn hallback_restart(table: &[u32], step: u64, set: u64, answer: &mut [u64]) -> u32
+    ensures number { λ r. ⌜ r ≡ restartAnswer (now (table .entry)) step set .number ⌝ }
+    ensures numbers { λ _. ⌜ now (answer .exit) ≡ written (restartNumbers (restartAnswer (now (table .entry)) step set)) (now (answer .entry)) ⌝ }
+{
+    let r = recovery::restart(table, step, set);
+    put_restart(answer, r);
+    r.number
+}
+
+// The messages of a line, listed in the run area. Answer: place, orphans, kept, lost.
+#[no_mangle]
+pub extern "C" fn hallback_messages(
+    table: &[u32],
+    step: u64,
+    set: u64,
+    line: &[u32],
+    run: &mut [u32],
+    answer: &mut [u64],
+) -> u32
+    ensures number { λ r. ⌜ r ≡ messagesAnswer (now (table .entry)) (now (run .entry)) step set (lineGiven (now (line .entry))) .number ⌝ }
+    ensures words { λ _. ⌜ now (run .exit) ≡ messagesArea (now (table .entry)) (now (run .entry)) step set (lineGiven (now (line .entry))) ⌝ }
+    ensures numbers { λ _. ⌜ now (answer .exit) ≡ written (messagesNumbers (messagesAnswer (now (table .entry)) (now (run .entry)) step set (lineGiven (now (line .entry))))) (now (answer .entry)) ⌝ }
+{
+    let c = recovery::messages(table, step, set, line_from(line), run);
+    put_four(
+        answer,
+        c.place as u64,
+        wide(c.orphans),
+        wide(c.kept),
+        wide(c.lost),
+    );
+    c.number
+}
+
+fn put_replayed(answer: &mut [u64], r: Replayed) -> usize
+    ensures { λ n. ⌜ Puts (replayNumbers r) (now (answer .entry)) 0 (now (answer .exit)) n ⌝ }
+{
+    put_three(answer, r.place as u64, r.steps as u64, one_if(r.complete))
+}
+
+// An order carried out from a line, its delivery record in the run area. Answer: place, steps, 1 if complete.
+#[no_mangle]
+pub extern "C" fn hallback_replay(
+    table: &[u32],
+    step: u64,
+    set: u64,
+    line: &[u32],
+    order: &[u16],
+    run: &mut [u32],
+    answer: &mut [u64],
+) -> u32
+    ensures number { λ r. ⌜ r ≡ replayAnswer (now (table .entry)) (now (run .entry)) step set (lineGiven (now (line .entry))) (now (order .entry)) .number ⌝ }
+    ensures words { λ _. ⌜ now (run .exit) ≡ replayArea (now (table .entry)) (now (run .entry)) step set (lineGiven (now (line .entry))) (now (order .entry)) ⌝ }
+    ensures numbers { λ _. ⌜ now (answer .exit) ≡ written (replayNumbers (replayAnswer (now (table .entry)) (now (run .entry)) step set (lineGiven (now (line .entry))) (now (order .entry)))) (now (answer .entry)) ⌝ }
+{
+    let r = recovery::replay(table, step, set, line_from(line), order, run);
+    put_replayed(answer, r);
+    r.number
+}
+
+// The same for the order that always takes the lowest allowed choice.
+#[no_mangle]
+pub extern "C" fn hallback_lowest(
+    table: &[u32],
+    step: u64,
+    set: u64,
+    line: &[u32],
+    run: &mut [u32],
+    answer: &mut [u64],
+) -> u32
+    ensures number { λ r. ⌜ r ≡ lowestAnswer (now (table .entry)) (now (run .entry)) step set (lineGiven (now (line .entry))) .number ⌝ }
+    ensures words { λ _. ⌜ now (run .exit) ≡ lowestArea (now (table .entry)) (now (run .entry)) step set (lineGiven (now (line .entry))) ⌝ }
+    ensures numbers { λ _. ⌜ now (answer .exit) ≡ written (replayNumbers (lowestAnswer (now (table .entry)) (now (run .entry)) step set (lineGiven (now (line .entry))))) (now (answer .entry)) ⌝ }
+{
+    let r = recovery::lowest(table, step, set, line_from(line), run);
+    put_replayed(answer, r);
+    r.number
+}
+
+// What the program prints for a text: how many bytes of it there are, or are room for.
+#[no_mangle]
+pub extern "C" fn hallback_report(text: &[u8], out: &mut [u8]) -> usize
+    ensures length { λ r. ⌜ r ≡ length (room (printed (now (text .entry))) (now (out .entry))) ⌝ }
+    ensures bytes { λ _. ⌜ now (out .exit) ≡ written (printed (now (text .entry))) (now (out .entry)) ⌝ }
+{
+    report::report(text, out)
 }

@@ -1,0 +1,41 @@
+-- Answers as numbers in a lent slice, one after another: as many as there is room for, and the rest of the slice as it was (`written`, crate writer).
+use Prim.Native.Nat.{ℕ}
+use mathlib.Core.List.{List, [], _∷_, _++_}
+use lib.ListN.{length, getD}
+use Rattle.words.specs.Area.{wordsFrom}
+use Rattle.theory.specs.Lists.{pick}
+use Rattle.reader.specs.declared.Answer.{Answer}
+use Rattle.reader.specs.declared.FailureAnswer.{FailureAnswer}
+use Rattle.line.specs.declared.Line.{Line}
+use Rattle.replay.specs.declared.Replayed.{Replayed}
+use Rattle.theory.specs.Order.{lowestOrder}
+use Rattle.recovery.specs.Answers.{runOf, replayAnswer, replayArea}
+use Rattle.recovery.specs.declared.Restarted.{Restarted}
+use Rattle.recovery.specs.declared.Counted.{Counted}
+
+-- a line from the slice of its numbers: its length is their count
+abbrev pub lineGiven : List ℕ → Line
+lineGiven l = record { epochs = wordsFrom (λ z. getD l z 0) 0 64; count = length l }
+
+-- the numbers of each answer, without the number of the refusal, which the function returns
+abbrev pub readNumbers : Answer → List ℕ
+readNumbers a = a .place ∷ []
+
+abbrev pub failureNumbers : FailureAnswer → List ℕ
+failureNumbers a = a .place ∷ a .step ∷ a .set ∷ []
+
+abbrev pub restartNumbers : Restarted → List ℕ
+restartNumbers r = (r .place ∷ r .line .count ∷ r .back ∷ r .going ∷ []) ++ r .line .epochs ++ r .epochs ++ r .phases
+
+abbrev pub messagesNumbers : Counted → List ℕ
+messagesNumbers c = c .place ∷ c .orphans ∷ c .kept ∷ c .lost ∷ []
+
+abbrev pub replayNumbers : Replayed → List ℕ
+replayNumbers r = r .place ∷ r .steps ∷ pick (r .complete) 1 0 ∷ []
+
+-- the lowest order, carried out
+abbrev pub lowestAnswer : List ℕ → List ℕ → ℕ → ℕ → Line → Replayed
+lowestAnswer a area step set l = replayAnswer a area step set l (lowestOrder (runOf a step l))
+
+abbrev pub lowestArea : List ℕ → List ℕ → ℕ → ℕ → Line → List ℕ
+lowestArea a area step set l = replayArea a area step set l (lowestOrder (runOf a step l))
