@@ -1,0 +1,57 @@
+/* The library from C: reads the trace H of document 01, finds the restart line after its failure, carries out the lowest order from it, and
+   compares the record with that of the line on which every process goes back to its start. Prints what it finds; 1 if that is not as expected. */
+#include <stdio.h>
+#include <string.h>
+
+#include "hallback.h"
+
+static const char text[] =
+    "procs=3\n"
+    "ev=send at=0 to=1 val=5\n"
+    "ev=recv at=1 from=0\n"
+    "ev=save at=1\n"
+    "ev=send at=1 to=2 val=7\n"
+    "ev=recv at=2 from=1\n"
+    "ev=save at=0\n"
+    "ev=send at=0 to=1 val=9\n"
+    "ev=recv at=1 from=0\n"
+    "ev=send at=1 to=2 val=4\n"
+    "fail=9 set=2\n";
+
+static uint32_t table[HALLBACK_WORDS], run[HALLBACK_WORDS], whole[HALLBACK_WORDS];
+static uint64_t failure[3], restart[HALLBACK_RESTART_NUMBERS], answer[3];
+
+/* A number where 0 was expected. */
+static int refused(const char *call, uint32_t number, uint64_t place) {
+    printf("%s: refused with %u at %llu\n", call, (unsigned)number, (unsigned long long)place);
+    return 1;
+}
+
+int main(void) {
+    uint32_t number = hallback_read_failure((const uint8_t *)text, strlen(text), table, HALLBACK_WORDS, failure, 3);
+    if (number != 0) return refused("read", number, failure[0]);
+    uint64_t step = failure[1], set = failure[2];
+
+    number = hallback_restart(table, HALLBACK_WORDS, step, set, restart, HALLBACK_RESTART_NUMBERS);
+    if (number != 0) return refused("restart", number, restart[0]);
+    uint32_t line[64];
+    size_t count = restart[1];
+    printf("line");
+    for (size_t z = 0; z < count; z++) {
+        line[z] = restart[4 + z];
+        printf(" %u", (unsigned)line[z]);
+    }
+    printf(", %llu go back\n", (unsigned long long)restart[2]);
+
+    number = hallback_lowest(table, HALLBACK_WORDS, step, set, line, count, run, HALLBACK_WORDS, answer, 3);
+    if (number != 0) return refused("lowest", number, answer[0]);
+    printf("%llu steps, %s\n", (unsigned long long)answer[1], answer[2] ? "complete" : "not complete");
+
+    /* From the start of all processes nothing is lost, so that its record is that of the run without failure. */
+    uint32_t start[3] = {1, 1, 1};
+    number = hallback_lowest(table, HALLBACK_WORDS, step, 7, start, 3, whole, HALLBACK_WORDS, answer, 3);
+    if (number != 0) return refused("lowest", number, answer[0]);
+    int same = memcmp(run, whole, sizeof run) == 0;
+    printf("the record %s that of the run without failure\n", same ? "equals" : "differs from");
+    return !same;
+}
