@@ -1,8 +1,8 @@
--- `show::others` is safe and ends: no more words are counted than places passed.
+-- `others` is safe and ends: no more words are counted than places passed.
 use Prim.Native.Nat.{_≤_, _-_}
 use borrow.Author.Needs.{needs}
-use Rattle.checks_reader.proofs.show.others.Statement.{statement}
-use Rattle.checks_reader.proofs.show.others.Tie as tie
+use Rattle.checks_reader.proofs.others.Statement.{statement}
+use Rattle.checks_reader.proofs.others.Tie as tie
 
 abbrev Inv-loop : tie.InvT-loop
 Inv-loop area from to v n₀ i₀ n i = n ≤ i

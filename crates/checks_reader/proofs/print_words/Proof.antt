@@ -1,9 +1,9 @@
--- `show::print_words` is safe and ends.
+-- `print_words` is safe and ends.
 use Prim.Native.Nat.{_≤_, _-_}
 use lib.ListN.{length}
 use borrow.Author.Needs.{needs}
-use Rattle.checks_reader.proofs.show.print_words.Statement.{statement}
-use Rattle.checks_reader.proofs.show.print_words.Tie as tie
+use Rattle.checks_reader.proofs.print_words.Statement.{statement}
+use Rattle.checks_reader.proofs.print_words.Tie as tie
 
 abbrev Inv-loop : tie.InvT-loop
 Inv-loop area from i₀ i = from ≤ i

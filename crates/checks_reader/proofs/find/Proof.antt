@@ -1,9 +1,9 @@
--- `show::find` meets its contract: the search stays between its start and the end.
+-- `find` meets its contract: the search stays between its start and the end.
 use Prim.Native.Nat.{_≤_, _-_}
 use lib.ListN.{length}
 use borrow.Author.Needs.{needs}
-use Rattle.checks_reader.proofs.show.find.Statement.{statement}
-use Rattle.checks_reader.proofs.show.find.Tie as tie
+use Rattle.checks_reader.proofs.find.Statement.{statement}
+use Rattle.checks_reader.proofs.find.Tie as tie
 
 abbrev Inv-loop : tie.InvT-loop
 Inv-loop s from b i₀ i = (from ≤ i) × (i ≤ length s)

@@ -1,9 +1,9 @@
--- `show::rows` is safe and ends: each row ends after it begins.
+-- `rows` is safe and ends: each row ends after it begins.
 use Prim.Native.Nat.{_≤_, _-_}
 use lib.ListN.{length}
 use borrow.Author.Needs.{needs}
-use Rattle.checks_reader.proofs.show.rows.Statement.{statement}
-use Rattle.checks_reader.proofs.show.rows.Tie as tie
+use Rattle.checks_reader.proofs.rows.Statement.{statement}
+use Rattle.checks_reader.proofs.rows.Tie as tie
 
 abbrev Inv-loop : tie.InvT-loop
 Inv-loop first list at₀ at = 0 ≤ at
