@@ -9,20 +9,14 @@ use native.Mathlib.Omega.{arith}
 use lib.ListN.{length}
 use lib.Dec.{leb, ltb, eqb}
 use borrow.Author.Tests.{leb-true, leb-false, ltb-true, eqb-true, eqb-false, lt-ltb, le-ltb, le-leb, eq-eqb, ne-eqb}
+pub use Rattle.words.proofs.Cases.{by-bool as by, clash}
 use Rattle.theory.specs.Lists.{iv, keep, cnt, place, lastOf, has, no-one, all-below, or-else, first}
 
 -- ---- Cases
 
-unfoldable pub by {ℓ} : {A : Type ℓ} (b : Bool) → (b ≡ true → A) → (b ≡ false → A) → A
-by true t f = t refl
-by false t f = f refl
-
 unfoldable pub on {ℓ} : {A B : Type 0} {C : Type ℓ} → A ⊎ B → (A → C) → (B → C) → C
 on (inl a) f g = f a
 on (inr b) f g = g b
-
-pub clash {ℓ} : {A : Type ℓ} {b : Bool} → b ≡ true → b ≡ false → A
-clash p q = absurd (let z : _≡_ {A = ℕ} 0 1 = cc in omega arith)
 
 unfoldable pub le? : (a b : ℕ) → (a ≤ b) ⊎ (b < a)
 le? a b = by (leb a b) (λ e. inl (leb-true a b e)) (λ e. inr (leb-false a b e))
