@@ -41,7 +41,7 @@ use Rattle.report.proofs.Messages.{orphan-lines, kept-lines}
 
 -- ---- f 0 .. f (n - 1)
 
-tabled-length : (f : ℕ → ℕ) (n : ℕ) → length (tabled f n) ≡ n
+pub tabled-length : (f : ℕ → ℕ) (n : ℕ) → length (tabled f n) ≡ n
 unfolding gather
 tabled-length f zero = refl
 tabled-length f (suc n) = length-append (tabled f n) (f n ∷ []) ∙ rw (tabled-length f n) (omega arith)
@@ -119,7 +119,7 @@ module _ (a : List ℕ) (step set : ℕ) (r : Restarted) (G : Ready a step set r
   abbrev found : Recovery
   found = recoveryBy f (engineLine f)
 
-  epochs-at : (z : ℕ) → z < t .procs → getD (r .epochs) z 0 ≡ getD (found .epochs) z 0
+  pub epochs-at : (z : ℕ) → z < t .procs → getD (r .epochs) z 0 ≡ getD (found .epochs) z 0
   unfolding restartOf recoveryBy
   epochs-at z h =
       ap (λ (x : Restarted). getD (x .epochs) z 0) (G .answer) ∙ each-at t (current t past step) z few h ∙ sym (tabled-at (current t past step) (t .procs) z h)
@@ -128,7 +128,7 @@ module _ (a : List ℕ) (step set : ℕ) (r : Restarted) (G : Ready a step set r
   unfolding recoveryBy engineLine
   numbers-at z h = ap (λ (l : Line). getD (l .epochs) z 0) line-is ∙ each-at t g z few h ∙ sym (tabled-at g (t .procs) z h)
 
-  phases-at : (z : ℕ) → z < t .procs → getD (r .phases) z 0 ≡ getD (found .phases) z 0
+  pub phases-at : (z : ℕ) → z < t .procs → getD (r .phases) z 0 ≡ getD (found .phases) z 0
   unfolding restartOf recoveryBy
   phases-at z h =
       let p : (ℕ → ℕ) → ℕ → ℕ = λ l y. phaseAt t past y (restartIn t step l y) in
@@ -150,7 +150,7 @@ module _ (a : List ℕ) (step set : ℕ) (r : Restarted) (G : Ready a step set r
 
   -- ---- Who goes back
 
-  numbers-are : numbersOf (r .line) ≡ found .line
+  pub numbers-are : numbersOf (r .line) ≡ found .line
   unfolding recoveryBy engineLine
   numbers-are =
       rw line-is
@@ -158,7 +158,7 @@ module _ (a : List ℕ) (step set : ℕ) (r : Restarted) (G : Ready a step set r
       (λ z h. getD-take (t .procs) (wordsFrom (each t g) 0 64) z 0 h ∙ each-at t g z few h)
       ∙ sym (tabled-words g (t .procs)))
 
-  back-is : r .back ≡ found .back
+  pub back-is : r .back ≡ found .back
   unfolding recoveryBy backOnes
   back-is = G .means .numbers-are ∙ ap (λ (l : List ℕ). length (keep (λ e. not (eqb e 32)) l)) numbers-are
 

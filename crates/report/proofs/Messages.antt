@@ -25,7 +25,7 @@ gather-first f zero = sym (append-nil (f 0))
 gather-first f (suc n) = ap (λ (x : List _). x ++ f (suc n)) (gather-first f n) ∙ append-assoc (f 0) (gather (λ i. f (suc i)) n) (f (suc n))
 
 -- no message: what stands past the end of a list
-abbrev blank : Listed
+abbrev pub blank : Listed
 blank = record { from = 0; to = 0; number = 0; phase = 0 }
 
 abbrev lineAt : String → List Listed → ℕ → List ℕ
@@ -73,13 +73,13 @@ messages-small R n f phase =
 
 -- ---- Rows
 
-front-row : (f : Row → ℕ) (class : ℕ) (ms : List Listed) (rest : List Row) (i : ℕ) → i < length ms
+pub front-row : (f : Row → ℕ) (class : ℕ) (ms : List Listed) (rest : List Row) (i : ℕ) → i < length ms
     → getD (map f (map (rowOf class) ms ++ rest)) i 0 ≡ f (rowOf class (getD ms i blank))
 front-row f class [] rest i h = absurd (let y : ⊥ = omega arith in y)
 front-row f class (m ∷ ms) rest zero h = refl
 front-row f class (m ∷ ms) rest (suc i) h = front-row f class ms rest i (omega arith)
 
-later-row : (f : Row → ℕ) (class : ℕ) (ms : List Listed) (rest : List Row) (i : ℕ) → getD (map f (map (rowOf class) ms ++ rest)) (length ms + i) 0 ≡ getD (map f rest) i 0
+pub later-row : (f : Row → ℕ) (class : ℕ) (ms : List Listed) (rest : List Row) (i : ℕ) → getD (map f (map (rowOf class) ms ++ rest)) (length ms + i) 0 ≡ getD (map f rest) i 0
 later-row f class [] rest i = ap (λ (j : ℕ). getD (map f rest) j 0) (let q : 0 + i ≡ i = omega arith in q)
 later-row f class (m ∷ ms) rest i =
     ap (λ (j : ℕ). getD (map f (map (rowOf class) (m ∷ ms) ++ rest)) j 0) (let q : suc (length ms) + i ≡ suc (length ms + i) = omega arith in q) ∙ later-row f class ms rest i
@@ -115,23 +115,23 @@ module _ (R : Run) (few : R .trace .procs ≤ 64) (run : List ℕ) (words : (k :
   unfolding listWord
   row-at k a b = words k b ∙ rw (ne-eqb k 0 (λ e. omega arith), ne-eqb k 1 (λ e. omega arith), ne-eqb k 2 (λ e. omega arith))
 
-  word-in : (j : ℕ) → j < 2048 → getD run (17 + j) 0 ≡ getD (map (λ r. r .word) (rowsOf R)) j 0
+  pub word-in : (j : ℕ) → j < 2048 → getD run (17 + j) 0 ≡ getD (map (λ r. r .word) (rowsOf R)) j 0
   word-in j h = row-at (17 + j) (omega arith) (omega arith) ∙ row-words (rowsOf R) (17 + j) j refl (omega arith)
 
-  number-in : (j : ℕ) → j < 2048 → getD run (2066 + j) 0 ≡ getD (map (λ r. r .number) (rowsOf R)) j 0
+  pub number-in : (j : ℕ) → j < 2048 → getD run (2066 + j) 0 ≡ getD (map (λ r. r .number) (rowsOf R)) j 0
   number-in j h = row-at (2066 + j) (omega arith) (omega arith) ∙ row-numbers (rowsOf R) (2066 + j) j refl (omega arith)
 
-  phase-in : (j : ℕ) → j < 2048 → getD run (4115 + j) 0 ≡ getD (map (λ r. r .phase) (rowsOf R)) j 0
+  pub phase-in : (j : ℕ) → j < 2048 → getD run (4115 + j) 0 ≡ getD (map (λ r. r .phase) (rowsOf R)) j 0
   phase-in j h = row-at (4115 + j) (omega arith) (omega arith) ∙ row-phases (rowsOf R) (4115 + j) j refl
 
   abbrev rest₁ : List Row
   rest₁ = map (rowOf 2) (keptOnes R) ++ map (rowOf 3) (lostOnes R)
 
-  orphan-row : (f : Row → ℕ) (i : ℕ) → i < length (orphans R) → getD (map f (rowsOf R)) (0 + i) 0 ≡ f (rowOf 1 (getD (orphans R) i blank))
+  pub orphan-row : (f : Row → ℕ) (i : ℕ) → i < length (orphans R) → getD (map f (rowsOf R)) (0 + i) 0 ≡ f (rowOf 1 (getD (orphans R) i blank))
   unfolding rowsOf
   orphan-row f i h = ap (λ (j : ℕ). getD (map f (map (rowOf 1) (orphans R) ++ rest₁)) j 0) (let q : 0 + i ≡ i = omega arith in q) ∙ front-row f 1 (orphans R) rest₁ i h
 
-  kept-row : (f : Row → ℕ) (i : ℕ) → i < length (keptOnes R) → getD (map f (rowsOf R)) (length (orphans R) + i) 0 ≡ f (rowOf 2 (getD (keptOnes R) i blank))
+  pub kept-row : (f : Row → ℕ) (i : ℕ) → i < length (keptOnes R) → getD (map f (rowsOf R)) (length (orphans R) + i) 0 ≡ f (rowOf 2 (getD (keptOnes R) i blank))
   unfolding rowsOf
   kept-row f i h = later-row f 1 (orphans R) rest₁ i ∙ front-row f 2 (keptOnes R) (map (rowOf 3) (lostOnes R)) i h
 

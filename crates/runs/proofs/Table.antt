@@ -27,12 +27,12 @@ use Rattle.report.specs.Report.{Answer, refused, given, Failure, failureOf, Rec
 use Rattle.runs.specs.Answers.{losses, Replayed, replay}
 
 -- all that a row computes with, beside what the theory's rows do: `opens`
-unfoldable reads : ℕ
+unfoldable pub reads : ℕ
 unfolding bytesOf linesOf failing startsWith fieldAt isDigit pushed digitsFrom numberAt lastDigits procsOf sendOf recvOf saveOf failOf lineIn pieces faultHere judgeEvent judge linesFrom scanPieces scan verdict lastFailure failureFault permits lineFault failureOf losses replay engineLine recoveryBy recovery processLine messageLine messageLines totalLine refusalLine printedOf printed
 reads = 0
 
 -- a trace of two processes
-abbrev pub two : List Event → Trace
+abbrev two : List Event → Trace
 two es = record { procs = 2; events = es }
 
 -- a message as the report lists it: from, to, number, phase
@@ -125,12 +125,15 @@ unfolding opens reads
 r4 = refl
 
 -- "Trace L: two zones; send 0 to 1, save 1, receive. R5: step 3, set 2: line 32,2, the message kept in phase 1, order 65,1 complete."
+abbrev pub traceL : Trace
+traceL = two (Send 0 1 6 ∷ Save 1 ∷ Recv 1 0 ∷ [])
+
 abbrev pub recovery5 : Recovery
 recovery5 = record { epochs = 1 ∷ 2 ∷ []; line = 32 ∷ 2 ∷ []; phases = 1 ∷ 2 ∷ []; orphans = []; kept = message 0 1 1 1 ∷ []; back = 1; steps = 2 }
 
 abbrev pub R5 : Type 0
 R5 =
-    (verdict (linesOf linesL) ≡ accepted (two (Send 0 1 6 ∷ Save 1 ∷ Recv 1 0 ∷ [])))
+    (verdict (linesOf linesL) ≡ accepted traceL)
     × (recovery (failing linesL "fail=3 set=2") ≡ given recovery5)
     × (replay (failing linesL "fail=3 set=2") (32 ∷ 2 ∷ []) (65 ∷ 1 ∷ []) ≡ completed 2)
 
@@ -147,12 +150,15 @@ unfolding opens reads
 r6 = refl
 
 -- "Trace S: two zones; save 0, send 0 to 1, receive. R7: step 3, set 2: line 2,1."
+abbrev pub traceS : Trace
+traceS = two (Save 0 ∷ Send 0 1 6 ∷ Recv 1 0 ∷ [])
+
 abbrev pub recovery7 : Recovery
 recovery7 = record { epochs = 2 ∷ 1 ∷ []; line = 2 ∷ 1 ∷ []; phases = 2 ∷ 1 ∷ []; orphans = []; kept = []; back = 2; steps = 2 }
 
 abbrev pub R7 : Type 0
 R7 =
-    (verdict (linesOf linesS) ≡ accepted (two (Save 0 ∷ Send 0 1 6 ∷ Recv 1 0 ∷ [])))
+    (verdict (linesOf linesS) ≡ accepted traceS)
     × (recovery (failing linesS "fail=3 set=2") ≡ given recovery7)
 
 r7 : R7
@@ -171,12 +177,15 @@ unfolding opens reads
 r8 = refl
 
 -- "Trace T: two zones; send 0 to 1, receive. R9: step 1, set 2: line 32,1, one kept, order 65,1."
+abbrev pub traceT : Trace
+traceT = two (Send 0 1 6 ∷ Recv 1 0 ∷ [])
+
 abbrev pub recovery9 : Recovery
 recovery9 = record { epochs = 1 ∷ 1 ∷ []; line = 32 ∷ 1 ∷ []; phases = 1 ∷ 1 ∷ []; orphans = []; kept = message 0 1 1 1 ∷ []; back = 1; steps = 2 }
 
 abbrev pub R9 : Type 0
 R9 =
-    (verdict (linesOf linesT) ≡ accepted (two (Send 0 1 6 ∷ Recv 1 0 ∷ [])))
+    (verdict (linesOf linesT) ≡ accepted traceT)
     × (recovery (failing linesT "fail=1 set=2") ≡ given recovery9)
     × (replay (failing linesT "fail=1 set=2") (32 ∷ 1 ∷ []) (65 ∷ 1 ∷ []) ≡ completed 2)
 

@@ -1,0 +1,469 @@
+-- From the definitions that a row of the table computes to what the calls answer and leave, by their contracts: `reader::read_failure` reads a
+-- text into a table area, and then `restart`, `messages`, `replay` and `lowest` of recovery are called on what it left there.
+use Prim.Native.Nat.{ℕ, zero, suc, _+_, _<_, _≤_}
+use mathlib.Core.Path.{_≡_, refl, sym, ap, subst, _∙_, fun-ext}
+use mathlib.Core.Bool.{true, false}
+use mathlib.Core.List.{List, [], _∷_, _++_, map, append-nil}
+use mathlib.Core.Option.{some}
+use native.Mathlib.Omega.{arith}
+use lib.ListN.{length, getD, take, drop, replicate, length-replicate, getD-replicate, List·getD-append, List·getD-eq-default}
+use lib.Seq.{ext-getD, getD-take, length-take-le}
+use borrow.Author.Tests.{lt-ltb, le-ltb, ne-eqb}
+use Rattle.words.specs.Area.{areaWords, wordsFrom, ruled}
+use Rattle.words.proofs.Area.{length-words, getD-words, words-ext}
+use Rattle.words.proofs.Cases.{by-lt}
+use Rattle.trace.specs.Trace.{Trace}
+use Rattle.reader.specs.Verdict.{Verdict, accepted, verdict}
+use Rattle.reader.specs.Answer.{readAnswer, readArea}
+use Rattle.reader.specs.Failure.{Failing, failureAnswer, failureArea}
+use Rattle.reader.specs.Failure.{failureOf as lastFailure}
+use Rattle.table.specs.Held.{held, holdsTrace, heldTrace}
+use Rattle.table.proofs.Holding.{told}
+use Rattle.table.proofs.Claims.{read-held, failing-held}
+use Rattle.theory.specs.Epochs.{past}
+use Rattle.theory.specs.Laws.{Laws}
+use Rattle.theory.specs.Line.{Run, recorded, LossFree}
+use Rattle.theory.specs.Order.{Outcome, carriedOut, run, complete, lowestOrder}
+use Rattle.theory.specs.Answers.{lineOf, Listed, names, orphans, keptOnes, lostOnes, sameRecord}
+use Rattle.theory.specs.Refusals.{failureFault, lineFault}
+use Rattle.theory.proofs.Base.{clash, eqb-self}
+use Rattle.theory.proofs.Answers.{lost-name}
+use Rattle.theory.proofs.Claims.{record-iff, record-test, complete-test}
+use Rattle.theory.proofs.Epochs.{laws}
+use Rattle.theory.proofs.Refusals.{failure-fit, line-fit}
+use Rattle.protocol.proofs.Passes.{held-long, held-formed, held-valid}
+use Rattle.classes.specs.Listing.{Row, rowOf, rowsOf, listWord}
+use Rattle.line.specs.declared.Line.{Line}
+use Rattle.line.specs.Given.{lineIn, numbersOf}
+use Rattle.simulation.specs.Record.{faultlessAt}
+use Rattle.replay.specs.declared.Replayed.{Replayed}
+use Rattle.replay.specs.Answer.{answerOf, wordsOf}
+use Rattle.recovery.specs.declared.Counted.{Counted}
+use Rattle.recovery.specs.declared.Restarted.{Restarted}
+use Rattle.recovery.specs.Answers.{faultOf, replayAnswer, replayArea, Completed}
+use Rattle.recovery.specs.Answers.{runOf as codeRun}
+use Rattle.recovery.specs.Messages.{messagesAnswer, messagesArea}
+use Rattle.recovery.specs.Restart.{failureFaultOf, restartOf, restartRefusal, restartAnswer}
+use Rattle.recovery.proofs.Listing.{Listed as Messages}
+use Rattle.recovery.proofs.Replaying.{Answered as Replay}
+use Rattle.recovery.proofs.Restarting.{Answered as Restart}
+use Rattle.report.specs.Report.{Answer, refused, given, unless, then, Failure, runOf, Recovery, recoveryBy, engineLine, recoveryOf, recovery, failureOf}
+use Rattle.report.specs.Rows.{Ready}
+use Rattle.report.proofs.Found.{tabled-length, run-same, not-refused, steps-are, epochs-at, phases-at, numbers-are, back-is}
+use Rattle.report.proofs.Messages.{blank, At, front-row, later-row, word-in, number-in, phase-in, orphan-row, kept-row}
+use Rattle.runs.proofs.Table.{completed}
+use Rattle.runs.specs.Answers.{losses, Replayed as Told, fault, replayOf, replay}
+
+-- ---- What the rows say. `Restart`, `Messages` and `Replay` are the contracts of those calls: what they promise of the answer, and of the run area
+-- that they leave.
+
+-- a line of numbers, as the calls take it
+abbrev pub lineFrom : List ℕ → Line
+lineFrom l = record { epochs = wordsFrom (lineOf l) 0 64; count = length l }
+
+-- what a call leaves in an area after a refusal that clears it; "Words past 16,384 are never touched"
+abbrev pub cleared : List ℕ → List ℕ
+cleared a = replicate areaWords 0 ++ drop areaWords a
+
+-- `read` accepts a text: the table area holds its trace
+abbrev pub Accepts : List ℕ → Trace → Type 0
+Accepts text t =
+    (before : List ℕ) → areaWords ≤ length before
+    → (readAnswer text before ≡ record { number = 0; place = 0 }) × (heldTrace (readArea text before) ≡ some t)
+
+-- `read_failure` accepts it: the answer has the failure too
+abbrev pub Reads : List ℕ → Trace → ℕ → ℕ → Type 0
+Reads text t step set =
+    (before : List ℕ) → areaWords ≤ length before
+    → (failureAnswer text before ≡ record { number = 0; place = 0; step = step; set = set }) × (heldTrace (failureArea text before) ≡ some t)
+
+-- what is said of a trace, of a table area that holds it, and of a run area that is lent
+abbrev pub Claim : Type 1
+Claim = Trace → List ℕ → List ℕ → Type 0
+
+-- it holds on every table area that holds the trace, whatever run area is lent
+abbrev pub OnTable : Trace → Claim → Type 0
+OnTable t P = (a run : List ℕ) → heldTrace a ≡ some t → areaWords ≤ length run → P t a run
+
+-- the answer of `restart` is that of a recovery
+pub record Restored (t : Trace) (x : Recovery) (r : Restarted) : Type 0 where
+  pub number : r .number ≡ 0
+  pub line : numbersOf (r .line) ≡ x .line
+  pub epochs : take (t .procs) (r .epochs) ≡ x .epochs
+  pub phases : take (t .procs) (r .phases) ≡ x .phases
+  pub back : r .back ≡ x .back
+
+-- `messages` counts and lists these orphans, kept and lost messages
+pub record Lists (os ks ls : List Listed) (c : Counted) (w : List ℕ) : Type 0 where
+  pub counted : c ≡ record { number = 0; place = 0; orphans = length os; kept = length ks; lost = length ls }
+  pub orphans-at : At w 0 1 os
+  pub kept-at : At w (length os) 2 ks
+  pub lost-at : At w (length os + length ks) 3 ls
+
+-- the record in a run area is that of the run without failure
+abbrev pub Faultless : Trace → List ℕ → Type 0
+Faultless t v = take areaWords v ≡ wordsFrom (faultlessAt t) 0 areaWords
+
+-- an order is complete after so many steps, and leaves that record
+abbrev pub Done : Trace → ℕ → Replayed → List ℕ → Type 0
+Done t n y v = (y ≡ record { number = 0; place = 0; steps = n; complete = true }) × Faultless t v
+
+-- `restart`, then `messages` and `lowest` with the line that it gives, which loses no message
+abbrev pub Recovers : ℕ → ℕ → Recovery → Claim
+Recovers step set x t a run =
+    (r : Restarted) → Restart a step set r
+    → Restored t x r
+    × ((c : Counted) (w : List ℕ) → Messages a run step set (r .line) c w → Lists (x .orphans) (x .kept) [] c w)
+    × ((y : Replayed) (v : List ℕ) → Replay a run step set (r .line) (lowestOrder (codeRun a step (r .line))) y v
+    → Completed a (length run) step set (r .line) y → Done t (x .steps) y v)
+
+-- `restart` refuses the failure
+abbrev pub Refuses : ℕ → ℕ → ℕ → Claim
+Refuses step set n t a run = (r : Restarted) → Restart a step set r → r ≡ restartRefusal n
+
+-- `messages` with a line
+abbrev pub Loses : ℕ → ℕ → List ℕ → List Listed → Claim
+Loses step set l ms t a run =
+    let R = recorded t past step (lineOf l) in
+    (c : Counted) (w : List ℕ) → Messages a run step set (lineFrom l) c w → Lists (orphans R) (keptOnes R) ms c w
+
+-- `replay` with a line and an order: complete after so many steps; or 11 at a place
+abbrev pub Completes : ℕ → ℕ → List ℕ → List ℕ → ℕ → Claim
+Completes step set l order n t a run = (y : Replayed) (v : List ℕ) → Replay a run step set (lineFrom l) order y v → Done t n y v
+
+abbrev pub Stops : ℕ → ℕ → List ℕ → List ℕ → ℕ → Claim
+Stops step set l order i t a run =
+    (y : Replayed) (v : List ℕ) → Replay a run step set (lineFrom l) order y v
+    → (y ≡ record { number = 11; place = i; steps = 0; complete = false }) × (v ≡ cleared run)
+
+-- ---- Answers of the definitions, taken apart
+
+not-given : {A : Type 0} (n k : ℕ) (x : A) → refused n k ≡ given x → ⊥
+not-given n k x h = let z : _≡_ {A = ℕ} 0 1 = cc in omega arith
+
+then-given : {A : Type 0} (n : ℕ) (f : Failure) (g : Failure → Answer A) (x : A) → then (unless n (given f)) g ≡ given x → (n ≡ 0) × (g f ≡ given x)
+then-given zero f g x h = (refl, h)
+then-given (suc n) f g x h = absurd (not-given (suc n) 0 x h)
+
+unless-given : {A : Type 0} (n : ℕ) (y : Answer A) (x : A) → unless n y ≡ given x → (n ≡ 0) × (y ≡ given x)
+unless-given zero y x h = (refl, h)
+unless-given (suc n) y x h = absurd (not-given (suc n) 0 x h)
+
+-- a refusal with a place is none of 8, 9 and 10
+then-placed : {A : Type 0} (n : ℕ) (f : Failure) (g : Failure → Answer A) (m i : ℕ) → then (unless n (given f)) g ≡ refused m (suc i) → g f ≡ refused m (suc i)
+then-placed zero f g m i h = h
+then-placed (suc n) f g m i h = absurd (let z : _≡_ {A = ℕ} 0 (suc i) = cc in let w : ⊥ = omega arith in w)
+
+unless-placed : {A : Type 0} (n : ℕ) (y : Answer A) (m i : ℕ) → unless n y ≡ refused m (suc i) → (n ≡ 0) × (y ≡ refused m (suc i))
+unless-placed zero y m i h = (refl, h)
+unless-placed (suc n) y m i h = absurd (let z : _≡_ {A = ℕ} 0 (suc i) = cc in let w : ⊥ = omega arith in w)
+
+-- ---- The messages of a line that is not refused
+
+-- a list that names no message is empty
+none-named : (ms : List Listed) → ((p q k : ℕ) → names p q k ms ≡ false) → ms ≡ []
+unfolding names
+none-named [] h = refl
+none-named (m ∷ ms) h = clash {b = true} refl (rw (eqb-self (m .from), eqb-self (m .to), eqb-self (m .number)) at (h (m .from) (m .to) (m .number)))
+
+-- how many there are
+abbrev countsOf : Run → Counted
+countsOf R = record { number = 0; place = 0; orphans = length (orphans R); kept = length (keptOnes R); lost = length (lostOnes R) }
+
+module _ (a run : List ℕ) (step set : ℕ) (l : Line) (R : Run) (same : codeRun a step l ≡ R) (few : R .trace .procs ≤ 64)
+    (ok : faultOf a (length run) step set l ≡ 0) (c : Counted) (w : List ℕ) (M : Messages a run step set l c w) where
+  counts : c ≡ countsOf R
+  unfolding messagesAnswer
+  counts = M .0 ∙ rw ok (ap countsOf same)
+
+  area-is : w ≡ wordsFrom (listWord R) 0 16384 ++ drop 16384 run
+  unfolding messagesArea
+  area-is = M .1 .0 ∙ rw (ok, same)
+
+  words : (k : ℕ) → k < 16384 → getD w k 0 ≡ listWord R k
+  words k h =
+      ap (λ (x : List ℕ). getD x k 0) area-is
+      ∙ List·getD-append (wordsFrom (listWord R) 0 16384) (drop 16384 run) 0 k (rw (length-words (listWord R) 0 16384) h)
+      ∙ getD-words (listWord R) 0 16384 k h ∙ ap (listWord R) (let q : 0 + k ≡ k = omega arith in q)
+
+  room : length (orphans R) + (length (keptOnes R) + length (lostOnes R)) ≤ 2048
+  room = rw counts at (M .1 .1)
+
+  -- rows of the list, from a place in it on
+  rows-at : (before class : ℕ) (ms : List Listed) → before + length ms ≤ 2048
+      → ((f : Row → ℕ) (i : ℕ) → i < length ms → getD (map f (rowsOf R)) (before + i) 0 ≡ f (rowOf class (getD ms i blank))) → At w before class ms
+  rows-at before class ms n row =
+      record {
+        word = λ i h. word-in R few w words room (before + i) (omega arith) ∙ row (λ r. r .word) i h;
+        number = λ i h. number-in R few w words room (before + i) (omega arith) ∙ row (λ r. r .number) i h;
+        phase = λ i h. phase-in R few w words room (before + i) (omega arith) ∙ row (λ r. r .phase) i h;
+      }
+
+  lost-row : (f : Row → ℕ) (i : ℕ) → i < length (lostOnes R)
+      → getD (map f (rowsOf R)) (length (orphans R) + length (keptOnes R) + i) 0 ≡ f (rowOf 3 (getD (lostOnes R) i blank))
+  unfolding rowsOf
+  lost-row f i h =
+      ap (λ (j : ℕ). getD (map f (rowsOf R)) j 0) (let q : length (orphans R) + length (keptOnes R) + i ≡ length (orphans R) + (length (keptOnes R) + i) = omega arith in q)
+      ∙ later-row f 1 (orphans R) _ (length (keptOnes R) + i) ∙ later-row f 2 (keptOnes R) (map (rowOf 3) (lostOnes R)) i
+      ∙ ap (λ (x : List Row). getD (map f x) i 0) (sym (append-nil (map (rowOf 3) (lostOnes R)))) ∙ front-row f 3 (lostOnes R) [] i h
+
+  lists : Lists (orphans R) (keptOnes R) (lostOnes R) c w
+  lists =
+      let n = room in
+      record {
+        counted = counts;
+        orphans-at = rows-at 0 1 (orphans R) (omega arith) (orphan-row R few w words room);
+        kept-at = rows-at (length (orphans R)) 2 (keptOnes R) (omega arith) (kept-row R few w words room);
+        lost-at = rows-at (length (orphans R) + length (keptOnes R)) 3 (lostOnes R) (omega arith) lost-row;
+      }
+
+-- the front of an array is a list, if its places are
+front-is : (n : ℕ) (xs ys : List ℕ) → n ≤ length xs → length ys ≡ n → ((z : ℕ) → z < n → getD xs z 0 ≡ getD ys z 0) → take n xs ≡ ys
+front-is n xs ys h e at =
+    let m = length-take-le n xs h in
+    ext-getD 0 (take n xs) ys (m ∙ sym e) (λ z l. let k : z < n = omega arith in getD-take n xs z 0 k ∙ at z k)
+
+-- ---- A table area that holds the trace of a text
+
+module _ (text a : List ℕ) (step set : ℕ) (holds : holdsTrace a ≡ true) (e : lastFailure text ≡ Failing.failing (held a) step set) where
+  abbrev t : Trace
+  t = held a
+
+  abbrev f : Failure
+  f = record { trace = t; step = step; failed = set }
+
+  few-processes : t .procs ≤ 64
+  few-processes = held-valid a holds .few
+
+  failure-is : failureFaultOf a step set ≡ failureFault t step set
+  unfolding failureFaultOf
+  failure-is = rw (le-ltb (length a) 16384 (held-long a holds), holds)
+
+  recovery-is : recovery text ≡ then (unless (failureFault t step set) (given f)) (λ g. given (recoveryOf g))
+  unfolding recovery failureOf
+  recovery-is = rw e
+
+  -- ---- `restart` refuses
+
+  refusal-is : (n m k : ℕ) → then (unless n (given f)) (λ g. given (recoveryOf g)) ≡ refused m k → (n ≡ m) × (n ≡ 0 → ⊥)
+  refusal-is zero m k h = absurd (not-given m k (recoveryOf f) (sym h))
+  refusal-is (suc n) m k h = (cc, λ z. omega arith)
+
+  restart-refused : (n k : ℕ) → recovery text ≡ refused n k → (r : Restarted) → Restart a step set r → r ≡ restartRefusal n
+  unfolding restartAnswer
+  restart-refused n k h r A =
+      let q = refusal-is (failureFault t step set) n k (sym recovery-is ∙ h) in
+      A .0 ∙ rw (failure-is, ne-eqb (failureFault t step set) 0 (q .1)) (ap restartRefusal (q .0))
+
+  -- ---- `restart`, and `messages` and `lowest` with the line that it gives
+
+  module _ (x : Recovery) (h : recovery text ≡ given x) (r : Restarted) (A : Restart a step set r) where
+    taken : (failureFault t step set ≡ 0) × (given (recoveryOf f) ≡ given x)
+    taken = then-given (failureFault t step set) f (λ g. given (recoveryOf g)) x (sym recovery-is ∙ h)
+
+    found : recoveryOf f ≡ x
+    found = let q = taken .1 in cc
+
+    answer-is : r ≡ restartOf t step set
+    unfolding restartAnswer
+    answer-is = A .0 ∙ rw (failure-is, taken .0)
+
+    number-is : r .number ≡ 0
+    unfolding restartOf
+    number-is = ap (λ (s : Restarted). s .number) answer-is
+
+    ready : Ready a step set r
+    ready = record { whole = held-long a holds; holds = holds; fit = taken .0; answer = answer-is; means = A .1 number-is }
+
+    epochs-are : take (t .procs) (r .epochs) ≡ recoveryOf f .epochs
+    unfolding restartOf recoveryBy
+    epochs-are =
+        let n : length (r .epochs) ≡ 64 = ap (λ (s : Restarted). length (s .epochs)) answer-is ∙ length-words _ 0 64 in
+        front-is (t .procs) (r .epochs) (recoveryOf f .epochs) (omega (arith, few-processes)) (tabled-length _ (t .procs)) (epochs-at a step set r ready)
+
+    phases-are : take (t .procs) (r .phases) ≡ recoveryOf f .phases
+    unfolding restartOf recoveryBy
+    phases-are =
+        let n : length (r .phases) ≡ 64 = ap (λ (s : Restarted). length (s .phases)) answer-is ∙ length-words _ 0 64 in
+        front-is (t .procs) (r .phases) (recoveryOf f .phases) (omega (arith, few-processes)) (tabled-length _ (t .procs)) (phases-at a step set r ready)
+
+    abbrev R : Run
+    R = runOf f (engineLine f)
+
+    loss-free : LossFree R
+    loss-free = subst LossFree (run-same a step set r ready) (ready .means .greatest .loss-free)
+
+    none-lost : lostOnes R ≡ []
+    none-lost =
+        let L : Laws R = laws t past (held-valid a holds) step (lineOf (engineLine f)) (failure-fit t step set .0 (taken .0) .step-most) in
+        none-named (lostOnes R) (λ p q k. lost-name R L p q k ∙ loss-free p q k)
+
+    restarts : Restored t x r
+    unfolding recoveryBy
+    restarts =
+        subst (λ (z : Recovery). Restored t z r) found
+        (record { number = number-is; line = numbers-are a step set r ready; epochs = epochs-are; phases = phases-are; back = back-is a step set r ready })
+
+    module _ (run₀ : List ℕ) (long : areaWords ≤ length run₀) where
+      ok : faultOf a (length run₀) step set (r .line) ≡ 0
+      ok = not-refused a step set r ready (length run₀) long
+
+      listed : (c : Counted) (w : List ℕ) → Messages a run₀ step set (r .line) c w → Lists (x .orphans) (x .kept) [] c w
+      unfolding recoveryBy
+      listed c w M =
+          subst (λ (z : Recovery). Lists (z .orphans) (z .kept) [] c w) found
+          (subst (λ (ms : List Listed). Lists (orphans R) (keptOnes R) ms c w) none-lost
+          (lists a run₀ step set (r .line) R (run-same a step set r ready) few-processes ok c w M))
+
+      module _ (y : Replayed) (v : List ℕ) (P : Replay a run₀ step set (r .line) (lowestOrder (codeRun a step (r .line))) y v)
+          (C : Completed a (length run₀) step set (r .line) y) where
+        carried-out : (o : Outcome) (n : ℕ) → y ≡ answerOf (codeRun a step (r .line)) o n → y ≡ record { number = 0; place = 0; steps = n; complete = true }
+        unfolding answerOf
+        carried-out (carriedOut s) n q = q ∙ rw (sym (ap (λ (z : Replayed). z .complete) q) ∙ C ok .1)
+        carried-out (Outcome.refused i) n q = absurd (let z : _≡_ {A = ℕ} 11 0 = sym (ap (λ (z : Replayed). z .number) q) ∙ C ok .0 in let u : ⊥ = omega arith in u)
+
+        lowest-done : Done t (x .steps) y v
+        unfolding recoveryBy replayAnswer
+        lowest-done =
+            let T = codeRun a step (r .line) in
+            let q = carried-out (run T (lowestOrder T)) (length (lowestOrder T)) (P .0 ∙ rw ok) in
+            let n = sym (ap (λ (z : Replayed). z .steps) q) ∙ steps-are a step set r ready (length run₀) long y C ∙ ap (λ (z : Recovery). z .steps) found in
+            (q ∙ rw n, P .1 .1 (C ok .0) (C ok .1) .1 (ready .means .greatest .loss-free))
+
+  -- ---- `messages` and `replay` with a line of numbers
+
+  module _ (l : List ℕ) (short : length l ≤ 64) (run₀ : List ℕ) (long : areaWords ≤ length run₀) where
+    line-at : (z : ℕ) → lineIn (lineFrom l) z ≡ lineOf l z
+    line-at z =
+        by-lt z (length l)
+        (λ h. rw (lt-ltb z (length l) h) (getD-words (lineOf l) 0 64 z (omega arith) ∙ ap (lineOf l) (let q : 0 + z ≡ z = omega arith in q)))
+        (λ h. rw (le-ltb z (length l) h) (sym (List·getD-eq-default l 0 h)))
+
+    run-is : codeRun a step (lineFrom l) ≡ runOf f l
+    run-is = ap (recorded t past step) (fun-ext line-at)
+
+    fault-is : faultOf a (length run₀) step set (lineFrom l) ≡ fault f l
+    unfolding faultOf
+    fault-is =
+        rw (le-ltb (length a) 16384 (held-long a holds), le-ltb (length run₀) 16384 long, holds)
+        (ap (lineFault t step set (length l)) (fun-ext line-at))
+
+    lost-are : (ms : List Listed) → losses text l ≡ given ms → (c : Counted) (w : List ℕ) → Messages a run₀ step set (lineFrom l) c w
+        → Lists (orphans (runOf f l)) (keptOnes (runOf f l)) ms c w
+    unfolding losses failureOf
+    lost-are ms h c w M =
+        let u = then-given (failureFault t step set) f (λ g. unless (fault g l) (given (lostOnes (runOf g l)))) ms (rw e at h) in
+        let v = unless-given (fault f l) (given (lostOnes (runOf f l))) ms (u .1) in
+        let q : lostOnes (runOf f l) ≡ ms = let p = v .1 in cc in
+        subst (λ (ls : List Listed). Lists (orphans (runOf f l)) (keptOnes (runOf f l)) ls c w) q
+        (lists a run₀ step set (lineFrom l) (runOf f l) run-is few-processes (fault-is ∙ v .0) c w M)
+
+    module _ (order : List ℕ) (y : Replayed) (v : List ℕ) (P : Replay a run₀ step set (lineFrom l) order y v) where
+      abbrev S : Run
+      S = runOf f l
+
+      answer-by : (o : Outcome) → run S order ≡ o → fault f l ≡ 0 → y ≡ answerOf S o (length order)
+      unfolding replayAnswer
+      answer-by o q z = P .0 ∙ rw (fault-is, z, run-is, q)
+
+      area-by : (o : Outcome) → run S order ≡ o → fault f l ≡ 0 → v ≡ wordsOf S o ++ drop areaWords run₀
+      unfolding replayArea
+      area-by o q z = P .1 .0 ∙ rw (fault-is, z, run-is, q)
+
+      -- carried out: the answer, and where the order is complete and the definition says that the records are equal, the record in the run area
+      carried : (x : Told) (o : Outcome) → run S order ≡ o → fault f l ≡ 0 → replayOf S order o ≡ given x
+          → (y ≡ record { number = 0; place = 0; steps = x .steps; complete = x .complete }) × (x .complete ≡ true → x .equal ≡ true → Faultless t v)
+      unfolding answerOf
+      carried x (carriedOut s) q z h =
+          let p : record { complete = complete S s; equal = sameRecord S s; steps = length order } ≡ x = cc in
+          let i : y ≡ record { number = 0; place = 0; steps = x .steps; complete = x .complete } =
+          answer-by (carriedOut s) q z ∙ ap (λ (u : Told). record { number = 0; place = 0; steps = u .steps; complete = u .complete }) p in
+          let w = held-formed a holds in
+          let cl = line-fit t step set (length l) (lineOf l) .0 z .failure .step-most in (
+            i,
+            λ all equal.
+                let d = complete-test t w past step cl (lineOf l) s .0 (ap (λ (u : Told). u .complete) p ∙ all) in
+                let same = record-test t w past step cl (lineOf l) order s q .0 (ap (λ (u : Told). u .equal) p ∙ equal) in
+                P .1 .1 (ap (λ (u : Replayed). u .number) i) (ap (λ (u : Replayed). u .complete) i ∙ all) .1
+                (subst LossFree (sym run-is) (record-iff t w past step cl (lineOf l) order s q d .0 same)),
+          )
+      carried x (Outcome.refused i) q z h = absurd (not-given 11 i x h)
+
+      replayed : (x : Told) → replay text l order ≡ given x
+          → (y ≡ record { number = 0; place = 0; steps = x .steps; complete = x .complete }) × (x .complete ≡ true → x .equal ≡ true → Faultless t v)
+      unfolding replay failureOf
+      replayed x h =
+          let u = then-given (failureFault t step set) f (λ g. unless (fault g l) (replayOf (runOf g l) order (run (runOf g l) order))) x (rw e at h) in
+          let k = unless-given (fault f l) (replayOf S order (run S order)) x (u .1) in
+          carried x (run S order) refl (k .0) (k .1)
+
+      -- refused at a place
+      stops-at : (m i : ℕ) (o : Outcome) → run S order ≡ o → fault f l ≡ 0 → replayOf S order o ≡ refused m i
+          → (y ≡ record { number = 11; place = i; steps = 0; complete = false }) × (v ≡ cleared run₀)
+      unfolding answerOf wordsOf
+      stops-at m i (carriedOut s) q z h = absurd (not-given m i _ (sym h))
+      stops-at m i (Outcome.refused j) q z h = let p : j ≡ i = cc in (answer-by (Outcome.refused j) q z ∙ rw p, area-by (Outcome.refused j) q z)
+
+      stopped : (m i : ℕ) → replay text l order ≡ refused m (suc i)
+          → (y ≡ record { number = 11; place = suc i; steps = 0; complete = false }) × (v ≡ cleared run₀)
+      unfolding replay failureOf
+      stopped m i h =
+          let u = then-placed (failureFault t step set) f (λ g. unless (fault g l) (replayOf (runOf g l) order (run (runOf g l) order))) m i (rw e at h) in
+          let k = unless-placed (fault f l) (replayOf S order (run S order)) m i u in
+          stops-at m (suc i) (run S order) refl (k .0) (k .1)
+
+-- ---- The laws: from what is computed of a text to the calls
+
+-- the words of a refused text are zero
+zeros : (n : ℕ) → wordsFrom (λ i. 0) 0 n ≡ replicate n 0
+zeros n = sym (words-ext (λ i. 0) n (replicate n 0) (length-replicate n 0) (λ k h. getD-replicate n k 0 0 h))
+
+module _ (text : List ℕ) where
+  pub accepts : (t : Trace) → verdict text ≡ accepted t → Accepts text t
+  unfolding readAnswer
+  accepts t e before h = (rw (le-ltb (length before) 16384 h, e), read-held text before t e h)
+
+  pub read-refused : (n k : ℕ) → verdict text ≡ Verdict.refused n k → (before : List ℕ) → areaWords ≤ length before
+      → (readAnswer text before ≡ record { number = n; place = k }) × (readArea text before ≡ cleared before)
+  unfolding readAnswer readArea ruled
+  read-refused n k e before h =
+      (rw (le-ltb (length before) 16384 h, e), rw (le-ltb (length before) 16384 h, e) (ap (λ (x : List ℕ). x ++ drop 16384 before) (zeros 16384)))
+
+  pub failure-refused : (n k : ℕ) → lastFailure text ≡ Failing.refused n k → (before : List ℕ) → areaWords ≤ length before
+      → (failureAnswer text before ≡ record { number = n; place = k; step = 0; set = 0 }) × (failureArea text before ≡ cleared before)
+  unfolding failureAnswer failureArea ruled
+  failure-refused n k e before h =
+      (rw (le-ltb (length before) 16384 h, e), rw (le-ltb (length before) 16384 h, e) (ap (λ (x : List ℕ). x ++ drop 16384 before) (zeros 16384)))
+
+  module _ (t : Trace) (step set : ℕ) (e : lastFailure text ≡ Failing.failing t step set) where
+    pub reads : Reads text t step set
+    unfolding failureAnswer
+    reads before h = (rw (le-ltb (length before) 16384 h, e), failing-held text before t step set e h)
+
+    -- the trace that an area holds, in place of the text's
+    by-area : (P : Claim)
+        → ((a run : List ℕ) → holdsTrace a ≡ true → lastFailure text ≡ Failing.failing (held a) step set → areaWords ≤ length run → P (held a) a run)
+        → OnTable t P
+    by-area P law a run h long =
+        let (holds, same) = told a t h in
+        subst (λ (s : Trace). P s a run) same (law a run holds (e ∙ ap (λ (s : Trace). Failing.failing s step set) (sym same)) long)
+
+    pub recovers : (x : Recovery) → recovery text ≡ given x → OnTable t (Recovers step set x)
+    recovers x h = by-area (Recovers step set x) (λ a run₀ o q n r A.
+        (restarts text a step set o q x h r A, listed text a step set o q x h r A run₀ n, lowest-done text a step set o q x h r A run₀ n))
+
+    pub refuses : (n k : ℕ) → recovery text ≡ refused n k → OnTable t (Refuses step set n)
+    refuses n k h = by-area (Refuses step set n) (λ a run₀ o q m. restart-refused text a step set o q n k h)
+
+    module _ (l : List ℕ) (short : length l ≤ 64) where
+      pub loses : (ms : List Listed) → losses text l ≡ given ms → OnTable t (Loses step set l ms)
+      loses ms h = by-area (Loses step set l ms) (λ a run₀ o q n. lost-are text a step set o q l short run₀ n ms h)
+
+      pub completes : (order : List ℕ) (n : ℕ) → replay text l order ≡ completed n → OnTable t (Completes step set l order n)
+      completes order n h =
+          by-area (Completes step set l order n)
+          (λ a run₀ o q m y v P. let u = replayed text a step set o q l short run₀ m order y v P _ h in (u .0, u .1 refl refl))
+
+      pub stops : (order : List ℕ) (m i : ℕ) → replay text l order ≡ refused m (suc i) → OnTable t (Stops step set l order (suc i))
+      stops order m i h =
+          by-area (Stops step set l order (suc i)) (λ a run₀ o q n y v P. stopped text a step set o q l short run₀ n order y v P m i h)

@@ -1,0 +1,230 @@
+-- The runs R1 to R12 of document 01, now of the code: what its public functions answer and leave, by their contracts. The same rows as in Table,
+-- from which they follow by the laws of Calls. A table area and a run area are any that the caller lends, of 16,384 words or more.
+use Prim.Native.Nat.{ℕ, _≤_}
+use Prim.Native.String.{String}
+use mathlib.Core.Path.{_≡_, refl, sym, ap, _∙_}
+use mathlib.Core.List.{List, [], _∷_}
+use native.Mathlib.Omega.{arith}
+use lib.ListN.{length}
+use Rattle.words.specs.Area.{areaWords}
+use Rattle.reader.specs.Answer.{readAnswer, readArea}
+use Rattle.reader.specs.Failure.{Failing, failureAnswer, failureArea}
+use Rattle.reader.specs.Failure.{failureOf as lastFailure}
+use Rattle.theory.proofs.Runs.{opens}
+use Rattle.line.specs.Given.{numbersOf}
+use Rattle.recovery.specs.declared.Restarted.{Restarted}
+use Rattle.recovery.proofs.Restarting.{Answered as Restart}
+use Rattle.writer.specs.Buffer.{room, written}
+use Rattle.report.specs.Bytes.{linesOf}
+use Rattle.report.specs.Report.{printed}
+use Rattle.runs.specs.Texts.{linesH, linesL, linesS, linesT, linesFirst, failing, textH}
+use Rattle.runs.proofs.Table.{reads, message, traceH, traceL, traceS, traceT, printed1, recovery1, recovery4, recovery5, recovery7, recovery8, recovery9, recovery10, table}
+use Rattle.runs.proofs.Calls.{cleared, Accepts, Reads, OnTable, Recovers, Refuses, Loses, Completes, Stops, accepts, read-refused, failure-refused, recovers, refuses, loses, completes, stops}
+use Rattle.runs.proofs.Calls.{reads as reads-failure}
+
+-- `report` writes these lines: into a buffer `out`, which it leaves as `after`, and it answers n
+abbrev pub Prints : List ℕ → List String → Type 0
+Prints text ls =
+    (out after : List ℕ) (n : ℕ) → n ≡ length (room (printed text) out) → after ≡ written (printed text) out
+    → (n ≡ length (room (linesOf ls) out)) × (after ≡ written (linesOf ls) out)
+
+prints : (text : List ℕ) (ls : List String) → printed text ≡ linesOf ls → Prints text ls
+prints text ls e out after n h w = (h ∙ ap (λ (x : List ℕ). length (room x out)) e, w ∙ ap (λ (x : List ℕ). written x out) e)
+
+-- ---- The texts as `read_failure` takes them: the trace, and the failure of the last line
+
+fails1 : lastFailure textH ≡ Failing.failing traceH 9 2
+unfolding opens reads
+fails1 = refl
+
+fails4 : lastFailure (failing linesH "fail=0 set=1") ≡ Failing.failing traceH 0 1
+unfolding opens reads
+fails4 = refl
+
+fails5 : lastFailure (failing linesL "fail=3 set=2") ≡ Failing.failing traceL 3 2
+unfolding opens reads
+fails5 = refl
+
+fails7 : lastFailure (failing linesS "fail=3 set=2") ≡ Failing.failing traceS 3 2
+unfolding opens reads
+fails7 = refl
+
+fails8 : lastFailure (failing linesS "fail=3 set=1") ≡ Failing.failing traceS 3 1
+unfolding opens reads
+fails8 = refl
+
+fails9 : lastFailure (failing linesT "fail=1 set=2") ≡ Failing.failing traceT 1 2
+unfolding opens reads
+fails9 = refl
+
+fails10 : lastFailure (failing linesT "fail=1 set=1") ≡ Failing.failing traceT 1 1
+unfolding opens reads
+fails10 = refl
+
+empty11 : lastFailure (failing linesH "fail=9 set=0") ≡ Failing.failing traceH 9 0
+unfolding opens reads
+empty11 = refl
+
+beyond11 : lastFailure (failing linesH "fail=9 set=8") ≡ Failing.failing traceH 9 8
+unfolding opens reads
+beyond11 = refl
+
+refused12 : lastFailure (failing linesFirst "fail=1 set=2") ≡ Failing.refused 5 2
+unfolding opens reads
+refused12 = refl
+
+-- ---- The rows
+
+-- "R1: H as above."
+abbrev pub C1 : Type 0
+C1 =
+    Prints textH printed1
+    × Accepts (linesOf linesH) traceH
+    × Reads textH traceH 9 2
+    × OnTable traceH (Recovers 9 2 recovery1)
+
+c1 : C1
+c1 =
+    let (p, v, f, x) = table .0 in
+    (prints textH printed1 p, accepts (linesOf linesH) traceH v, reads-failure textH traceH 9 2 fails1, recovers textH traceH 9 2 fails1 recovery1 x)
+
+-- "R2: H with line 32,2,32 loses message 2 from 0 to 1."
+abbrev pub C2 : Type 0
+C2 = OnTable traceH (Loses 9 2 (32 ∷ 2 ∷ 32 ∷ []) (message 0 1 2 2 ∷ []))
+
+c2 : C2
+c2 = loses textH traceH 9 2 fails1 (32 ∷ 2 ∷ 32 ∷ []) (omega arith) (message 0 1 2 2 ∷ []) (table .1)
+
+-- "R3: H with 1,1,32 loses none, and isn't the greatest.": `restart`, whose line is the greatest, gives another
+abbrev pub C3 : Type 0
+C3 =
+    OnTable traceH (Loses 9 2 (1 ∷ 1 ∷ 32 ∷ []) [])
+    × OnTable traceH (λ t a run. (r : Restarted) → Restart a 9 2 r → numbersOf (r .line) ≡ 1 ∷ 1 ∷ 32 ∷ [] → ⊥)
+
+c3 : C3
+c3 = (loses textH traceH 9 2 fails1 (1 ∷ 1 ∷ 32 ∷ []) (omega arith) [] (table .2 .0), another)
+  where
+    another : OnTable traceH (λ t a run. (r : Restarted) → Restart a 9 2 r → numbersOf (r .line) ≡ 1 ∷ 1 ∷ 32 ∷ [] → ⊥)
+    another a run h n r A e =
+        let q : _≡_ {A = List ℕ} (2 ∷ 2 ∷ 32 ∷ []) (1 ∷ 1 ∷ 32 ∷ []) = sym (c1 .3 a run h n r A .0 .line) ∙ e in
+        let z : _≡_ {A = ℕ} 2 1 = cc in
+        omega arith
+
+-- "R4: H, step 0, set 1: line 1,32,32, 9 steps."
+abbrev pub C4 : Type 0
+C4 = Reads (failing linesH "fail=0 set=1") traceH 0 1 × OnTable traceH (Recovers 0 1 recovery4)
+
+c4 : C4
+c4 = let text = failing linesH "fail=0 set=1" in (reads-failure text traceH 0 1 fails4, recovers text traceH 0 1 fails4 recovery4 (table .3))
+
+-- "Trace L: two zones; send 0 to 1, save 1, receive. R5: step 3, set 2: line 32,2, the message kept in phase 1, order 65,1 complete."
+abbrev pub C5 : Type 0
+C5 =
+    Accepts (linesOf linesL) traceL
+    × Reads (failing linesL "fail=3 set=2") traceL 3 2
+    × OnTable traceL (Recovers 3 2 recovery5)
+    × OnTable traceL (Completes 3 2 (32 ∷ 2 ∷ []) (65 ∷ 1 ∷ []) 2)
+
+c5 : C5
+c5 =
+    let text = failing linesL "fail=3 set=2" in
+    let (v, x, y) = table .4 in (
+      accepts (linesOf linesL) traceL v,
+      reads-failure text traceL 3 2 fails5,
+      recovers text traceL 3 2 fails5 recovery5 x,
+      completes text traceL 3 2 fails5 (32 ∷ 2 ∷ []) (omega arith) (65 ∷ 1 ∷ []) 2 y,
+    )
+
+-- "R6: order 1 alone is 11 at place 1."
+abbrev pub C6 : Type 0
+C6 = OnTable traceL (Stops 3 2 (32 ∷ 2 ∷ []) (1 ∷ []) 1)
+
+c6 : C6
+c6 = stops (failing linesL "fail=3 set=2") traceL 3 2 fails5 (32 ∷ 2 ∷ []) (omega arith) (1 ∷ []) 11 0 (table .5)
+
+-- "Trace S: two zones; save 0, send 0 to 1, receive. R7: step 3, set 2: line 2,1."
+abbrev pub C7 : Type 0
+C7 =
+    Accepts (linesOf linesS) traceS
+    × Reads (failing linesS "fail=3 set=2") traceS 3 2
+    × OnTable traceS (Recovers 3 2 recovery7)
+
+c7 : C7
+c7 =
+    let text = failing linesS "fail=3 set=2" in
+    let (v, x) = table .6 in
+    (accepts (linesOf linesS) traceS v, reads-failure text traceS 3 2 fails7, recovers text traceS 3 2 fails7 recovery7 x)
+
+-- "R8: step 3, set 1: line 2,32, one orphan of phase 2, 1 step."
+abbrev pub C8 : Type 0
+C8 = Reads (failing linesS "fail=3 set=1") traceS 3 1 × OnTable traceS (Recovers 3 1 recovery8)
+
+c8 : C8
+c8 = let text = failing linesS "fail=3 set=1" in (reads-failure text traceS 3 1 fails8, recovers text traceS 3 1 fails8 recovery8 (table .7))
+
+-- "Trace T: two zones; send 0 to 1, receive. R9: step 1, set 2: line 32,1, one kept, order 65,1."
+abbrev pub C9 : Type 0
+C9 =
+    Accepts (linesOf linesT) traceT
+    × Reads (failing linesT "fail=1 set=2") traceT 1 2
+    × OnTable traceT (Recovers 1 2 recovery9)
+    × OnTable traceT (Completes 1 2 (32 ∷ 1 ∷ []) (65 ∷ 1 ∷ []) 2)
+
+c9 : C9
+c9 =
+    let text = failing linesT "fail=1 set=2" in
+    let (v, x, y) = table .8 in (
+      accepts (linesOf linesT) traceT v,
+      reads-failure text traceT 1 2 fails9,
+      recovers text traceT 1 2 fails9 recovery9 x,
+      completes text traceT 1 2 fails9 (32 ∷ 1 ∷ []) (omega arith) (65 ∷ 1 ∷ []) 2 y,
+    )
+
+-- "R10: step 1, set 1: line 1,32, none kept, order 0,1."
+abbrev pub C10 : Type 0
+C10 =
+    Reads (failing linesT "fail=1 set=1") traceT 1 1
+    × OnTable traceT (Recovers 1 1 recovery10)
+    × OnTable traceT (Completes 1 1 (1 ∷ 32 ∷ []) (0 ∷ 1 ∷ []) 2)
+
+c10 : C10
+c10 =
+    let text = failing linesT "fail=1 set=1" in
+    let (x, y) = table .9 in
+    (reads-failure text traceT 1 1 fails10, recovers text traceT 1 1 fails10 recovery10 x, completes text traceT 1 1 fails10 (1 ∷ 32 ∷ []) (omega arith) (0 ∷ 1 ∷ []) 2 y)
+
+-- "R11: H with set 0 or 8 is 9."
+abbrev pub C11 : Type 0
+C11 =
+    Reads (failing linesH "fail=9 set=0") traceH 9 0
+    × Reads (failing linesH "fail=9 set=8") traceH 9 8
+    × OnTable traceH (Refuses 9 0 9)
+    × OnTable traceH (Refuses 9 8 9)
+
+c11 : C11
+c11 =
+    let empty = failing linesH "fail=9 set=0" in
+    let beyond = failing linesH "fail=9 set=8" in
+    let (x, y) = table .10 in
+    (reads-failure empty traceH 9 0 empty11, reads-failure beyond traceH 9 8 beyond11, refuses empty traceH 9 0 empty11 9 0 x, refuses beyond traceH 9 8 beyond11 9 0 y)
+
+-- "R12: a receive as first event is 5 at line 2." To `read` and to `read_failure`, which clear the table area, and to `report`
+abbrev pub C12 : Type 0
+C12 =
+    ((before : List ℕ) → areaWords ≤ length before
+    → (readAnswer (linesOf linesFirst) before ≡ record { number = 5; place = 2 }) × (readArea (linesOf linesFirst) before ≡ cleared before))
+    × ((before : List ℕ) → areaWords ≤ length before
+    → let text = failing linesFirst "fail=1 set=2" in
+    (failureAnswer text before ≡ record { number = 5; place = 2; step = 0; set = 0 }) × (failureArea text before ≡ cleared before))
+    × Prints (failing linesFirst "fail=1 set=2") ("refused=5 place=2" ∷ [])
+
+c12 : C12
+c12 =
+    let text = failing linesFirst "fail=1 set=2" in
+    let (v, p) = table .11 in
+    (read-refused (linesOf linesFirst) 5 2 v, failure-refused text 5 2 refused12, prints text ("refused=5 place=2" ∷ []) p)
+
+-- ---- "Marked R1 to R12, to be proved together in one table"
+
+pub code-table : C1 × C2 × C3 × C4 × C5 × C6 × C7 × C8 × C9 × C10 × C11 × C12
+code-table = (c1, c2, c3, c4, c5, c6, c7, c8, c9, c10, c11, c12)
