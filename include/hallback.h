@@ -1,6 +1,6 @@
 /* Recovery of a recorded parallel run: reading, restart line, messages, replay. Link target/staticlib/libcapi.a (rt staticlib capi).
 
-   Every function may be called with any arguments. It returns the number of the refusal, or 0 if the call was accepted (README.md has a
+   Every function may be called with any numbers and any slices. It returns the number of the refusal, or 0 if the call was accepted (README.md has a
    table of the numbers), and writes the rest of its answer as numbers into `answer`, one after another from its first place on: as many as
    `answer_len` has room for; numbers past them stay. In a refused answer every other number is 0.
 

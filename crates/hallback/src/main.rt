@@ -1,7 +1,7 @@
-// Reads a trace text and its failure line from standard input and prints the recovery: `report::report` says every byte of it. One byte more
-// than the 65,536 that are taken is read, so that a longer input is seen to be longer. Assumes what `libc` assumes.
+// Reads a trace text and its failure line from standard input and prints the recovery: `report::report` says every byte of it. Assumes what
+// `libc` assumes.
 fn main() {
-    let mut text = [0u8; 65537];
+    let mut text = [0u8; report::READ_BYTES];
     let n = io::read_full(0, &mut text);
     let mut out = [0u8; report::REPORT_BYTES];
     let m = report::report(&text[..n], &mut out);

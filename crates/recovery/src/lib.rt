@@ -1,5 +1,5 @@
-// Recovery: a table area, a failure, a recovery line and an order of choices, answered and carried out. specs/Answers says what each
-// function answers and leaves, for every input; no public function has a `requires`. Assumes nothing.
+// Recovery: a table area, a failure, a recovery line and an order of choices, answered and carried out. specs/Restart, Messages
+// and Answers say what each function answers and leaves, for every input; no public function has a `requires`. Assumes nothing.
 ghost use mathlib.Core.Path.{_≡_};
 ghost use Prim.Native.Nat.{ℕ, _+_, _<_, _≤_};
 ghost use lib.ListN.{length, getD};

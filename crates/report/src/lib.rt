@@ -15,8 +15,10 @@ use words::AREA_WORDS;
 // A buffer of so many bytes holds every report.
 pub const REPORT_BYTES: usize = 262144;
 
-// What the program takes: "at most 65,536 bytes".
+// What the program takes: "at most 65,536 bytes"; and what it reads, a byte more, so that a longer input is seen to be longer.
 const TEXT_MOST: usize = 65536;
+
+pub const READ_BYTES: usize = TEXT_MOST + 1;
 
 // A line of four keys with their numbers.
 fn put_row(
