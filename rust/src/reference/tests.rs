@@ -190,7 +190,8 @@ fn limits() {
 #[test]
 fn forms() {
     // text; refusal without and with a failure line wanted, 0 at 0 for none
-    let cases: &[(&str, (u32, u64), (u32, u64))] = &[
+    type Answer = (u32, u64);
+    let cases: &[(&str, Answer, Answer)] = &[
         ("", (1, 1), (1, 1)),
         ("\n", (1, 1), (1, 1)),
         ("procs=2", (1, 1), (1, 1)),
@@ -687,9 +688,9 @@ fn compare(trace: &Trace, failure: Failure, orders: bool, random: &mut Random) {
         .map(|z| current[z].0)
         .min();
     assert!(answer.line().iter().min() >= floor.as_ref());
-    for z in 0..trace.procs {
+    for (z, state) in current.iter().enumerate() {
         let at_restart = slow.states[slow.restart(answer.line(), z)][z];
-        assert_eq!(answer.epochs[z], current[z].0);
+        assert_eq!(answer.epochs[z], state.0);
         assert_eq!(answer.phases[z], at_restart.1);
     }
     if !orders {
