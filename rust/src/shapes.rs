@@ -115,6 +115,17 @@ pub enum Shape {
     Steep,
 }
 
+/// How often processes save and receive.
+#[derive(Clone, Copy, Debug)]
+pub struct Habits {
+    /// How many events in a hundred are saves, while a process has one left.
+    pub saves: usize,
+    /// How many of the others in a hundred are receives, while something is in transit.
+    pub receives: usize,
+    /// With more messages than this in transit, none is sent.
+    pub in_transit: usize,
+}
+
 impl Shape {
     /// All shapes.
     pub const ALL: [Shape; 6] = [
@@ -169,18 +180,41 @@ impl Shape {
         }
     }
 
-    /// How many events in a hundred are saves.
-    fn saves(self, events: usize) -> usize {
-        match self {
+    /// How often processes of this shape save and receive, if nothing else is said.
+    pub fn habits(self, procs: usize, events: usize) -> Habits {
+        let saves = match self {
             Shape::Checkpoints => 30,
             Shape::Steep if events > 256 => 0,
             Shape::Steep => 1,
             _ => 3,
+        };
+        match self {
+            Shape::Steep => Habits {
+                saves,
+                receives: 100,
+                in_transit: procs / 2,
+            },
+            _ => Habits {
+                saves,
+                receives: 45,
+                in_transit: 2 * procs,
+            },
         }
     }
 
     /// A trace of this shape.
     pub fn trace(self, procs: usize, events: usize, random: &mut Random) -> Trace {
+        self.trace_with(self.habits(procs, events), procs, events, random)
+    }
+
+    /// A trace of this shape, with habits of its own.
+    pub fn trace_with(
+        self,
+        habits: Habits,
+        procs: usize,
+        events: usize,
+        random: &mut Random,
+    ) -> Trace {
         let mut made = Vec::with_capacity(events);
         let mut in_transit: Vec<(usize, usize)> = Vec::new();
         let mut saves = [0; MAX_PROCS];
@@ -191,19 +225,13 @@ impl Shape {
                 made.push(Event::Save { at });
             }
         }
-        let busy = if self == Shape::Steep {
-            procs / 2
-        } else {
-            2 * procs
-        };
         while made.len() < events {
             let at = random.below(procs);
-            if saves[at] < 30 && random.percent(self.saves(events)) {
+            let full = in_transit.len() > habits.in_transit;
+            if saves[at] < 30 && random.percent(habits.saves) {
                 saves[at] += 1;
                 made.push(Event::Save { at });
-            } else if !in_transit.is_empty()
-                && (in_transit.len() > busy || random.percent(45) || self == Shape::Steep)
-            {
+            } else if !in_transit.is_empty() && (full || random.percent(habits.receives)) {
                 let (from, to) = in_transit.swap_remove(random.below(in_transit.len()));
                 made.push(Event::Recv { at: to, from });
             } else {

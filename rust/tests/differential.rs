@@ -88,6 +88,7 @@ mod compare {
             refusals: BTreeMap::new(),
         };
         let count = rounds.end - rounds.start;
+        comparison.fixed_texts();
         for round in rounds {
             comparison.round = round;
             comparison.random = Random::new(round.wrapping_mul(0x0123_4567_89ab_cdef));
@@ -247,7 +248,12 @@ mod compare {
         }
 
         fn report(&mut self, text: &[u8]) {
-            let mut wanted = vec![b'~'; hallback::REPORT_BYTES];
+            let room = match self.random.below(8) {
+                0 => self.random.below(100),
+                1 => self.random.below(5_000),
+                _ => hallback::REPORT_BYTES,
+            };
+            let mut wanted = vec![b'~'; room];
             let mut out = wanted.clone();
             let wanted_length = reference::report(text, &mut wanted);
             let length = raw::report(text, &mut out);
@@ -337,6 +343,54 @@ mod compare {
             self.note("lowest", &wanted, differences, &|| describe(input));
         }
 
+        /// Texts at the limits, which random ones seldom reach.
+        fn fixed_texts(&mut self) {
+            let send = "ev=send at=0 to=1 val=4294967295\n";
+            let receive = "ev=recv at=1 from=0\n";
+            let save = "ev=save at=1\n";
+            let failures = [
+                "",
+                "fail=0 set=1\n",
+                "fail=2048 set=3\n",
+                "fail=2049 set=1\n",
+                "fail=4294967295 set=1\n",
+                "fail=4294967296 set=1\n",
+                "fail=1 set=0\n",
+                "fail=1 set=4\n",
+                "fail=1 set=18446744073709551615\n",
+                "fail=1 set=18446744073709551616\n",
+                "fail=01 set=1\n",
+                "fail=1 set=01\n",
+                "fail=1 set=1",
+                "fail=1 set=1\n\n",
+                "fail=1 set=1\nfail=1 set=1\n",
+                "x",
+            ];
+            let counts = ["0", "1", "2", "64", "65", "02", "4294967295", "4294967296"];
+            for procs in counts {
+                for failure in failures {
+                    for events in [
+                        String::new(),
+                        send.to_string(),
+                        send.repeat(2),
+                        format!("{send}{receive}{receive}"),
+                        save.repeat(30),
+                        save.repeat(31),
+                        send.repeat(2_047),
+                        send.repeat(2_048),
+                        send.repeat(2_049),
+                        format!("{}{}", send.repeat(1_024), receive.repeat(1_024)),
+                        format!("{}{}", send.repeat(1_024), receive.repeat(1_025)),
+                        format!("{}ev=save at=99\n", send.repeat(2_048)),
+                        format!("{}ev=save at=99", send.repeat(2_048)),
+                        format!("{}{}", save.repeat(30), send.repeat(2_018)),
+                    ] {
+                        self.text(format!("procs={procs}\n{events}{failure}").as_bytes());
+                    }
+                }
+            }
+        }
+
         /// All calls that take a table area.
         fn table(&mut self, input: Input) {
             self.restart(input);
@@ -354,17 +408,64 @@ mod compare {
                 _ => (random.pick(&[2, 3, 8, 64]), MAX_EVENTS),
             };
             let shape = random.pick(&Shape::ALL);
-            let trace = shape.trace(procs, events, random);
+            let mut habits = shape.habits(procs, events);
+            if random.percent(50) {
+                habits.saves = random.pick(&[0, 1, 5, 20, 60]);
+                habits.receives = random.pick(&[10, 30, 49, 70]);
+                habits.in_transit = random.pick(&[1, procs, MAX_EVENTS]);
+            }
+            let trace = shape.trace_with(habits, procs, events, random);
             let failure = shape.failure(&trace, random);
             self.texts(&trace, failure);
 
             let mut table = self.area();
             reference::read(&trace.text(), &mut table).expect("the trace is fit");
+            let before = table.clone();
             for _ in 0..2 {
                 let failure = shape.failure(&trace, &mut self.random);
                 self.lines(&table, failure);
             }
             self.unfit(&trace, failure, &table);
+            self.typed(&trace, failure, &table);
+            assert_eq!(table, before, "a table that is only read was written");
+        }
+
+        /// The calls with answers as types.
+        fn typed(&mut self, trace: &Trace, failure: Failure, table: &[u32]) {
+            let (mut first, mut second) = (self.area(), self.area());
+            let text = trace.text();
+            assert_eq!(
+                hallback::read(&text, &mut first),
+                reference::read(&text, &mut second)
+            );
+            let text = trace.text_with(failure);
+            assert_eq!(
+                hallback::read_failure(&text, &mut first),
+                reference::read_failure(&text, &mut second)
+            );
+            let restart = reference::restart(table, failure).expect("the failure is fit");
+            assert_eq!(hallback::restart(table, failure), Ok(restart));
+            let line = self.random.pick(&[restart.line(), &[]]);
+            assert_eq!(
+                hallback::messages(table, failure, line, &mut first),
+                reference::messages(table, failure, line, &mut second)
+            );
+            assert_eq!(
+                hallback::lowest(table, failure, line, &mut first),
+                reference::lowest(table, failure, line, &mut second)
+            );
+            let mut order = lowest_order(table, failure, line);
+            order.truncate(self.random.below(order.len() + 1));
+            assert_eq!(
+                hallback::replay(table, failure, line, &order, &mut first),
+                reference::replay(table, failure, line, &order, &mut second)
+            );
+            if self.random.percent(10) {
+                let mut first = vec![0; hallback::REPORT_BYTES];
+                let mut second = first.clone();
+                let length = reference::report(&text, &mut second);
+                assert_eq!(hallback::report(&text, &mut first), &second[..length]);
+            }
         }
 
         /// The texts of a trace, edits of them, and bytes that are none.
@@ -400,8 +501,6 @@ mod compare {
         /// The greatest line of a failure and others, each with several orders.
         fn lines(&mut self, table: &[u32], failure: Failure) {
             let restart = reference::restart(table, failure).expect("the failure is fit");
-            let typed = hallback::restart(table, failure);
-            assert_eq!(typed, Ok(restart), "round {}", self.round);
             self.line(table, failure, restart.line());
             for _ in 0..2 {
                 let mut line = restart.line().to_vec();

@@ -96,7 +96,7 @@ mod bench {
     }
 
     impl Input {
-        /// A trace of this shape that fails at its end, with its greatest line and lowest order.
+        /// A trace of this shape that fails with a quarter to come, its greatest line and lowest order.
         fn new(shape: Shape, procs: usize, events: usize) -> Input {
             let mut random = Random::new(events as u64);
             let trace = shape.trace(procs, events, &mut random);
@@ -106,8 +106,10 @@ mod bench {
                 Shape::Steep => u64::MAX >> (MAX_PROCS - half) << half,
                 _ => 1,
             };
-            let step = events as u64;
-            let failure = Failure { step, set };
+            let failure = Failure {
+                step: events as u64 * 3 / 4,
+                set,
+            };
             let text = trace.text();
             let mut table = vec![0; AREA_WORDS];
             reference::read(&text, &mut table).expect("the trace is fit");
