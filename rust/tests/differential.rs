@@ -402,8 +402,9 @@ mod compare {
         fn round(&mut self) {
             let random = &mut self.random;
             let (procs, events) = match random.below(20) {
-                0..=9 => (2 + random.below(4), random.below(40)),
-                10..=16 => (2 + random.below(15), random.below(300)),
+                0..=8 => (2 + random.below(4), random.below(40)),
+                9..=14 => (2 + random.below(15), random.below(300)),
+                15..=16 => (MAX_PROCS - random.below(2), random.below(600)),
                 17..=18 => (2 + random.below(63), random.below(MAX_EVENTS + 1)),
                 _ => (random.pick(&[2, 3, 8, 64]), MAX_EVENTS),
             };
@@ -430,42 +431,44 @@ mod compare {
             assert_eq!(table, before, "a table that is only read was written");
         }
 
-        /// The calls with answers as types.
+        /// The calls with answers as types, areas left aside.
         fn typed(&mut self, trace: &Trace, failure: Failure, table: &[u32]) {
-            let (mut first, mut second) = (self.area(), self.area());
             let text = trace.text();
-            assert_eq!(
-                hallback::read(&text, &mut first),
-                reference::read(&text, &mut second)
-            );
-            let text = trace.text_with(failure);
-            assert_eq!(
-                hallback::read_failure(&text, &mut first),
-                reference::read_failure(&text, &mut second)
-            );
+            let with_failure = trace.text_with(failure);
             let restart = reference::restart(table, failure).expect("the failure is fit");
-            assert_eq!(hallback::restart(table, failure), Ok(restart));
-            let line = self.random.pick(&[restart.line(), &[]]);
-            assert_eq!(
-                hallback::messages(table, failure, line, &mut first),
-                reference::messages(table, failure, line, &mut second)
-            );
-            assert_eq!(
-                hallback::lowest(table, failure, line, &mut first),
-                reference::lowest(table, failure, line, &mut second)
-            );
+            let line = self.random.pick(&[restart.line(), restart.line(), &[]]);
             let mut order = lowest_order(table, failure, line);
             order.truncate(self.random.below(order.len() + 1));
-            assert_eq!(
-                hallback::replay(table, failure, line, &order, &mut first),
-                reference::replay(table, failure, line, &order, &mut second)
-            );
-            if self.random.percent(10) {
-                let mut first = vec![0; hallback::REPORT_BYTES];
-                let mut second = first.clone();
-                let length = reference::report(&text, &mut second);
-                assert_eq!(hallback::report(&text, &mut first), &second[..length]);
-            }
+            let (mut a, mut b) = (self.area(), self.area());
+            let (mut out, mut wanted_out) = ([0; 200], [0; 200]);
+            let length = reference::report(&with_failure, &mut wanted_out);
+            let equal = [
+                hallback::read(&text, &mut a) == reference::read(&text, &mut b),
+                hallback::read_failure(&with_failure, &mut a)
+                    == reference::read_failure(&with_failure, &mut b),
+                hallback::restart(table, failure) == Ok(restart),
+                hallback::messages(table, failure, line, &mut a)
+                    == reference::messages(table, failure, line, &mut b),
+                hallback::lowest(table, failure, line, &mut a)
+                    == reference::lowest(table, failure, line, &mut b),
+                hallback::replay(table, failure, line, &order, &mut a)
+                    == reference::replay(table, failure, line, &order, &mut b),
+                hallback::report(&with_failure, &mut out) == &wanted_out[..length],
+            ];
+            let differences: Vec<_> = (1..)
+                .zip(equal)
+                .filter(|(_, equal)| !equal)
+                .map(|(call, _)| format!("typed call {call}"))
+                .collect();
+            let run = &b;
+            let input = Input {
+                table,
+                failure,
+                line,
+                order: &order,
+                run,
+            };
+            self.note("typed", &Ok(vec![]), differences, &|| describe(input));
         }
 
         /// The texts of a trace, edits of them, and bytes that are none.
