@@ -98,6 +98,56 @@ impl Trace {
     }
 }
 
+/// Visits all traces of so many processes with at most so many events; a value is the place of its
+/// send.
+pub fn each_trace(procs: usize, events: usize, mut visit: impl FnMut(&Trace)) {
+    let mut trace = Trace {
+        procs,
+        events: Vec::new(),
+    };
+    let mut in_transit = vec![0; procs * procs];
+    each_longer(&mut trace, &mut in_transit, events, &mut visit);
+}
+
+/// Visits all traces that go on from this one with at most so many events. `in_transit` has how many
+/// messages are in transit from each process to each.
+fn each_longer(
+    trace: &mut Trace,
+    in_transit: &mut [usize],
+    more: usize,
+    visit: &mut impl FnMut(&Trace),
+) {
+    visit(trace);
+    if more == 0 {
+        return;
+    }
+    let val = trace.events.len() as u32 + 1;
+    for at in 0..trace.procs {
+        for peer in 0..trace.procs {
+            let to_peer = at * trace.procs + peer;
+            let from_peer = peer * trace.procs + at;
+            if at == peer {
+                trace.events.push(Event::Save { at });
+                each_longer(trace, in_transit, more - 1, visit);
+                trace.events.pop();
+                continue;
+            }
+            trace.events.push(Event::Send { at, to: peer, val });
+            in_transit[to_peer] += 1;
+            each_longer(trace, in_transit, more - 1, visit);
+            in_transit[to_peer] -= 1;
+            trace.events.pop();
+            if in_transit[from_peer] > 0 {
+                trace.events.push(Event::Recv { at, from: peer });
+                in_transit[from_peer] -= 1;
+                each_longer(trace, in_transit, more - 1, visit);
+                in_transit[from_peer] += 1;
+                trace.events.pop();
+            }
+        }
+    }
+}
+
 /// How the processes of a trace behave.
 #[derive(Clone, Copy, Debug, PartialEq, Eq)]
 pub enum Shape {

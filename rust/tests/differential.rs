@@ -8,7 +8,7 @@
 fn main() {
     eprintln!(
         "differential: nothing to compare with, since ../target/staticlib/libcapi.a was not there \
-         when this was built; build the archive, then run this again"
+         when this was built; build it (rt staticlib capi), then run this again"
     );
     std::process::exit(1);
 }
@@ -29,7 +29,7 @@ fn main() {
 
 #[cfg(hallback_archive)]
 mod compare {
-    use hallback::shapes::{Random, Shape, Trace};
+    use hallback::shapes::{each_trace, Random, Shape, Trace};
     use hallback::{raw, reference};
     use hallback::{Failure, Refusal, Restart, AREA_WORDS, MAX_EVENTS, MAX_PROCS, STAY};
     use std::collections::BTreeMap;
@@ -89,6 +89,7 @@ mod compare {
         };
         let count = rounds.end - rounds.start;
         comparison.fixed_texts();
+        comparison.small_traces();
         for round in rounds {
             comparison.round = round;
             comparison.random = Random::new(round.wrapping_mul(0x0123_4567_89ab_cdef));
@@ -389,6 +390,36 @@ mod compare {
                     }
                 }
             }
+        }
+
+        /// All traces of two processes with few events, each with all failures and all lines.
+        fn small_traces(&mut self) {
+            let run = self.area_of(AREA_WORDS);
+            let mut table = run.clone();
+            each_trace(2, 4, |trace| {
+                reference::read(&trace.text(), &mut table).expect("the trace is fit");
+                for step in 0..=trace.events.len() as u64 {
+                    for set in 1..4 {
+                        let failure = Failure { step, set };
+                        let restart = reference::restart(&table, failure);
+                        let epochs = restart.expect("the failure is fit").epochs;
+                        let numbers = |z: usize| (1..=epochs[z]).chain([STAY]);
+                        for first in numbers(0) {
+                            for second in numbers(1) {
+                                let line = [first, second];
+                                let order = lowest_order(&table, failure, &line);
+                                self.table(Input {
+                                    table: &table,
+                                    failure,
+                                    line: &line,
+                                    order: &order,
+                                    run: &run,
+                                });
+                            }
+                        }
+                    }
+                }
+            });
         }
 
         /// All calls that take a table area.

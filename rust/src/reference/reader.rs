@@ -35,28 +35,45 @@ impl Cursor<'_> {
         Some(())
     }
 
-    /// Passes the digits that come next, a number without leading zeros and of at most `largest`.
+    /// Passes the digit that comes next.
     #[inline]
-    fn number(&mut self, largest: u64) -> Option<u64> {
-        let digit = |at: usize| {
-            let digit = self.text.get(at)?.wrapping_sub(b'0');
-            (digit < 10).then_some(u64::from(digit))
-        };
-        let mut number = digit(self.at)?;
+    fn digit(&mut self) -> Option<u64> {
+        let digit = self.text.get(self.at)?.wrapping_sub(b'0');
+        if digit > 9 {
+            return None;
+        }
         self.at += 1;
+        Some(u64::from(digit))
+    }
+
+    /// Passes the number that comes next, without leading zeros; `append` puts a digit to it, unless
+    /// it becomes too large.
+    #[inline]
+    fn number(&mut self, append: impl Fn(u64, u64) -> Option<u64>) -> Option<u64> {
+        let mut number = self.digit()?;
         if number == 0 {
             return Some(0); // a digit after it is not what any line has there
         }
-        while let Some(digit) = digit(self.at) {
-            number = number.checked_mul(10)?.checked_add(digit)?;
-            self.at += 1;
+        while let Some(digit) = self.digit() {
+            number = append(number, digit)?;
         }
-        (number <= largest).then_some(number)
+        Some(number)
     }
 
+    /// A number of 32 bits.
     #[inline]
     fn word(&mut self) -> Option<u32> {
-        self.number(u64::from(u32::MAX)).map(|number| number as u32)
+        let largest = u64::from(u32::MAX);
+        let number = self.number(|number, digit| {
+            let longer = 10 * number + digit;
+            (longer <= largest).then_some(longer)
+        });
+        number.map(|number| number as u32)
+    }
+
+    /// A number of 64 bits.
+    fn set(&mut self) -> Option<u64> {
+        self.number(|number, digit| number.checked_mul(10)?.checked_add(digit))
     }
 
     fn process_count(&mut self) -> Option<u32> {
@@ -104,9 +121,9 @@ impl Cursor<'_> {
             })
         } else if failure_due {
             self.bytes(b"fail=")?;
-            let step = self.number(u64::from(u32::MAX))?;
+            let step = u64::from(self.word()?);
             self.bytes(b" set=")?;
-            let set = self.number(u64::MAX)?;
+            let set = self.set()?;
             self.bytes(b"\n")?;
             Some(Line::Failure(Failure { step, set }))
         } else {

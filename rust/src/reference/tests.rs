@@ -1,7 +1,7 @@
 //! The runs of the requirements, and a slow implementation to compare with on small traces.
 
 use super::*;
-use crate::shapes::{Event, Random, Shape, Trace};
+use crate::shapes::{each_trace, Event, Random, Shape, Trace};
 use crate::{MAX_EVENTS, STAY};
 use std::collections::{BTreeMap, VecDeque};
 
@@ -748,44 +748,11 @@ fn compare(trace: &Trace, failure: Failure, orders: bool, random: &mut Random) {
     }
 }
 
-/// Visits all traces of so many processes that go on from this one with at most so many events.
-fn each_trace(trace: &mut Trace, more: usize, visit: &mut impl FnMut(&Trace)) {
-    visit(trace);
-    if more == 0 {
-        return;
-    }
-    for at in 0..trace.procs {
-        let mut events = vec![Event::Save { at }];
-        for peer in (0..trace.procs).filter(|&peer| peer != at) {
-            events.push(Event::Send {
-                at,
-                to: peer,
-                val: more as u32,
-            });
-            let sent = |event: &&Event| matches!(event, Event::Send { at: a, to, .. } if (*a, *to) == (peer, at));
-            let received = |event: &&Event| **event == Event::Recv { at, from: peer };
-            let in_transit = trace.events.iter().filter(sent).count();
-            if in_transit > trace.events.iter().filter(received).count() {
-                events.push(Event::Recv { at, from: peer });
-            }
-        }
-        for event in events {
-            trace.events.push(event);
-            each_trace(trace, more - 1, visit);
-            trace.events.pop();
-        }
-    }
-}
-
 #[test]
 fn lines_of_all_small_traces() {
     let mut random = Random::new(1);
     for (procs, events) in [(2, 5), (3, 4)] {
-        let mut trace = Trace {
-            procs,
-            events: vec![],
-        };
-        each_trace(&mut trace, events, &mut |trace| {
+        each_trace(procs, events, |trace| {
             for step in 0..=trace.events.len() as u64 {
                 for set in 1..1 << procs {
                     let orders = step as usize + 1 >= trace.events.len() && random.percent(2);
