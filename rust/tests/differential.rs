@@ -1,8 +1,9 @@
 //! Compares the archive with the reference: every number of every answer, every word of every area.
 //!
 //! `cargo test --test differential -- [rounds [first round]]`; or `HALLBACK_ROUNDS` says how many
-//! rounds. A round is made from its number alone, so that one that differs can be run again. Ends
-//! with how many calls were compared and how many differ, and fails if any does.
+//! rounds. A round is made from its number alone, so that one that differs can be run again; before
+//! round 1 come texts at the limits and all small traces. Ends with how many calls were compared and
+//! how many differ, and fails if any does.
 
 #[cfg(not(hallback_archive))]
 fn main() {
@@ -88,8 +89,10 @@ mod compare {
             refusals: BTreeMap::new(),
         };
         let count = rounds.end - rounds.start;
-        comparison.fixed_texts();
-        comparison.small_traces();
+        if rounds.start == 1 {
+            comparison.fixed_texts();
+            comparison.small_traces();
+        }
         for round in rounds {
             comparison.round = round;
             comparison.random = Random::new(round.wrapping_mul(0x0123_4567_89ab_cdef));
