@@ -1,0 +1,269 @@
+//! Times the same calls on the same inputs, by the archive and by the reference.
+//!
+//! `bench [repeats]` prints the median time of each call, in microseconds, for each shape and size.
+//!
+//! `bench once engine|reference CALL SHAPE EVENTS` does one call once, inside the function
+//! `bench_engine_once` or `bench_reference_once`, so that its instructions can be counted:
+//!
+//! ```text
+//! valgrind --tool=callgrind --callgrind-out-file=/dev/null \
+//!     --toggle-collect=bench_engine_once target/release/bench once engine lowest dense 2048
+//! ```
+
+#[cfg(not(hallback_archive))]
+fn main() {
+    eprintln!(
+        "bench: nothing to compare with, since ../target/staticlib/libcapi.a was not there when \
+         this was built; build it (rt staticlib capi), then run this again"
+    );
+    std::process::exit(1);
+}
+
+#[cfg(hallback_archive)]
+fn main() {
+    let arguments: Vec<String> = std::env::args().skip(1).collect();
+    let words: Vec<&str> = arguments.iter().map(String::as_str).collect();
+    let done = match words[..] {
+        [] => bench::all(101),
+        ["once", who, call, shape, events] => bench::once(who, call, shape, events),
+        [repeats] => repeats.parse().ok().and_then(bench::all),
+        _ => None,
+    };
+    if done.is_none() {
+        eprintln!("usage: bench [repeats] | bench once engine|reference CALL SHAPE EVENTS");
+        std::process::exit(2);
+    }
+}
+
+#[cfg(hallback_archive)]
+mod bench {
+    use hallback::shapes::{Random, Shape};
+    use hallback::{raw, reference};
+    use hallback::{Failure, Refusal, Replayed, AREA_WORDS, MAX_PROCS, REPORT_BYTES};
+    use std::hint::black_box;
+    use std::time::Instant;
+
+    /// How many events, and of how many processes.
+    const SIZES: [(usize, usize); 3] = [(128, 16), (512, 32), (2_048, 64)];
+
+    /// Words of the longest answer.
+    const ANSWER_WORDS: usize = 4 + 3 * MAX_PROCS;
+
+    #[derive(Clone, Copy, Debug, PartialEq, Eq)]
+    enum Call {
+        Read,
+        Restart,
+        Messages,
+        Replay,
+        Lowest,
+        Report,
+    }
+
+    impl Call {
+        const ALL: [Call; 6] = [
+            Call::Read,
+            Call::Restart,
+            Call::Messages,
+            Call::Replay,
+            Call::Lowest,
+            Call::Report,
+        ];
+
+        fn name(self) -> &'static str {
+            match self {
+                Call::Read => "read",
+                Call::Restart => "restart",
+                Call::Messages => "messages",
+                Call::Replay => "replay",
+                Call::Lowest => "lowest",
+                Call::Report => "report",
+            }
+        }
+    }
+
+    /// All that the calls take, and what they write to.
+    struct Input {
+        text: Vec<u8>,
+        text_with_failure: Vec<u8>,
+        table: Vec<u32>,
+        failure: Failure,
+        line: Vec<u32>,
+        order: Vec<u16>,
+        read_table: Vec<u32>,
+        run: Vec<u32>,
+        out: Vec<u8>,
+        answer: Vec<u64>,
+    }
+
+    impl Input {
+        /// A trace of this shape that fails with a quarter to come, its greatest line and lowest order.
+        fn new(shape: Shape, procs: usize, events: usize) -> Input {
+            let mut random = Random::new(events as u64);
+            let trace = shape.trace(procs, events, &mut random);
+            let half = procs / 2;
+            let set = match shape {
+                Shape::Orphans => u64::MAX >> (MAX_PROCS - half),
+                Shape::Steep => u64::MAX >> (MAX_PROCS - half) << half,
+                _ => 1,
+            };
+            let failure = Failure {
+                step: events as u64 * 3 / 4,
+                set,
+            };
+            let text = trace.text();
+            let mut table = vec![0; AREA_WORDS];
+            reference::read(&text, &mut table).expect("the trace is fit");
+            let restart = reference::restart(&table, failure).expect("the failure is fit");
+            let order = lowest_order(&table, failure, restart.line()).expect("the line is fit");
+            Input {
+                text,
+                text_with_failure: trace.text_with(failure),
+                table,
+                failure,
+                line: restart.line().to_vec(),
+                order,
+                read_table: vec![0; AREA_WORDS],
+                run: vec![0; AREA_WORDS],
+                out: vec![0; REPORT_BYTES],
+                answer: vec![0; ANSWER_WORDS],
+            }
+        }
+
+        /// What the calls have left.
+        fn left(&self) -> (Vec<u32>, Vec<u32>, Vec<u8>) {
+            (self.read_table.clone(), self.run.clone(), self.out.clone())
+        }
+    }
+
+    fn lowest_order(table: &[u32], failure: Failure, line: &[u32]) -> Result<Vec<u16>, Refusal> {
+        reference::with_machine(table, failure, line, |machine| {
+            let mut order = Vec::new();
+            loop {
+                let lowest = machine.choices().next();
+                let Some(choice) = lowest else {
+                    return order;
+                };
+                machine.carry_out(choice);
+                order.push(choice);
+            }
+        })
+    }
+
+    fn engine(call: Call, input: &mut Input) -> u64 {
+        let Failure { step, set } = input.failure;
+        let Input {
+            table,
+            line,
+            run,
+            answer,
+            ..
+        } = input;
+        let number = match call {
+            Call::Read => raw::read(&input.text, &mut input.read_table, answer),
+            Call::Restart => raw::restart(table, step, set, answer),
+            Call::Messages => raw::messages(table, step, set, line, run, answer),
+            Call::Replay => raw::replay(table, step, set, line, &input.order, run, answer),
+            Call::Lowest => raw::lowest(table, step, set, line, run, answer),
+            Call::Report => {
+                return raw::report(&input.text_with_failure, &mut input.out) as u64;
+            }
+        };
+        u64::from(number) + answer[1]
+    }
+
+    fn reference(call: Call, input: &mut Input) -> u64 {
+        let failure = input.failure;
+        let Input {
+            table, line, run, ..
+        } = input;
+        let steps = |replayed: Replayed| replayed.steps;
+        let answer = match call {
+            Call::Read => reference::read(&input.text, &mut input.read_table).map(|()| 0),
+            Call::Restart => reference::restart(table, failure).map(|r| black_box(r).back),
+            Call::Messages => reference::messages(table, failure, line, run).map(|c| c.kept),
+            Call::Replay => reference::replay(table, failure, line, &input.order, run).map(steps),
+            Call::Lowest => reference::lowest(table, failure, line, run).map(steps),
+            Call::Report => Ok(reference::report(&input.text_with_failure, &mut input.out) as u64),
+        };
+        answer.unwrap_or(u64::MAX)
+    }
+
+    #[inline(never)]
+    #[no_mangle]
+    fn bench_engine_once(call: Call, input: &mut Input) -> u64 {
+        engine(call, input)
+    }
+
+    #[inline(never)]
+    #[no_mangle]
+    fn bench_reference_once(call: Call, input: &mut Input) -> u64 {
+        reference(call, input)
+    }
+
+    type Implementation = fn(Call, &mut Input) -> u64;
+
+    /// The median time of a call, in microseconds.
+    fn median(
+        implementation: Implementation,
+        call: Call,
+        input: &mut Input,
+        repeats: usize,
+    ) -> f64 {
+        let mut times: Vec<_> = (0..repeats.max(1))
+            .map(|_| {
+                let start = Instant::now();
+                black_box(implementation(call, black_box(input)));
+                start.elapsed()
+            })
+            .collect();
+        times.sort();
+        times[times.len() / 2].as_secs_f64() * 1e6
+    }
+
+    pub fn all(repeats: usize) -> Option<()> {
+        println!(
+            "median of {repeats} calls, in microseconds: engine, reference, how many times as long"
+        );
+        for shape in Shape::ALL {
+            for (events, procs) in SIZES {
+                let mut input = Input::new(shape, procs, events);
+                println!(
+                    "{}, {events} events, {procs} processes, {} bytes, {} steps",
+                    shape.name(),
+                    input.text.len(),
+                    input.order.len()
+                );
+                for call in Call::ALL {
+                    bench_engine_once(call, &mut input);
+                    let left = input.left();
+                    bench_reference_once(call, &mut input);
+                    assert!(left == input.left(), "{} differs", call.name());
+                    let engine = median(bench_engine_once, call, &mut input, repeats);
+                    let reference = median(bench_reference_once, call, &mut input, repeats);
+                    println!(
+                        "    {:9} {engine:10.1} {reference:10.1} {:8.1}",
+                        call.name(),
+                        engine / reference
+                    );
+                }
+            }
+        }
+        Some(())
+    }
+
+    pub fn once(who: &str, call: &str, shape: &str, events: &str) -> Option<()> {
+        let implementation: Implementation = match who {
+            "engine" => bench_engine_once,
+            "reference" => bench_reference_once,
+            _ => return None,
+        };
+        let call = Call::ALL.into_iter().find(|c| c.name() == call)?;
+        let shape = Shape::ALL.into_iter().find(|s| s.name() == shape)?;
+        let events: usize = events.parse().ok()?;
+        let (_, procs) = SIZES.into_iter().find(|size| size.0 == events)?;
+        let mut input = Input::new(shape, procs, events);
+        let answer = black_box(implementation)(call, &mut input);
+        println!("{who} {} {} {events}: {answer}", call.name(), shape.name());
+        Some(())
+    }
+}

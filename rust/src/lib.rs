@@ -1,0 +1,204 @@
+//! Restart and replay of a recorded run of message-passing processes, from Rust.
+//!
+//! The functions at the root of this crate call the proved engine, a static archive
+//! (`../target/staticlib/libcapi.a`); they are there only if that archive was there when the crate
+//! was built. [`reference`] has the same functions written anew in Rust, to compare with, and
+//! [`shapes`] makes traces to try both on.
+//!
+//! What is lent: a table area, which reading a trace fills and every other call takes, and a run
+//! area, in which [`messages`](reference::messages) leaves its list and
+//! [`replay`](reference::replay) its delivery record. Both have [`AREA_WORDS`] words; longer slices
+//! are fine, words past that number are never touched. `docs/LAYOUT.md` has them word by word.
+//!
+#![cfg_attr(
+    hallback_archive,
+    doc = r#"
+```
+use hallback::{Failure, AREA_WORDS};
+
+let mut table = vec![0; AREA_WORDS];
+let mut run = vec![0; AREA_WORDS];
+hallback::read(b"procs=2\nev=send at=0 to=1 val=7\nev=recv at=1 from=0\n", &mut table)?;
+
+let failure = Failure { step: 1, set: 0b10 };
+let restart = hallback::restart(&table, failure)?;
+assert_eq!(restart.line(), [32, 1]);
+
+let counts = hallback::messages(&table, failure, restart.line(), &mut run)?;
+assert_eq!(counts.kept, 1);
+
+let replayed = hallback::replay(&table, failure, restart.line(), &[65, 1], &mut run)?;
+assert!(replayed.complete);
+# Ok::<(), hallback::Refusal>(())
+```
+"#
+)]
+#![warn(missing_docs)]
+
+use std::error::Error;
+use std::fmt;
+
+#[cfg(hallback_archive)]
+mod engine;
+#[cfg(hallback_archive)]
+pub mod raw;
+pub mod reference;
+pub mod shapes;
+
+#[cfg(hallback_archive)]
+pub use engine::{lowest, messages, read, read_failure, replay, report, restart};
+
+/// How many words of a lent area are used; a shorter area is refused with 12.
+pub const AREA_WORDS: usize = 16_384;
+
+/// The most processes a trace can have.
+pub const MAX_PROCS: usize = 64;
+
+/// The most events a trace can have.
+pub const MAX_EVENTS: usize = 2_048;
+
+/// The number in a restart line of a process that stays as it was at the cut.
+pub const STAY: u32 = 32;
+
+/// How many bytes hold every report.
+pub const REPORT_BYTES: usize = 262_144;
+
+/// Why a call was refused. The numbers are those of the requirements.
+#[derive(Clone, Copy, Debug, PartialEq, Eq, Hash)]
+#[repr(u8)]
+pub enum Cause {
+    /// 1: the line is not of a form due at that place, lacks its line feed or is missing, or one of
+    /// its numbers is too large for its key.
+    Form = 1,
+    /// 2: the count of processes is not 2 to 64.
+    ProcessCount = 2,
+    /// 3: a process is not below the count of processes.
+    Process = 3,
+    /// 4: a process sends to or receives from itself.
+    Itself = 4,
+    /// 5: a receive with nothing in transit.
+    NothingInTransit = 5,
+    /// 6: a 31st save of a process.
+    Saves = 6,
+    /// 7: a 2,049th event.
+    Events = 7,
+    /// 8: the step of the failure is beyond the last event.
+    Step = 8,
+    /// 9: the set of failed processes is empty or names one that is not there.
+    Set = 9,
+    /// 10: the line has a wrong count of numbers, or one that is not permitted.
+    Line = 10,
+    /// 11: a choice is not allowed where it comes in the order.
+    Choice = 11,
+    /// 12: a lent area has under [`AREA_WORDS`] words.
+    Area = 12,
+    /// 13: the table area is not what reading some accepted trace leaves.
+    Table = 13,
+}
+
+impl Cause {
+    /// The cause with this number, if there is one.
+    pub fn from_number(number: u32) -> Option<Cause> {
+        use Cause::*;
+        const ALL: [Cause; 13] = [
+            Form,
+            ProcessCount,
+            Process,
+            Itself,
+            NothingInTransit,
+            Saves,
+            Events,
+            Step,
+            Set,
+            Line,
+            Choice,
+            Area,
+            Table,
+        ];
+        ALL.into_iter().find(|cause| cause.number() == number)
+    }
+
+    /// The number of this cause, 1 to 13.
+    pub fn number(self) -> u32 {
+        self as u32
+    }
+}
+
+/// A refused call: why, and where.
+#[derive(Clone, Copy, Debug, PartialEq, Eq, Hash)]
+pub struct Refusal {
+    /// Why.
+    pub cause: Cause,
+    /// The text line from 1 for causes 1 to 7, the place in the order from 1 for 11, else 0.
+    pub place: u64,
+}
+
+impl Refusal {
+    pub(crate) fn new(cause: Cause, place: usize) -> Refusal {
+        Refusal {
+            cause,
+            place: place as u64,
+        }
+    }
+}
+
+impl fmt::Display for Refusal {
+    fn fmt(&self, f: &mut fmt::Formatter<'_>) -> fmt::Result {
+        write!(f, "refused={} place={}", self.cause.number(), self.place)
+    }
+}
+
+impl Error for Refusal {}
+
+/// A failure: after which event, and which processes failed.
+#[derive(Clone, Copy, Debug, PartialEq, Eq, Hash)]
+pub struct Failure {
+    /// The failure is right after this event; 0 is before all.
+    pub step: u64,
+    /// Bit z says that process z failed.
+    pub set: u64,
+}
+
+/// The greatest restart line without a lost message.
+#[derive(Clone, Copy, Debug, PartialEq, Eq)]
+pub struct Restart {
+    /// How many processes there are.
+    pub count: usize,
+    /// How many of them go back.
+    pub back: u64,
+    /// Bit z says that process z goes back.
+    pub going: u64,
+    /// The line: an epoch, or [`STAY`]; 0 past the last process.
+    pub numbers: [u32; MAX_PROCS],
+    /// The epoch of each process at the cut; 0 past the last.
+    pub epochs: [u32; MAX_PROCS],
+    /// The phase of each process at its restart, or at the cut if it stays; 0 past the last.
+    pub phases: [u32; MAX_PROCS],
+}
+
+impl Restart {
+    /// The line as the other calls take it: one number for each process.
+    pub fn line(&self) -> &[u32] {
+        &self.numbers[..self.count]
+    }
+}
+
+/// How many messages of each class there are with respect to a line.
+#[derive(Clone, Copy, Debug, Default, PartialEq, Eq)]
+pub struct Counts {
+    /// Received messages whose sender goes back behind the send.
+    pub orphans: u64,
+    /// Messages to be handed over again.
+    pub kept: u64,
+    /// Messages that a replay from this line would not have.
+    pub lost: u64,
+}
+
+/// A replay carried out.
+#[derive(Clone, Copy, Debug, PartialEq, Eq)]
+pub struct Replayed {
+    /// The length of the order carried out.
+    pub steps: u64,
+    /// Whether no choice is allowed after it.
+    pub complete: bool,
+}

@@ -1,0 +1,185 @@
+//! The requirements implemented anew, for speed, and without regard to the engine's sources.
+//!
+//! Same calls, answers and areas as the engine's, so that the two can be compared word for word.
+//! Every call takes time in proportion to the text, the events, the order and the fixed size of the
+//! areas, whatever the processes do.
+//!
+//! ```
+//! use hallback::{reference, Failure, AREA_WORDS};
+//!
+//! let mut table = vec![0; AREA_WORDS];
+//! reference::read(b"procs=2\nev=send at=0 to=1 val=7\nev=recv at=1 from=0\n", &mut table)?;
+//! let restart = reference::restart(&table, Failure { step: 1, set: 0b10 })?;
+//! assert_eq!(restart.line(), [32, 1]);
+//! # Ok::<(), hallback::Refusal>(())
+//! ```
+
+use crate::{Cause, Counts, Failure, Refusal, Replayed, Restart, AREA_WORDS};
+
+mod machine;
+mod reader;
+mod recorded;
+mod report;
+#[cfg(test)]
+mod tests;
+
+use machine::Lowest;
+pub use machine::Machine;
+use recorded::{Recorded, Restarts};
+pub use report::report;
+
+/// Word `EVENT_BASE + e` of a table area is event e.
+const EVENT_BASE: usize = 16;
+
+/// Word `VALUE_BASE + e` of a table area is the value that event e sends.
+const VALUE_BASE: usize = 2_065;
+
+/// Word e of a delivery record is the number of the message that event e received, word
+/// `RECORD_VALUE_BASE + e` its value.
+const RECORD_VALUE_BASE: usize = 2_049;
+
+/// Word `ROW_BASE + i` of a list of messages is sender, receiver and class of row i, from 1.
+const ROW_BASE: usize = 16;
+
+/// Word `ROW_NUMBER_BASE + i` of a list of messages is the number of row i.
+const ROW_NUMBER_BASE: usize = 2_065;
+
+/// Word `ROW_PHASE_BASE + i` of a list of messages is the phase of row i.
+const ROW_PHASE_BASE: usize = 4_114;
+
+/// The kinds of events, as in a table area.
+const SEND: u8 = 1;
+const RECEIVE: u8 = 2;
+const SAVE: u8 = 3;
+
+/// The words of a lent area that are used, or refusal 12.
+fn area(words: &[u32]) -> Result<&[u32; AREA_WORDS], Refusal> {
+    words
+        .first_chunk()
+        .ok_or_else(|| Refusal::new(Cause::Area, 0))
+}
+
+/// The words of a lent area that are used, to be written, or refusal 12.
+fn area_mut(words: &mut [u32]) -> Result<&mut [u32; AREA_WORDS], Refusal> {
+    words
+        .first_chunk_mut()
+        .ok_or_else(|| Refusal::new(Cause::Area, 0))
+}
+
+/// Reads a trace text without a failure line into the table area.
+pub fn read(text: &[u8], table: &mut [u32]) -> Result<(), Refusal> {
+    reader::read(text, area_mut(table)?, false).map(|_| ())
+}
+
+/// Reads a trace text whose last line is a failure line into the table area, and gives the failure
+/// as it stands in the text.
+pub fn read_failure(text: &[u8], table: &mut [u32]) -> Result<Failure, Refusal> {
+    reader::read(text, area_mut(table)?, true)
+}
+
+/// Finds the greatest restart line without a lost message.
+pub fn restart(table: &[u32], failure: Failure) -> Result<Restart, Refusal> {
+    let recorded = Recorded::load(area(table)?, failure)?;
+    let line = recorded.greatest_line(failure.set);
+    Ok(recorded.restart(&line))
+}
+
+/// Lists orphans, kept and lost messages of a line in the run area, and counts them.
+pub fn messages(
+    table: &[u32],
+    failure: Failure,
+    line: &[u32],
+    run: &mut [u32],
+) -> Result<Counts, Refusal> {
+    let table = area(table)?;
+    let run = area_mut(run)?;
+    let recorded = Recorded::load(table, failure)?;
+    let restarts = recorded.restarts(line, failure.set)?;
+    let (rows, counts) = recorded.messages(&restarts);
+    run.fill(0);
+    run[0] = counts.orphans as u32;
+    run[1] = counts.kept as u32;
+    run[2] = counts.lost as u32;
+    for (i, row) in (1..).zip(&rows) {
+        run[ROW_BASE + i] = u32::from(row.from) | u32::from(row.to) << 6 | (row.class as u32) << 12;
+        run[ROW_NUMBER_BASE + i] = u32::from(row.number);
+        run[ROW_PHASE_BASE + i] = u32::from(row.phase);
+    }
+    Ok(counts)
+}
+
+/// Leaves in the run area the record of what was received before the restarts.
+fn begin_record(recorded: &Recorded, restarts: &Restarts, run: &mut [u32; AREA_WORDS]) {
+    run.fill(0);
+    recorded.each_receive_before(restarts, |receive, message| {
+        record(recorded, run, receive, message);
+    });
+}
+
+/// Records that event `receive` took the message that event `message` sent.
+fn record(recorded: &Recorded, run: &mut [u32; AREA_WORDS], receive: usize, message: usize) {
+    run[receive] = recorded.number(message);
+    run[RECORD_VALUE_BASE + receive] = recorded.value(message);
+}
+
+/// Carries out an order from a line, and leaves the delivery record in the run area.
+pub fn replay(
+    table: &[u32],
+    failure: Failure,
+    line: &[u32],
+    order: &[u16],
+    run: &mut [u32],
+) -> Result<Replayed, Refusal> {
+    let table = area(table)?;
+    let run = area_mut(run)?;
+    let recorded = Recorded::load(table, failure)?;
+    let restarts = recorded.restarts(line, failure.set)?;
+    let mut machine = Machine::new(&recorded, &restarts);
+    begin_record(&recorded, &restarts, run);
+    for (place, &choice) in (1..).zip(order) {
+        if !machine.allowed(choice) {
+            run.fill(0);
+            return Err(Refusal::new(Cause::Choice, place));
+        }
+        if let Some((receive, message)) = machine.carry_out(choice) {
+            record(&recorded, run, receive, message);
+        }
+    }
+    Ok(Replayed {
+        steps: order.len() as u64,
+        complete: machine.complete(),
+    })
+}
+
+/// Carries out the order that always picks the lowest allowed choice, as [`replay`] does an order.
+pub fn lowest(
+    table: &[u32],
+    failure: Failure,
+    line: &[u32],
+    run: &mut [u32],
+) -> Result<Replayed, Refusal> {
+    let table = area(table)?;
+    let run = area_mut(run)?;
+    let recorded = Recorded::load(table, failure)?;
+    let restarts = recorded.restarts(line, failure.set)?;
+    begin_record(&recorded, &restarts, run);
+    let steps = Lowest::new(&recorded, &restarts).carry_out(|receive, message| {
+        record(&recorded, run, receive, message);
+    });
+    Ok(Replayed {
+        steps,
+        complete: true,
+    })
+}
+
+/// Gives `visit` a machine at the restarts of a line, to try choices on.
+pub fn with_machine<T>(
+    table: &[u32],
+    failure: Failure,
+    line: &[u32],
+    visit: impl FnOnce(&mut Machine) -> T,
+) -> Result<T, Refusal> {
+    let recorded = Recorded::load(area(table)?, failure)?;
+    let restarts = recorded.restarts(line, failure.set)?;
+    Ok(visit(&mut Machine::new(&recorded, &restarts)))
+}

@@ -1,0 +1,794 @@
+//! The runs of the requirements, and a slow implementation to compare with on small traces.
+
+use super::*;
+use crate::shapes::{each_trace, Event, Random, Shape, Trace};
+use crate::{MAX_EVENTS, STAY};
+use std::collections::{BTreeMap, VecDeque};
+
+const H: &str = "procs=3
+ev=send at=0 to=1 val=5
+ev=recv at=1 from=0
+ev=save at=1
+ev=send at=1 to=2 val=7
+ev=recv at=2 from=1
+ev=save at=0
+ev=send at=0 to=1 val=9
+ev=recv at=1 from=0
+ev=send at=1 to=2 val=4
+";
+const L: &str = "procs=2\nev=send at=0 to=1 val=3\nev=save at=1\nev=recv at=1 from=0\n";
+const S: &str = "procs=2\nev=save at=0\nev=send at=0 to=1 val=3\nev=recv at=1 from=0\n";
+const T: &str = "procs=2\nev=send at=0 to=1 val=3\nev=recv at=1 from=0\n";
+
+fn table_of(text: &str) -> Vec<u32> {
+    let mut table = vec![7; AREA_WORDS + 3];
+    assert_eq!(read(text.as_bytes(), &mut table), Ok(()));
+    assert_eq!(table[AREA_WORDS..], [7; 3]);
+    table
+}
+
+fn failure(step: u64, set: u64) -> Failure {
+    Failure { step, set }
+}
+
+fn line_of(text: &str, failure: Failure) -> Vec<u32> {
+    let restart = restart(&table_of(text), failure).unwrap();
+    restart.line().to_vec()
+}
+
+fn new_run() -> Vec<u32> {
+    vec![9; AREA_WORDS + 2]
+}
+
+fn counts_of(text: &str, failure: Failure, line: &[u32]) -> (u64, u64, u64) {
+    let counts = messages(&table_of(text), failure, line, &mut new_run()).unwrap();
+    (counts.orphans, counts.kept, counts.lost)
+}
+
+fn replay_of(text: &str, failure: Failure, line: &[u32], order: &[u16]) -> Result<bool, Refusal> {
+    let replayed = replay(&table_of(text), failure, line, order, &mut new_run())?;
+    assert_eq!(replayed.steps, order.len() as u64);
+    Ok(replayed.complete)
+}
+
+fn steps_of(text: &str, failure: Failure, line: &[u32]) -> u64 {
+    let replayed = lowest(&table_of(text), failure, line, &mut new_run()).unwrap();
+    assert!(replayed.complete);
+    replayed.steps
+}
+
+fn not_allowed(place: usize) -> Result<bool, Refusal> {
+    Err(Refusal::new(Cause::Choice, place))
+}
+
+fn report_of(text: &[u8]) -> String {
+    let mut out = vec![0; crate::REPORT_BYTES];
+    let length = report(text, &mut out);
+    String::from_utf8(out[..length].to_vec()).unwrap()
+}
+
+#[test]
+fn r1_report_of_h() {
+    let wanted = "out=proc at=0 epoch=2 restart=2 phase=2
+out=proc at=1 epoch=2 restart=2 phase=2
+out=proc at=2 epoch=1 restart=32 phase=2
+out=orphan from=1 to=2 no=1 phase=2
+out=total back=2 orphans=1 kept=0 steps=4
+";
+    assert_eq!(report_of(format!("{H}fail=9 set=2\n").as_bytes()), wanted);
+    let restart = restart(&table_of(H), failure(9, 2)).unwrap();
+    assert_eq!(restart.line(), [2, 2, 32]);
+    assert_eq!(restart.epochs[..4], [2, 2, 1, 0]);
+    assert_eq!(restart.phases[..4], [2, 2, 2, 0]);
+    assert_eq!((restart.back, restart.going), (2, 3));
+}
+
+#[test]
+fn r2_r3_other_lines_of_h() {
+    let mut run = new_run();
+    let counts = messages(&table_of(H), failure(9, 2), &[32, 2, 32], &mut run).unwrap();
+    assert_eq!(counts.lost, 1);
+    let row = ROW_BASE + counts.orphans as usize + counts.kept as usize + 1;
+    assert_eq!(run[row], 64 | 3 << 12);
+    assert_eq!(run[row + ROW_NUMBER_BASE - ROW_BASE], 2);
+    assert_eq!(counts_of(H, failure(9, 2), &[1, 1, 32]).2, 0);
+    assert_ne!(line_of(H, failure(9, 2)), [1, 1, 32]);
+}
+
+#[test]
+fn r4_before_all() {
+    assert_eq!(line_of(H, failure(0, 1)), [1, 32, 32]);
+    assert_eq!(steps_of(H, failure(0, 1), &[1, 32, 32]), 9);
+}
+
+#[test]
+fn r5_r6_a_logged_message() {
+    let failure = failure(3, 2);
+    assert_eq!(line_of(L, failure), [32, 2]);
+    let mut run = new_run();
+    messages(&table_of(L), failure, &[32, 2], &mut run).unwrap();
+    assert_eq!(run[..3], [0, 1, 0]);
+    assert_eq!(run[ROW_BASE + 1], 64 | 2 << 12);
+    assert_eq!((run[ROW_NUMBER_BASE + 1], run[ROW_PHASE_BASE + 1]), (1, 1));
+    assert_eq!(replay_of(L, failure, &[32, 2], &[65, 1]), Ok(true));
+    assert_eq!(replay_of(L, failure, &[32, 2], &[1]), not_allowed(1));
+}
+
+#[test]
+fn r7_r8_a_message_not_logged() {
+    assert_eq!(line_of(S, failure(3, 2)), [2, 1]);
+    assert_eq!(line_of(S, failure(3, 1)), [2, 32]);
+    let mut run = new_run();
+    messages(&table_of(S), failure(3, 1), &[2, 32], &mut run).unwrap();
+    assert_eq!(run[..3], [1, 0, 0]);
+    assert_eq!(run[ROW_PHASE_BASE + 1], 2);
+    assert_eq!(steps_of(S, failure(3, 1), &[2, 32]), 1);
+}
+
+#[test]
+fn r9_r10_a_message_in_transit() {
+    assert_eq!(line_of(T, failure(1, 2)), [32, 1]);
+    assert_eq!(counts_of(T, failure(1, 2), &[32, 1]), (0, 1, 0));
+    assert_eq!(replay_of(T, failure(1, 2), &[32, 1], &[65, 1]), Ok(true));
+    assert_eq!(line_of(T, failure(1, 1)), [1, 32]);
+    assert_eq!(counts_of(T, failure(1, 1), &[1, 32]).1, 0);
+    assert_eq!(replay_of(T, failure(1, 1), &[1, 32], &[0, 1]), Ok(true));
+}
+
+#[test]
+fn r11_r12_refusals() {
+    for set in [0, 8] {
+        let refusal = restart(&table_of(H), failure(9, set)).unwrap_err();
+        assert_eq!(refusal, Refusal::new(Cause::Set, 0));
+        let text = format!("{H}fail=9 set={set}\n");
+        assert_eq!(report_of(text.as_bytes()), "refused=9 place=0\n");
+    }
+    let mut table = vec![5; AREA_WORDS];
+    let refusal = read(b"procs=2\nev=recv at=0 from=1\n", &mut table).unwrap_err();
+    assert_eq!(refusal, Refusal::new(Cause::NothingInTransit, 2));
+    assert_eq!(table, vec![0; AREA_WORDS]);
+}
+
+#[test]
+fn limits() {
+    let refusal = |text: &str| {
+        let mut table = vec![1; AREA_WORDS];
+        let read = read(text.as_bytes(), &mut table);
+        assert_eq!(table[0] == 0, read.is_err());
+        read.err()
+            .map(|refusal| (refusal.cause.number(), refusal.place))
+    };
+    let saves = |count: usize| format!("procs=2\n{}", "ev=save at=1\n".repeat(count));
+    assert_eq!(refusal(&saves(30)), None);
+    assert_eq!(refusal(&saves(31)), Some((6, 32)));
+    let sends = |count: usize| {
+        let send = "ev=send at=0 to=1 val=1\n";
+        format!("procs=2\n{}", send.repeat(count))
+    };
+    assert_eq!(refusal(&sends(2_048)), None);
+    assert_eq!(refusal(&sends(2_049)), Some((7, 2_050)));
+    assert_eq!(refusal("procs=1\n"), Some((2, 1)));
+    assert_eq!(refusal("procs=2\n"), None);
+    assert_eq!(refusal("procs=64\n"), None);
+    assert_eq!(refusal("procs=65\n"), Some((2, 1)));
+    let mut text = sends(2_048).into_bytes();
+    text.extend(b"ev=recv at=9 from=9\n");
+    let mut table = vec![0; AREA_WORDS];
+    assert_eq!(
+        read(&text, &mut table),
+        Err(Refusal::new(Cause::Events, 2_050))
+    );
+    let with_failure = format!("{}fail=2048 set=1\n", sends(2_048));
+    assert_eq!(
+        read_failure(with_failure.as_bytes(), &mut table),
+        Ok(failure(2_048, 1))
+    );
+    assert!(report_of(&vec![b'x'; 65_537]).starts_with("refused=1 place=0\n"));
+    assert!(report_of(&vec![b'x'; 65_536]).starts_with("refused=1 place=1\n"));
+}
+
+#[test]
+fn forms() {
+    // text; refusal without and with a failure line wanted, 0 at 0 for none
+    type Answer = (u32, u64);
+    let cases: &[(&str, Answer, Answer)] = &[
+        ("", (1, 1), (1, 1)),
+        ("\n", (1, 1), (1, 1)),
+        ("procs=2", (1, 1), (1, 1)),
+        ("procs=2\n", (0, 0), (1, 2)),
+        ("procs=02\n", (1, 1), (1, 1)),
+        ("procs=\n", (1, 1), (1, 1)),
+        ("procs=2 \n", (1, 1), (1, 1)),
+        ("procs=2\r\n", (1, 1), (1, 1)),
+        ("procs=0\n", (2, 1), (2, 1)),
+        ("procs=4294967295\n", (2, 1), (2, 1)),
+        ("procs=4294967296\n", (1, 1), (1, 1)),
+        ("procs=99999999999999999999999\n", (1, 1), (1, 1)),
+        ("fail=0 set=1\n", (1, 1), (1, 1)),
+        ("ev=save at=0\n", (1, 1), (1, 1)),
+        ("procs=2\nprocs=2\n", (1, 2), (1, 2)),
+        ("procs=2\n\n", (1, 2), (1, 2)),
+        ("procs=2\nev=save at=2\n", (3, 2), (3, 2)),
+        ("procs=2\nev=save at=4294967295\n", (3, 2), (3, 2)),
+        ("procs=2\nev=save at=4294967296\n", (1, 2), (1, 2)),
+        ("procs=2\nev=save at=00\n", (1, 2), (1, 2)),
+        ("procs=2\nev=save at=0", (1, 2), (1, 2)),
+        ("procs=2\nev=send at=5 to=5 val=1\n", (3, 2), (3, 2)),
+        ("procs=2\nev=send at=0 to=0 val=1\n", (4, 2), (4, 2)),
+        (
+            "procs=2\nev=send at=0 to=1 val=4294967296\n",
+            (1, 2),
+            (1, 2),
+        ),
+        (
+            "procs=2\nev=send at=0 to=1 val=4294967295\n",
+            (0, 0),
+            (1, 3),
+        ),
+        ("procs=2\nev=send to=1 at=0 val=1\n", (1, 2), (1, 2)),
+        ("procs=2\nev=recv at=0 from=0\n", (4, 2), (4, 2)),
+        ("procs=2\nev=recv at=0 from=2\n", (3, 2), (3, 2)),
+        ("procs=2\nfail=0 set=1\n", (1, 2), (0, 0)),
+        ("procs=2\nfail=9 set=0\n", (1, 2), (0, 0)),
+        ("procs=2\nfail=0 set=1", (1, 2), (1, 2)),
+        ("procs=2\nfail=0 set=1\n\n", (1, 2), (1, 3)),
+        ("procs=2\nfail=0 set=1\nx", (1, 2), (1, 3)),
+        ("procs=2\nfail=0 set=1\nfail=0 set=1\n", (1, 2), (1, 3)),
+        ("procs=2\nfail=4294967296 set=1\n", (1, 2), (1, 2)),
+        ("procs=2\nfail=4294967295 set=1\n", (1, 2), (0, 0)),
+        ("procs=2\nfail=0 set=18446744073709551615\n", (1, 2), (0, 0)),
+        ("procs=2\nfail=0 set=18446744073709551616\n", (1, 2), (1, 2)),
+        ("procs=2\nfail=0 set=01\n", (1, 2), (1, 2)),
+    ];
+    for &(text, without, with) in cases {
+        let answer = |refusal: Option<Refusal>| {
+            refusal.map_or((0, 0), |refusal| (refusal.cause.number(), refusal.place))
+        };
+        let mut table = vec![0; AREA_WORDS];
+        let read_without = read(text.as_bytes(), &mut table);
+        assert_eq!(answer(read_without.err()), without, "{text:?}");
+        let read_with = read_failure(text.as_bytes(), &mut table);
+        assert_eq!(answer(read_with.err()), with, "{text:?} with failure");
+    }
+}
+
+#[test]
+fn order_of_checks() {
+    let (table, mut run) = (table_of(T), new_run());
+    let number = |answer: Result<Replayed, Refusal>| answer.unwrap_err().cause.number();
+    let short = &mut [0; 5];
+    assert_eq!(number(lowest(&[0; 5], failure(9, 0), &[], &mut run)), 12);
+    assert_eq!(number(lowest(&table, failure(9, 0), &[], short)), 12);
+    assert_eq!(
+        number(lowest(&[0; AREA_WORDS], failure(9, 0), &[], short)),
+        12
+    );
+    assert_eq!(
+        number(lowest(&[0; AREA_WORDS], failure(9, 0), &[], &mut run)),
+        13
+    );
+    assert_eq!(number(lowest(&table, failure(3, 0), &[], &mut run)), 8);
+    assert_eq!(number(lowest(&table, failure(2, 4), &[], &mut run)), 9);
+    assert_eq!(
+        number(replay(&table, failure(2, 1), &[], &[9], &mut run)),
+        10
+    );
+    assert_eq!(
+        number(replay(&table, failure(2, 1), &[32, 1], &[9], &mut run)),
+        10
+    );
+    assert_eq!(
+        number(replay(&table, failure(2, 1), &[1, 2], &[9], &mut run)),
+        10
+    );
+    assert_eq!(run, new_run());
+    assert_eq!(
+        number(replay(&table, failure(2, 1), &[1, 1], &[9], &mut run)),
+        11
+    );
+    assert_eq!(run[..AREA_WORDS], [0; AREA_WORDS]);
+    assert_eq!(run[AREA_WORDS..], [9; 2]);
+}
+
+/// A trace of two processes in the short form of the proof plan: `v0` a save, `s01` a send from 0
+/// to 1, `r10` a receive by 1 from 0.
+fn short(events: &str) -> String {
+    let mut text = "procs=2\n".to_string();
+    for event in events.split(' ') {
+        let (at, peer) = (&event[1..2], event.get(2..3));
+        text += &match (&event[..1], peer) {
+            ("v", None) => format!("ev=save at={at}\n"),
+            ("s", Some(to)) => format!("ev=send at={at} to={to} val=1\n"),
+            ("r", Some(from)) => format!("ev=recv at={at} from={from}\n"),
+            _ => panic!("not an event: {event}"),
+        };
+    }
+    text
+}
+
+#[test]
+fn d1_phase_of_an_orphan() {
+    let text = short("v1 s01 r10");
+    let line = line_of(&text, failure(3, 1));
+    let mut run = new_run();
+    messages(&table_of(&text), failure(3, 1), &line, &mut run).unwrap();
+    assert_eq!((run[0], run[ROW_PHASE_BASE + 1]), (1, 1));
+}
+
+#[test]
+fn d2_to_d8_gates() {
+    // events, step, set, line, an order refused at 1, an order that is complete
+    type Case = (
+        &'static str,
+        u64,
+        u64,
+        [u32; 2],
+        &'static [u16],
+        &'static [u16],
+    );
+    let cases: [Case; 6] = [
+        ("s01 r10 s10", 2, 1, [1, 32], &[1], &[0, 1]),
+        ("s01 r10 s10", 3, 1, [1, 32], &[128], &[0, 128]),
+        ("s01 r10 v1 s10", 4, 3, [1, 2], &[1], &[0, 1]),
+        ("v0 s10 r01 s01 r10", 5, 1, [1, 32], &[], &[0, 128, 0, 0]),
+        (
+            "v0 s01 r10 s10 r01 s01 r10",
+            7,
+            1,
+            [2, 32],
+            &[],
+            &[0, 128, 0, 0],
+        ),
+        ("s01 s01 r10", 1, 2, [32, 1], &[0], &[65, 0, 1]),
+    ];
+    for (events, step, set, line, bad, good) in cases {
+        let text = short(events);
+        let failure = failure(step, set);
+        if !bad.is_empty() {
+            assert_eq!(replay_of(&text, failure, &line, bad), not_allowed(1));
+        }
+        assert_eq!(replay_of(&text, failure, &line, good), Ok(true), "{events}");
+    }
+}
+
+#[test]
+fn d9_records_by_number() {
+    let text = short("s01 s01 r10");
+    let mut run = new_run();
+    let replayed = replay(
+        &table_of(&text),
+        failure(3, 2),
+        &[32, 1],
+        &[65, 1],
+        &mut run,
+    );
+    assert!(replayed.unwrap().complete);
+    assert_eq!((run[3], run[RECORD_VALUE_BASE + 3]), (2, 1));
+}
+
+/// A message of the recorded run, as the requirements speak of it.
+#[derive(Clone, Debug)]
+struct Message {
+    from: usize,
+    to: usize,
+    number: u32,
+    value: u32,
+    sent: usize,
+    received: Option<usize>,
+    phase: u32,
+    logged: bool,
+}
+
+/// Recovery as the requirements word it, without regard to time.
+struct Slow<'a> {
+    trace: &'a Trace,
+    step: usize,
+    failed: u64,
+    messages: Vec<Message>,
+    /// Of each process, after each count of events of the trace, epoch and phase.
+    states: Vec<Vec<(u32, u32)>>,
+}
+
+impl<'a> Slow<'a> {
+    fn new(trace: &'a Trace, failure: Failure) -> Slow<'a> {
+        let mut slow = Slow {
+            trace,
+            step: failure.step as usize,
+            failed: failure.set,
+            messages: Vec::new(),
+            states: vec![vec![(1, 1); trace.procs]],
+        };
+        let mut epochs = BTreeMap::new();
+        let mut sent: BTreeMap<(usize, usize), u32> = BTreeMap::new();
+        for (i, event) in (1..).zip(&trace.events) {
+            let mut now = slow.states.last().unwrap().clone();
+            match *event {
+                Event::Send { at, to, val } => {
+                    let number = sent.entry((at, to)).or_default();
+                    *number += 1;
+                    epochs.insert(slow.messages.len(), now[at].0);
+                    slow.messages.push(Message {
+                        from: at,
+                        to,
+                        number: *number,
+                        value: val,
+                        sent: i,
+                        received: None,
+                        phase: now[at].1,
+                        logged: false,
+                    });
+                }
+                Event::Recv { at, from } => {
+                    let oldest = slow
+                        .messages
+                        .iter()
+                        .position(|m| (m.from, m.to) == (from, at) && m.received.is_none())
+                        .unwrap();
+                    let message = &mut slow.messages[oldest];
+                    message.received = Some(i);
+                    message.logged = epochs[&oldest] < now[at].0;
+                    now[at].1 = now[at].1.max(message.phase + u32::from(message.logged));
+                }
+                Event::Save { at } => now[at] = (now[at].0 + 1, now[at].1 + 1),
+            }
+            slow.states.push(now);
+        }
+        slow
+    }
+
+    /// All lines that are permitted.
+    fn lines(&self) -> Vec<Vec<u32>> {
+        let mut lines = vec![vec![]];
+        for (z, &(epoch, _)) in self.states[self.step].iter().enumerate() {
+            let mut numbers: Vec<u32> = (1..=epoch).collect();
+            if self.failed >> z & 1 == 0 {
+                numbers.push(STAY);
+            }
+            lines = lines
+                .iter()
+                .flat_map(|line| {
+                    numbers.iter().map(move |&number| {
+                        let mut longer = line.clone();
+                        longer.push(number);
+                        longer
+                    })
+                })
+                .collect();
+        }
+        lines
+    }
+
+    /// How many events of the trace are before the restart of a process.
+    fn restart(&self, line: &[u32], z: usize) -> usize {
+        if line[z] == STAY {
+            return self.step;
+        }
+        self.states.iter().position(|s| s[z].0 == line[z]).unwrap()
+    }
+
+    fn sent_before(&self, line: &[u32], message: &Message) -> bool {
+        message.sent <= self.restart(line, message.from)
+    }
+
+    fn received_at_cut(&self, message: &Message) -> bool {
+        message
+            .received
+            .is_some_and(|received| received <= self.step)
+    }
+
+    fn undone(&self, line: &[u32], message: &Message) -> bool {
+        self.received_at_cut(message) && message.received > Some(self.restart(line, message.to))
+    }
+
+    fn class(&self, line: &[u32], message: &Message) -> Option<u32> {
+        if message.sent > self.step {
+            return None;
+        }
+        let before = self.sent_before(line, message);
+        let undone = self.undone(line, message);
+        let received = self.received_at_cut(message);
+        if before && undone && !message.logged {
+            Some(3)
+        } else if before && (undone && message.logged || !received) {
+            Some(2)
+        } else if !before && received && !undone {
+            Some(1)
+        } else {
+            None
+        }
+    }
+
+    fn listed(&self, line: &[u32], class: u32) -> Vec<&Message> {
+        let mut listed: Vec<_> = self
+            .messages
+            .iter()
+            .filter(|message| self.class(line, message) == Some(class))
+            .collect();
+        listed.sort_by_key(|message| (message.from, message.to, message.number));
+        listed
+    }
+
+    fn greatest(&self) -> Vec<u32> {
+        let lines: Vec<_> = self
+            .lines()
+            .into_iter()
+            .filter(|line| self.listed(line, 3).is_empty())
+            .collect();
+        let below = |line: &[u32], most: &[u32]| line.iter().zip(most).all(|(a, b)| a <= b);
+        let mut greatest = lines
+            .iter()
+            .filter(|most| lines.iter().all(|line| below(line, most)));
+        let found = greatest.next().expect("there is a greatest line").clone();
+        assert!(greatest.next().is_none());
+        found
+    }
+
+    /// The run area that lists the messages of a line.
+    fn list(&self, line: &[u32]) -> Vec<u32> {
+        let mut run = vec![0; AREA_WORDS];
+        let mut row = 0;
+        for class in 1..=3 {
+            let listed = self.listed(line, class);
+            run[class as usize - 1] = listed.len() as u32;
+            for message in listed {
+                row += 1;
+                run[16 + row] = message.from as u32 + 64 * message.to as u32 + 4096 * class;
+                run[2065 + row] = message.number;
+                run[4114 + row] = message.phase;
+            }
+        }
+        run
+    }
+}
+
+/// A replay as the requirements word it.
+struct SlowReplay<'a> {
+    slow: &'a Slow<'a>,
+    line: &'a [u32],
+    next: Vec<usize>,
+    kept: BTreeMap<(usize, usize), VecDeque<&'a Message>>,
+    channels: BTreeMap<(usize, usize), VecDeque<&'a Message>>,
+    /// Phases of orphans not yet sent again.
+    orphans: Vec<u32>,
+    run: Vec<u32>,
+}
+
+impl<'a> SlowReplay<'a> {
+    fn new(slow: &'a Slow<'a>, line: &'a [u32]) -> Self {
+        let mut replay = SlowReplay {
+            slow,
+            line,
+            next: (0..line.len()).map(|z| slow.restart(line, z)).collect(),
+            kept: BTreeMap::new(),
+            channels: BTreeMap::new(),
+            orphans: slow.listed(line, 1).iter().map(|m| m.phase).collect(),
+            run: vec![0; AREA_WORDS],
+        };
+        for message in slow.listed(line, 2) {
+            let channel = (message.from, message.to);
+            replay.kept.entry(channel).or_default().push_back(message);
+        }
+        for message in &slow.messages {
+            if slow.received_at_cut(message) && !slow.undone(line, message) {
+                replay.receive(message.received.unwrap(), message);
+            }
+        }
+        for z in 0..line.len() {
+            replay.find_next(z);
+        }
+        replay
+    }
+
+    fn receive(&mut self, i: usize, message: &Message) {
+        self.run[i] = message.number;
+        self.run[2049 + i] = message.value;
+    }
+
+    /// Moves on to the next event of a process.
+    fn find_next(&mut self, z: usize) {
+        let events = &self.slow.trace.events;
+        self.next[z] += 1;
+        while events.get(self.next[z] - 1).is_some_and(|event| {
+            let (Event::Send { at, .. } | Event::Recv { at, .. } | Event::Save { at }) = *event;
+            at != z
+        }) {
+            self.next[z] += 1;
+        }
+    }
+
+    fn ready(&self, phase: u32) -> bool {
+        self.orphans.iter().all(|&orphan| orphan > phase)
+    }
+
+    fn has(messages: &BTreeMap<(usize, usize), VecDeque<&Message>>, c: (usize, usize)) -> bool {
+        messages
+            .get(&c)
+            .is_some_and(|messages| !messages.is_empty())
+    }
+
+    fn allowed(&self, choice: u16) -> bool {
+        let choice = usize::from(choice);
+        if choice >= 64 {
+            let channel = ((choice - 64) / 64, (choice - 64) % 64);
+            let oldest = self.kept.get(&channel).and_then(|kept| kept.front());
+            return oldest.is_some_and(|message| self.ready(message.phase));
+        }
+        if choice >= self.line.len() || self.next[choice] > self.slow.trace.events.len() {
+            return false;
+        }
+        let state = self.slow.states[self.slow.restart(self.line, choice)][choice];
+        let gate = if self.line[choice] == STAY {
+            state.1
+        } else {
+            state.1 - 1
+        };
+        self.ready(gate)
+            && match self.slow.trace.events[self.next[choice] - 1] {
+                Event::Send { at, to, .. } => !Self::has(&self.kept, (at, to)),
+                Event::Recv { at, from } => Self::has(&self.channels, (from, at)),
+                Event::Save { .. } => true,
+            }
+    }
+
+    fn carry_out(&mut self, choice: u16) {
+        let choice = usize::from(choice);
+        if choice >= 64 {
+            let channel = ((choice - 64) / 64, (choice - 64) % 64);
+            let message = self.kept.get_mut(&channel).unwrap().pop_front().unwrap();
+            self.channels.entry(channel).or_default().push_back(message);
+            return;
+        }
+        let i = self.next[choice];
+        match self.slow.trace.events[i - 1] {
+            Event::Send { at, to, .. } => {
+                let message = self.slow.messages.iter().find(|m| m.sent == i).unwrap();
+                let restart = self.slow.restart(self.line, to);
+                let received = self.slow.messages.iter().filter(|m| {
+                    (m.from, m.to) == (at, to) && m.received.is_some_and(|i| i <= restart)
+                });
+                if message.number as usize <= received.count() {
+                    let place = self.orphans.iter().position(|&p| p == message.phase);
+                    self.orphans.swap_remove(place.unwrap());
+                } else {
+                    self.channels
+                        .entry((at, to))
+                        .or_default()
+                        .push_back(message);
+                }
+            }
+            Event::Recv { at, from } => {
+                let channel = self.channels.get_mut(&(from, at)).unwrap();
+                let message = channel.pop_front().unwrap();
+                self.receive(i, message);
+            }
+            Event::Save { .. } => {}
+        }
+        self.find_next(choice);
+    }
+
+    fn choices(&self) -> Vec<u16> {
+        let procs = self.line.len() as u16;
+        (0..64 + 64 * procs)
+            .filter(|&choice| self.allowed(choice))
+            .collect()
+    }
+}
+
+/// Compares all lines of a trace and a failure with the slow implementation.
+fn compare(trace: &Trace, failure: Failure, orders: bool, random: &mut Random) {
+    let mut table = vec![0; AREA_WORDS];
+    read(&trace.text(), &mut table).unwrap();
+    let slow = Slow::new(trace, failure);
+    let answer = restart(&table, failure).unwrap();
+    let name = || format!("{failure:?}\n{}", String::from_utf8(trace.text()).unwrap());
+    assert_eq!(answer.line(), slow.greatest(), "{}", name());
+    let current = &slow.states[slow.step];
+    let floor = (0..trace.procs)
+        .filter(|z| failure.set >> z & 1 == 1)
+        .map(|z| current[z].0)
+        .min();
+    assert!(answer.line().iter().min() >= floor.as_ref());
+    for (z, state) in current.iter().enumerate() {
+        let at_restart = slow.states[slow.restart(answer.line(), z)][z];
+        assert_eq!(answer.epochs[z], state.0);
+        assert_eq!(answer.phases[z], at_restart.1);
+    }
+    if !orders {
+        return;
+    }
+    for line in slow.lines() {
+        let mut run = vec![7; AREA_WORDS];
+        messages(&table, failure, &line, &mut run).unwrap();
+        assert_eq!(run, slow.list(&line), "{line:?} {}", name());
+
+        let mut wanted = SlowReplay::new(&slow, &line);
+        let mut order = Vec::new();
+        while let Some(&choice) = wanted.choices().first() {
+            wanted.carry_out(choice);
+            order.push(choice);
+        }
+        let replayed = lowest(&table, failure, &line, &mut run).unwrap();
+        assert_eq!(replayed.steps, order.len() as u64, "{line:?} {}", name());
+        assert_eq!(run, wanted.run, "{line:?} {}", name());
+        if slow.listed(&line, 3).is_empty() {
+            assert!(wanted.next.iter().all(|&i| i == trace.events.len() + 1));
+        }
+        run.fill(3);
+        let replayed = replay(&table, failure, &line, &order, &mut run).unwrap();
+        assert!(replayed.complete);
+        assert_eq!(run, wanted.run, "{line:?} {}", name());
+
+        let mut wanted = SlowReplay::new(&slow, &line);
+        let length = random.below(order.len() + 1);
+        let mut order = Vec::new();
+        while order.len() < length && !wanted.choices().is_empty() {
+            let choice = random.pick(&wanted.choices());
+            wanted.carry_out(choice);
+            order.push(choice);
+        }
+        let replayed = replay(&table, failure, &line, &order, &mut run).unwrap();
+        assert_eq!(replayed.complete, wanted.choices().is_empty());
+        assert_eq!(run, wanted.run, "{line:?} {order:?} {}", name());
+
+        let choice = match random.below(3) {
+            0 => random.below(trace.procs) as u16,
+            1 => 64 + 64 * random.below(trace.procs) as u16 + random.below(trace.procs) as u16,
+            _ => random.bits() as u16,
+        };
+        order.push(choice);
+        let replayed = replay(&table, failure, &line, &order, &mut run);
+        if wanted.allowed(choice) {
+            wanted.carry_out(choice);
+            assert_eq!(run, wanted.run);
+            assert_eq!(replayed.unwrap().steps, order.len() as u64);
+        } else {
+            assert_eq!(replayed, Err(Refusal::new(Cause::Choice, order.len())));
+            assert_eq!(run, vec![0; AREA_WORDS]);
+        }
+    }
+}
+
+#[test]
+fn lines_of_all_small_traces() {
+    let mut random = Random::new(1);
+    for (procs, events) in [(2, 5), (3, 4)] {
+        each_trace(procs, events, |trace| {
+            for step in 0..=trace.events.len() as u64 {
+                for set in 1..1 << procs {
+                    let orders = step as usize + 1 >= trace.events.len() && random.percent(2);
+                    compare(trace, failure(step, set), orders, &mut random);
+                }
+            }
+        });
+    }
+}
+
+#[test]
+fn replays_of_small_traces() {
+    let mut random = Random::new(2);
+    for round in 0..1_500 {
+        let shape = Shape::ALL[round % Shape::ALL.len()];
+        let procs = 2 + random.below(3);
+        let events = random.below(24);
+        let trace = shape.trace(procs, events, &mut random);
+        let failure = shape.failure(&trace, &mut random);
+        let lines: u32 = Slow::new(&trace, failure).states[failure.step as usize]
+            .iter()
+            .map(|state| state.0 + 1)
+            .product();
+        if lines <= 100 {
+            compare(&trace, failure, true, &mut random);
+        }
+    }
+}
+
+#[test]
+fn steep_traces_are_steep() {
+    let mut random = Random::new(3);
+    let trace = Shape::Steep.trace(2, MAX_EVENTS, &mut random);
+    let mut table = vec![0; AREA_WORDS];
+    read(&trace.text(), &mut table).unwrap();
+    let restart = restart(&table, failure(MAX_EVENTS as u64, 2)).unwrap();
+    assert_eq!(restart.line(), [32, 2]);
+    assert!(restart.phases[..2].iter().max() > Some(&200), "{restart:?}");
+}

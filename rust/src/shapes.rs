@@ -1,0 +1,326 @@
+//! Traces of several shapes, made at random, to try calls on.
+
+use crate::{Failure, MAX_PROCS};
+use std::io::Write;
+
+/// Numbers that look random and are the same for the same seed.
+#[derive(Clone)]
+pub struct Random(u64);
+
+impl Random {
+    /// A new row of numbers.
+    pub fn new(seed: u64) -> Random {
+        Random(seed)
+    }
+
+    /// The next 64 bits.
+    pub fn bits(&mut self) -> u64 {
+        self.0 = self.0.wrapping_add(0x9e37_79b9_7f4a_7c15);
+        let mut bits = self.0;
+        bits = (bits ^ bits >> 30).wrapping_mul(0xbf58_476d_1ce4_e5b9);
+        bits = (bits ^ bits >> 27).wrapping_mul(0x94d0_49bb_1331_11eb);
+        bits ^ bits >> 31
+    }
+
+    /// A number below `limit`, which is not 0.
+    pub fn below(&mut self, limit: usize) -> usize {
+        (self.bits() % limit as u64) as usize
+    }
+
+    /// Yes, so many times in a hundred.
+    pub fn percent(&mut self, times: usize) -> bool {
+        self.below(100) < times
+    }
+
+    /// One of these.
+    pub fn pick<T: Copy>(&mut self, from: &[T]) -> T {
+        from[self.below(from.len())]
+    }
+}
+
+/// What an event of a trace does.
+#[derive(Clone, Copy, Debug, PartialEq, Eq)]
+pub enum Event {
+    /// Process `at` sends a value to process `to`.
+    Send {
+        /// The sender.
+        at: usize,
+        /// The receiver.
+        to: usize,
+        /// The value.
+        val: u32,
+    },
+    /// Process `at` receives the oldest message from process `from`.
+    Recv {
+        /// The receiver.
+        at: usize,
+        /// The sender.
+        from: usize,
+    },
+    /// Process `at` saves its state.
+    Save {
+        /// The process.
+        at: usize,
+    },
+}
+
+/// A trace: how many processes, and what they do.
+#[derive(Clone, Debug, PartialEq, Eq)]
+pub struct Trace {
+    /// How many processes.
+    pub procs: usize,
+    /// The events in order.
+    pub events: Vec<Event>,
+}
+
+impl Trace {
+    /// The text of this trace.
+    pub fn text(&self) -> Vec<u8> {
+        let mut text = format!("procs={}\n", self.procs).into_bytes();
+        for event in &self.events {
+            match event {
+                Event::Send { at, to, val } => {
+                    writeln!(text, "ev=send at={at} to={to} val={val}")
+                }
+                Event::Recv { at, from } => writeln!(text, "ev=recv at={at} from={from}"),
+                Event::Save { at } => writeln!(text, "ev=save at={at}"),
+            }
+            .expect("a vector takes all bytes");
+        }
+        text
+    }
+
+    /// The text of this trace with a failure line.
+    pub fn text_with(&self, failure: Failure) -> Vec<u8> {
+        let mut text = self.text();
+        text.extend(format!("fail={} set={}\n", failure.step, failure.set).bytes());
+        text
+    }
+}
+
+/// Visits all traces of so many processes with at most so many events; a value is the place of its
+/// send.
+pub fn each_trace(procs: usize, events: usize, mut visit: impl FnMut(&Trace)) {
+    let mut trace = Trace {
+        procs,
+        events: Vec::new(),
+    };
+    let mut in_transit = vec![0; procs * procs];
+    each_longer(&mut trace, &mut in_transit, events, &mut visit);
+}
+
+/// Visits all traces that go on from this one with at most so many events. `in_transit` has how many
+/// messages are in transit from each process to each.
+fn each_longer(
+    trace: &mut Trace,
+    in_transit: &mut [usize],
+    more: usize,
+    visit: &mut impl FnMut(&Trace),
+) {
+    visit(trace);
+    if more == 0 {
+        return;
+    }
+    let val = trace.events.len() as u32 + 1;
+    for at in 0..trace.procs {
+        for peer in 0..trace.procs {
+            let to_peer = at * trace.procs + peer;
+            let from_peer = peer * trace.procs + at;
+            if at == peer {
+                trace.events.push(Event::Save { at });
+                each_longer(trace, in_transit, more - 1, visit);
+                trace.events.pop();
+                continue;
+            }
+            trace.events.push(Event::Send { at, to: peer, val });
+            in_transit[to_peer] += 1;
+            each_longer(trace, in_transit, more - 1, visit);
+            in_transit[to_peer] -= 1;
+            trace.events.pop();
+            if in_transit[from_peer] > 0 {
+                trace.events.push(Event::Recv { at, from: peer });
+                in_transit[from_peer] -= 1;
+                each_longer(trace, in_transit, more - 1, visit);
+                in_transit[from_peer] += 1;
+                trace.events.pop();
+            }
+        }
+    }
+}
+
+/// How the processes of a trace behave.
+#[derive(Clone, Copy, Debug, PartialEq, Eq)]
+pub enum Shape {
+    /// Each sends to all others.
+    Dense,
+    /// Each sends to the next one.
+    Ring,
+    /// Each sends mostly to those of its own cluster.
+    Clusters,
+    /// Dense, with many checkpoints.
+    Checkpoints,
+    /// One half sends and never receives, so that its failure leaves many orphans.
+    Orphans,
+    /// One half is an epoch ahead of the other, and phases rise with each turn between them.
+    Steep,
+}
+
+/// How often processes save and receive.
+#[derive(Clone, Copy, Debug)]
+pub struct Habits {
+    /// How many events in a hundred are saves, while a process has one left.
+    pub saves: usize,
+    /// How many of the others in a hundred are receives, while something is in transit.
+    pub receives: usize,
+    /// With more messages than this in transit, none is sent.
+    pub in_transit: usize,
+}
+
+impl Shape {
+    /// All shapes.
+    pub const ALL: [Shape; 6] = [
+        Shape::Dense,
+        Shape::Ring,
+        Shape::Clusters,
+        Shape::Checkpoints,
+        Shape::Orphans,
+        Shape::Steep,
+    ];
+
+    /// The name of this shape.
+    pub fn name(self) -> &'static str {
+        match self {
+            Shape::Dense => "dense",
+            Shape::Ring => "ring",
+            Shape::Clusters => "clusters",
+            Shape::Checkpoints => "checkpoints",
+            Shape::Orphans => "orphans",
+            Shape::Steep => "steep",
+        }
+    }
+
+    /// Who sends next, and to whom.
+    fn channel(self, procs: usize, random: &mut Random) -> (usize, usize) {
+        let half = procs / 2;
+        let other = |at: usize, random: &mut Random| (at + 1 + random.below(procs - 1)) % procs;
+        let at = random.below(procs);
+        match self {
+            Shape::Dense | Shape::Checkpoints => (at, other(at, random)),
+            Shape::Ring => (at, (at + 1) % procs),
+            Shape::Clusters => {
+                let start = at / 4 * 4;
+                let size = (procs - start).min(4);
+                if size == 1 || random.percent(8) {
+                    (at, other(at, random))
+                } else {
+                    (at, start + (at - start + 1 + random.below(size - 1)) % size)
+                }
+            }
+            Shape::Orphans if procs - half > 1 && random.percent(30) => {
+                let at = random.below(procs - half);
+                let step = 1 + random.below(procs - half - 1);
+                (half + at, half + (at + step) % (procs - half))
+            }
+            Shape::Orphans => (random.below(half), half + random.below(procs - half)),
+            Shape::Steep => {
+                let low = random.below(half);
+                let high = half + random.below(procs - half);
+                random.pick(&[(low, high), (high, low)])
+            }
+        }
+    }
+
+    /// How often processes of this shape save and receive, if nothing else is said.
+    pub fn habits(self, procs: usize, events: usize) -> Habits {
+        let saves = match self {
+            Shape::Checkpoints => 30,
+            Shape::Steep if events > 256 => 0,
+            Shape::Steep => 1,
+            _ => 3,
+        };
+        match self {
+            Shape::Steep => Habits {
+                saves,
+                receives: 100,
+                in_transit: procs / 2,
+            },
+            _ => Habits {
+                saves,
+                receives: 45,
+                in_transit: 2 * procs,
+            },
+        }
+    }
+
+    /// A trace of this shape.
+    pub fn trace(self, procs: usize, events: usize, random: &mut Random) -> Trace {
+        self.trace_with(self.habits(procs, events), procs, events, random)
+    }
+
+    /// A trace of this shape, with habits of its own.
+    pub fn trace_with(
+        self,
+        habits: Habits,
+        procs: usize,
+        events: usize,
+        random: &mut Random,
+    ) -> Trace {
+        let mut made = Vec::with_capacity(events);
+        let mut in_transit: Vec<(usize, usize)> = Vec::new();
+        let mut saves = [0; MAX_PROCS];
+        if self == Shape::Steep {
+            let ahead = saves[..procs].iter_mut().enumerate().skip(procs / 2);
+            for (at, saves) in ahead.take(events) {
+                *saves += 1;
+                made.push(Event::Save { at });
+            }
+        }
+        while made.len() < events {
+            let at = random.below(procs);
+            let full = in_transit.len() > habits.in_transit;
+            if saves[at] < 30 && random.percent(habits.saves) {
+                saves[at] += 1;
+                made.push(Event::Save { at });
+            } else if !in_transit.is_empty() && (full || random.percent(habits.receives)) {
+                let (from, to) = in_transit.swap_remove(random.below(in_transit.len()));
+                made.push(Event::Recv { at: to, from });
+            } else {
+                let (at, to) = self.channel(procs, random);
+                let val = random.bits() as u32 >> random.pick(&[0, 16, 30]);
+                in_transit.push((at, to));
+                made.push(Event::Send { at, to, val });
+            }
+        }
+        Trace {
+            procs,
+            events: made,
+        }
+    }
+
+    /// A failure of a trace of this shape.
+    pub fn failure(self, trace: &Trace, random: &mut Random) -> Failure {
+        let events = trace.events.len();
+        let step = match random.below(4) {
+            0 => events,
+            1 => events - random.below(events / 8 + 1),
+            _ => random.below(events + 1),
+        };
+        // the processes that may fail: from which on, and how many
+        let half = trace.procs / 2;
+        let (first, count) = match self {
+            Shape::Orphans => (0, half),
+            Shape::Steep if random.percent(75) => (half, trace.procs - half),
+            _ => (0, trace.procs),
+        };
+        let all = u64::MAX >> (MAX_PROCS - count) << first;
+        let set = match random.below(4) {
+            0 => random.bits() & all,
+            1 => random.bits() & random.bits() & random.bits() & all,
+            _ => 0,
+        };
+        Failure {
+            step: step as u64,
+            set: set | 1 << (first + random.below(count)),
+        }
+    }
+}

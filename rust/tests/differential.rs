@@ -1,0 +1,832 @@
+//! Compares the archive with the reference: every number of every answer, every word of every area.
+//!
+//! `cargo test --test differential -- [rounds [first round]]`; or `HALLBACK_ROUNDS` says how many
+//! rounds. A round is made from its number alone, so that one that differs can be run again; before
+//! round 1 come texts at the limits and all small traces. Ends with how many calls were compared and
+//! how many differ, and fails if any does.
+
+#[cfg(not(hallback_archive))]
+fn main() {
+    eprintln!(
+        "differential: nothing to compare with, since ../target/staticlib/libcapi.a was not there \
+         when this was built; build it (rt staticlib capi), then run this again"
+    );
+    std::process::exit(1);
+}
+
+#[cfg(hallback_archive)]
+fn main() {
+    let from_environment = std::env::var("HALLBACK_ROUNDS").ok();
+    let mut numbers = std::env::args()
+        .skip(1)
+        .chain(from_environment)
+        .filter_map(|argument| argument.parse().ok());
+    let rounds = numbers.next().unwrap_or(compare::QUICK_ROUNDS);
+    let first = numbers.next().unwrap_or(1);
+    if !compare::compare(first..first + rounds) {
+        std::process::exit(1);
+    }
+}
+
+#[cfg(hallback_archive)]
+mod compare {
+    use hallback::shapes::{each_trace, Random, Shape, Trace};
+    use hallback::{raw, reference};
+    use hallback::{Failure, Refusal, Restart, AREA_WORDS, MAX_EVENTS, MAX_PROCS, STAY};
+    use std::collections::BTreeMap;
+    use std::ops::Range;
+    use std::path::Path;
+    use std::time::Instant;
+
+    /// How many rounds are run if nothing is said; under a minute.
+    pub const QUICK_ROUNDS: u64 = 2_000;
+
+    /// What words of an answer hold before a call.
+    const UNTOUCHED: u64 = 0x5eed_0bad_c0de_f00d;
+
+    /// How many words each answer has.
+    const READ: usize = 1;
+    const READ_FAILURE: usize = 3;
+    const RESTART: usize = 4 + 3 * MAX_PROCS;
+    const MESSAGES: usize = 4;
+    const REPLAY: usize = 3;
+
+    /// The numbers of an accepted answer after its place, or a refusal.
+    type Wanted = Result<Vec<u64>, Refusal>;
+
+    /// Of one call, how many were compared, accepted and differ.
+    #[derive(Default)]
+    struct Tally {
+        compared: u64,
+        accepted: u64,
+        differ: u64,
+    }
+
+    /// What is compared, from round to round.
+    struct Comparison {
+        round: u64,
+        random: Random,
+        tallies: BTreeMap<&'static str, Tally>,
+        refusals: BTreeMap<(&'static str, u32), u64>,
+    }
+
+    /// A trace area, a failure, a line, an order and a run area to be given to a call.
+    #[derive(Clone, Copy)]
+    struct Input<'a> {
+        table: &'a [u32],
+        failure: Failure,
+        line: &'a [u32],
+        order: &'a [u16],
+        run: &'a [u32],
+    }
+
+    pub fn compare(rounds: Range<u64>) -> bool {
+        let start = Instant::now();
+        let mut comparison = Comparison {
+            round: 0,
+            random: Random::new(0),
+            tallies: BTreeMap::new(),
+            refusals: BTreeMap::new(),
+        };
+        let count = rounds.end - rounds.start;
+        if rounds.start == 1 {
+            comparison.fixed_texts();
+            comparison.small_traces();
+        }
+        for round in rounds {
+            comparison.round = round;
+            comparison.random = Random::new(round.wrapping_mul(0x0123_4567_89ab_cdef));
+            comparison.round();
+        }
+        comparison.conclude(count, start)
+    }
+
+    fn restart_words(restart: Restart) -> Vec<u64> {
+        let mut words = vec![restart.count as u64, restart.back, restart.going];
+        for numbers in [restart.numbers, restart.epochs, restart.phases] {
+            words.extend(numbers.map(u64::from));
+        }
+        words
+    }
+
+    impl Comparison {
+        fn conclude(&self, rounds: u64, start: Instant) -> bool {
+            for (call, tally) in &self.tallies {
+                println!(
+                    "{call:13} compared {:8}  accepted {:8}  differ {}",
+                    tally.compared, tally.accepted, tally.differ
+                );
+                let refusals: Vec<_> = self
+                    .refusals
+                    .iter()
+                    .filter(|((refused, _), _)| refused == call)
+                    .map(|((_, number), count)| format!("{number}: {count}"))
+                    .collect();
+                if !refusals.is_empty() {
+                    println!("{:13} refused  {}", "", refusals.join(", "));
+                }
+            }
+            let compared: u64 = self.tallies.values().map(|tally| tally.compared).sum();
+            let differ: u64 = self.tallies.values().map(|tally| tally.differ).sum();
+            println!(
+                "{rounds} rounds, {compared} compared, {differ} differ, {:.1} s",
+                start.elapsed().as_secs_f64()
+            );
+            differ == 0
+        }
+
+        /// Takes note of a comparison; what differs, if something does, is said by `differences`.
+        fn note(
+            &mut self,
+            call: &'static str,
+            wanted: &Wanted,
+            differences: Vec<String>,
+            input: &dyn Fn() -> String,
+        ) {
+            let tally = self.tallies.entry(call).or_default();
+            tally.compared += 1;
+            match wanted {
+                Ok(_) => tally.accepted += 1,
+                Err(refusal) => {
+                    let key = (call, refusal.cause.number());
+                    *self.refusals.entry(key).or_default() += 1;
+                }
+            }
+            if differences.is_empty() {
+                return;
+            }
+            tally.differ += 1;
+            if tally.differ > 5 {
+                return;
+            }
+            let name = format!("differs-{call}-{}-{}.txt", self.round, tally.differ);
+            let path = Path::new(env!("CARGO_TARGET_TMPDIR")).join(name);
+            std::fs::write(&path, input()).expect("the input of a difference can be written");
+            println!("round {}: {call} differs, input in {path:?}", self.round);
+            for difference in differences {
+                println!("    {difference}");
+            }
+        }
+
+        /// Calls the engine with an answer of some length, and compares number and answer.
+        fn answer(
+            &mut self,
+            wanted: &Wanted,
+            words: usize,
+            engine: impl FnOnce(&mut [u64]) -> u32,
+        ) -> Vec<String> {
+            let (number, mut numbers) = match wanted {
+                Ok(numbers) => (0, [&[0], &numbers[..]].concat()),
+                Err(refusal) => (refusal.cause.number(), vec![refusal.place]),
+            };
+            numbers.resize(words, 0);
+            let room = match self.random.below(8) {
+                0 => self.random.below(words + 1),
+                1 => words + self.random.below(9),
+                _ => words,
+            };
+            numbers.resize(words.max(room), UNTOUCHED);
+            numbers.truncate(room);
+            let mut answer = vec![UNTOUCHED; room];
+            let got = engine(&mut answer);
+            let mut differences = Vec::new();
+            if got != number {
+                differences.push(format!("engine's number {got}, reference's {number}"));
+            }
+            if answer != numbers {
+                differences.push(format!(
+                    "engine's answer {answer:?}, reference's {numbers:?}"
+                ));
+            }
+            differences
+        }
+
+        /// Words to begin with in a lent area that is long enough.
+        fn area(&mut self) -> Vec<u32> {
+            let more = self.random.pick(&[0, 0, 1, 17, 4_000]);
+            self.area_of(AREA_WORDS + more)
+        }
+
+        fn area_of(&mut self, length: usize) -> Vec<u32> {
+            let bits = self.random.bits() as u32;
+            match self.random.below(3) {
+                0 => vec![0; length],
+                1 => vec![bits; length],
+                _ => (0..length as u32).map(|i| i.wrapping_mul(bits)).collect(),
+            }
+        }
+
+        /// An area of a length that may be too short.
+        fn short_area(&mut self) -> Vec<u32> {
+            let length = match self.random.below(4) {
+                0 => 0,
+                1 => AREA_WORDS - 1,
+                2 => AREA_WORDS,
+                _ => self.random.below(AREA_WORDS),
+            };
+            self.area_of(length)
+        }
+
+        fn read(&mut self, text: &[u8], area: Vec<u32>) {
+            let mut wanted_area = area.clone();
+            let wanted = reference::read(text, &mut wanted_area).map(|()| vec![]);
+            let mut table = area;
+            let mut differences =
+                self.answer(&wanted, READ, |answer| raw::read(text, &mut table, answer));
+            differences.extend(words_differ("table", &table, &wanted_area));
+            let input = || String::from_utf8_lossy(text).into_owned();
+            self.note("read", &wanted, differences, &input);
+        }
+
+        fn read_failure(&mut self, text: &[u8], area: Vec<u32>) {
+            let mut wanted_area = area.clone();
+            let wanted = reference::read_failure(text, &mut wanted_area)
+                .map(|failure| vec![failure.step, failure.set]);
+            let mut table = area;
+            let mut differences = self.answer(&wanted, READ_FAILURE, |answer| {
+                raw::read_failure(text, &mut table, answer)
+            });
+            differences.extend(words_differ("table", &table, &wanted_area));
+            let input = || String::from_utf8_lossy(text).into_owned();
+            self.note("read_failure", &wanted, differences, &input);
+        }
+
+        fn report(&mut self, text: &[u8]) {
+            let room = match self.random.below(8) {
+                0 => self.random.below(100),
+                1 => self.random.below(5_000),
+                _ => hallback::REPORT_BYTES,
+            };
+            let mut wanted = vec![b'~'; room];
+            let mut out = wanted.clone();
+            let wanted_length = reference::report(text, &mut wanted);
+            let length = raw::report(text, &mut out);
+            let mut differences = Vec::new();
+            if length != wanted_length || out != wanted {
+                differences.push(format!(
+                    "engine's report\n{}\nreference's\n{}",
+                    String::from_utf8_lossy(&out[..length.min(out.len())]),
+                    String::from_utf8_lossy(&wanted[..wanted_length])
+                ));
+            }
+            let input = || String::from_utf8_lossy(text).into_owned();
+            self.note("report", &Ok(vec![]), differences, &input);
+        }
+
+        /// All calls that take a text.
+        fn text(&mut self, text: &[u8]) {
+            let area = self.area();
+            self.read(text, area);
+            let area = self.area();
+            self.read_failure(text, area);
+            self.report(text);
+        }
+
+        fn restart(&mut self, input: Input) {
+            let Input { table, failure, .. } = input;
+            let wanted = reference::restart(table, failure).map(restart_words);
+            let differences = self.answer(&wanted, RESTART, |answer| {
+                raw::restart(table, failure.step, failure.set, answer)
+            });
+            self.note("restart", &wanted, differences, &|| describe(input));
+        }
+
+        fn messages(&mut self, input: Input) {
+            let Input {
+                table,
+                failure,
+                line,
+                ..
+            } = input;
+            let mut wanted_run = input.run.to_vec();
+            let wanted = reference::messages(table, failure, line, &mut wanted_run)
+                .map(|counts| vec![counts.orphans, counts.kept, counts.lost]);
+            let mut run = input.run.to_vec();
+            let mut differences = self.answer(&wanted, MESSAGES, |answer| {
+                raw::messages(table, failure.step, failure.set, line, &mut run, answer)
+            });
+            differences.extend(words_differ("run", &run, &wanted_run));
+            self.note("messages", &wanted, differences, &|| describe(input));
+        }
+
+        fn replay(&mut self, input: Input) {
+            let Input {
+                table,
+                failure,
+                line,
+                order,
+                ..
+            } = input;
+            let mut wanted_run = input.run.to_vec();
+            let wanted = reference::replay(table, failure, line, order, &mut wanted_run)
+                .map(|replayed| vec![replayed.steps, u64::from(replayed.complete)]);
+            let mut run = input.run.to_vec();
+            let (step, set) = (failure.step, failure.set);
+            let mut differences = self.answer(&wanted, REPLAY, |answer| {
+                raw::replay(table, step, set, line, order, &mut run, answer)
+            });
+            differences.extend(words_differ("run", &run, &wanted_run));
+            self.note("replay", &wanted, differences, &|| describe(input));
+        }
+
+        fn lowest(&mut self, input: Input) {
+            let Input {
+                table,
+                failure,
+                line,
+                ..
+            } = input;
+            let mut wanted_run = input.run.to_vec();
+            let wanted = reference::lowest(table, failure, line, &mut wanted_run)
+                .map(|replayed| vec![replayed.steps, u64::from(replayed.complete)]);
+            let mut run = input.run.to_vec();
+            let mut differences = self.answer(&wanted, REPLAY, |answer| {
+                raw::lowest(table, failure.step, failure.set, line, &mut run, answer)
+            });
+            differences.extend(words_differ("run", &run, &wanted_run));
+            self.note("lowest", &wanted, differences, &|| describe(input));
+        }
+
+        /// Texts at the limits, which random ones seldom reach.
+        fn fixed_texts(&mut self) {
+            let send = "ev=send at=0 to=1 val=4294967295\n";
+            let receive = "ev=recv at=1 from=0\n";
+            let save = "ev=save at=1\n";
+            let failures = [
+                "",
+                "fail=0 set=1\n",
+                "fail=2048 set=3\n",
+                "fail=2049 set=1\n",
+                "fail=4294967295 set=1\n",
+                "fail=4294967296 set=1\n",
+                "fail=1 set=0\n",
+                "fail=1 set=4\n",
+                "fail=1 set=18446744073709551615\n",
+                "fail=1 set=18446744073709551616\n",
+                "fail=01 set=1\n",
+                "fail=1 set=01\n",
+                "fail=1 set=1",
+                "fail=1 set=1\n\n",
+                "fail=1 set=1\nfail=1 set=1\n",
+                "x",
+            ];
+            let counts = ["0", "1", "2", "64", "65", "02", "4294967295", "4294967296"];
+            for procs in counts {
+                for failure in failures {
+                    for events in [
+                        String::new(),
+                        send.to_string(),
+                        send.repeat(2),
+                        format!("{send}{receive}{receive}"),
+                        save.repeat(30),
+                        save.repeat(31),
+                        send.repeat(2_047),
+                        send.repeat(2_048),
+                        send.repeat(2_049),
+                        format!("{}{}", send.repeat(1_024), receive.repeat(1_024)),
+                        format!("{}{}", send.repeat(1_024), receive.repeat(1_025)),
+                        format!("{}ev=save at=99\n", send.repeat(2_048)),
+                        format!("{}ev=save at=99", send.repeat(2_048)),
+                        format!("{}{}", save.repeat(30), send.repeat(2_018)),
+                    ] {
+                        self.text(format!("procs={procs}\n{events}{failure}").as_bytes());
+                    }
+                }
+            }
+        }
+
+        /// All traces of two processes with few events, each with all failures and all lines.
+        fn small_traces(&mut self) {
+            let run = self.area_of(AREA_WORDS);
+            let mut table = run.clone();
+            each_trace(2, 4, |trace| {
+                reference::read(&trace.text(), &mut table).expect("the trace is fit");
+                for step in 0..=trace.events.len() as u64 {
+                    for set in 1..4 {
+                        let failure = Failure { step, set };
+                        let restart = reference::restart(&table, failure);
+                        let epochs = restart.expect("the failure is fit").epochs;
+                        let numbers = |z: usize| (1..=epochs[z]).chain([STAY]);
+                        for first in numbers(0) {
+                            for second in numbers(1) {
+                                let line = [first, second];
+                                let order = lowest_order(&table, failure, &line);
+                                self.table(Input {
+                                    table: &table,
+                                    failure,
+                                    line: &line,
+                                    order: &order,
+                                    run: &run,
+                                });
+                            }
+                        }
+                    }
+                }
+            });
+        }
+
+        /// All calls that take a table area.
+        fn table(&mut self, input: Input) {
+            self.restart(input);
+            self.messages(input);
+            self.replay(input);
+            self.lowest(input);
+        }
+
+        fn round(&mut self) {
+            let random = &mut self.random;
+            let (procs, events) = match random.below(20) {
+                0..=8 => (2 + random.below(4), random.below(40)),
+                9..=14 => (2 + random.below(15), random.below(300)),
+                15..=16 => (MAX_PROCS - random.below(2), random.below(600)),
+                17..=18 => (2 + random.below(63), random.below(MAX_EVENTS + 1)),
+                _ => (random.pick(&[2, 3, 8, 64]), MAX_EVENTS),
+            };
+            let shape = random.pick(&Shape::ALL);
+            let mut habits = shape.habits(procs, events);
+            if random.percent(50) {
+                habits.saves = random.pick(&[0, 1, 5, 20, 60]);
+                habits.receives = random.pick(&[10, 30, 49, 70]);
+                habits.in_transit = random.pick(&[1, procs, MAX_EVENTS]);
+            }
+            let trace = shape.trace_with(habits, procs, events, random);
+            let failure = shape.failure(&trace, random);
+            self.texts(&trace, failure);
+
+            let mut table = self.area();
+            reference::read(&trace.text(), &mut table).expect("the trace is fit");
+            let before = table.clone();
+            for _ in 0..2 {
+                let failure = shape.failure(&trace, &mut self.random);
+                self.lines(&table, failure);
+            }
+            self.unfit(&trace, failure, &table);
+            self.typed(&trace, failure, &table);
+            assert_eq!(table, before, "a table that is only read was written");
+        }
+
+        /// The calls with answers as types, areas left aside.
+        fn typed(&mut self, trace: &Trace, failure: Failure, table: &[u32]) {
+            let text = trace.text();
+            let with_failure = trace.text_with(failure);
+            let restart = reference::restart(table, failure).expect("the failure is fit");
+            let line = self.random.pick(&[restart.line(), restart.line(), &[]]);
+            let mut order = lowest_order(table, failure, line);
+            order.truncate(self.random.below(order.len() + 1));
+            let (mut a, mut b) = (self.area(), self.area());
+            let (mut out, mut wanted_out) = ([0; 200], [0; 200]);
+            let length = reference::report(&with_failure, &mut wanted_out);
+            let equal = [
+                hallback::read(&text, &mut a) == reference::read(&text, &mut b),
+                hallback::read_failure(&with_failure, &mut a)
+                    == reference::read_failure(&with_failure, &mut b),
+                hallback::restart(table, failure) == Ok(restart),
+                hallback::messages(table, failure, line, &mut a)
+                    == reference::messages(table, failure, line, &mut b),
+                hallback::lowest(table, failure, line, &mut a)
+                    == reference::lowest(table, failure, line, &mut b),
+                hallback::replay(table, failure, line, &order, &mut a)
+                    == reference::replay(table, failure, line, &order, &mut b),
+                hallback::report(&with_failure, &mut out) == &wanted_out[..length],
+            ];
+            let differences: Vec<_> = (1..)
+                .zip(equal)
+                .filter(|(_, equal)| !equal)
+                .map(|(call, _)| format!("typed call {call}"))
+                .collect();
+            let run = &b;
+            let input = Input {
+                table,
+                failure,
+                line,
+                order: &order,
+                run,
+            };
+            self.note("typed", &Ok(vec![]), differences, &|| describe(input));
+        }
+
+        /// The texts of a trace, edits of them, and bytes that are none.
+        fn texts(&mut self, trace: &Trace, failure: Failure) {
+            let text = trace.text();
+            let with_failure = trace.text_with(failure);
+            self.text(&text);
+            self.text(&with_failure);
+            for _ in 0..4 {
+                let mut edited = self.random.pick(&[&text, &with_failure]).clone();
+                for _ in 0..1 + self.random.below(2) {
+                    edit(&mut edited, &mut self.random);
+                }
+                self.text(&edited);
+            }
+            let length = self.random.below(60);
+            let letters: &[u8] = self.random.pick(&[
+                b"procs=2\nev=send at=0 to=1 val=5\nfail=0 set=1\n" as &[u8],
+                b"0123456789\n =",
+            ]);
+            let from_letters: Vec<u8> = (0..length).map(|_| self.random.pick(letters)).collect();
+            let bytes: Vec<u8> = (0..length).map(|_| self.random.bits() as u8).collect();
+            let text = self.random.pick(&[from_letters.as_slice(), &bytes]);
+            self.text(text);
+            if self.random.percent(5) {
+                let mut long = with_failure.clone();
+                let length = 65_535 + self.random.below(3);
+                long.resize(length, b'\n');
+                self.report(&long);
+            }
+        }
+
+        /// The greatest line of a failure and others, each with several orders.
+        fn lines(&mut self, table: &[u32], failure: Failure) {
+            let restart = reference::restart(table, failure).expect("the failure is fit");
+            self.line(table, failure, restart.line());
+            for _ in 0..2 {
+                let mut line = restart.line().to_vec();
+                let changed = self.random.pick(&[10, 50, 100]);
+                for (z, number) in line.iter_mut().enumerate() {
+                    if self.random.percent(changed) {
+                        let epochs = restart.epochs[z] as usize;
+                        let stays = failure.set >> z & 1 == 0 && self.random.percent(30);
+                        *number = match stays {
+                            true => STAY,
+                            false => 1 + self.random.below(epochs) as u32,
+                        };
+                    }
+                }
+                self.line(table, failure, &line);
+            }
+            let mut line = restart.line().to_vec();
+            let z = self.random.below(line.len());
+            match self.random.below(6) {
+                0 => line.push(1),
+                1 => line.truncate(z),
+                2 => line[z] = restart.epochs[z] + 1,
+                3 => line[z] = STAY,
+                4 => line[z] = 0,
+                _ => line[z] = self.random.pick(&[31, 33, 1 << 16 | 1, u32::MAX]),
+            }
+            self.line(table, failure, &line);
+        }
+
+        /// A line with several orders.
+        fn line(&mut self, table: &[u32], failure: Failure, line: &[u32]) {
+            let run = self.area();
+            let input = Input {
+                table,
+                failure,
+                line,
+                order: &[],
+                run: &run,
+            };
+            self.table(input);
+            let order = lowest_order(table, failure, line);
+            self.replay(Input {
+                order: &order,
+                ..input
+            });
+            let mut order = random_order(table, failure, line, &mut self.random);
+            self.replay(Input {
+                order: &order,
+                ..input
+            });
+            let length = self.random.below(order.len() + 1);
+            self.replay(Input {
+                order: &order[..length],
+                ..input
+            });
+            let choice = match self.random.below(3) {
+                0 => self.random.below(MAX_PROCS),
+                1 => 64 + 64 * self.random.below(line.len() + 1) + self.random.below(MAX_PROCS),
+                _ => self.random.below(1 << 16),
+            } as u16;
+            match order.get_mut(length) {
+                Some(place) if self.random.percent(50) => *place = choice,
+                _ => order.insert(length, choice),
+            }
+            self.replay(Input {
+                order: &order,
+                ..input
+            });
+        }
+
+        /// Failures that are none, damaged tables and areas that are too short.
+        fn unfit(&mut self, trace: &Trace, failure: Failure, table: &[u32]) {
+            let restart = reference::restart(table, failure).expect("the failure is fit");
+            let events = trace.events.len() as u64;
+            let order = lowest_order(table, failure, restart.line());
+            let line = restart.line();
+            let run = self.area();
+            let input = Input {
+                table,
+                failure,
+                line,
+                order: &order,
+                run: &run,
+            };
+
+            let mut unfit = failure;
+            match self.random.below(5) {
+                0 => unfit.step = events + 1,
+                1 => unfit.step = self.random.bits(),
+                2 => unfit.set = 0,
+                3 => unfit.set = self.random.bits(),
+                _ => unfit.set |= (1u64 << 63) >> self.random.below(MAX_PROCS),
+            }
+            self.table(Input {
+                failure: unfit,
+                ..input
+            });
+
+            for _ in 0..2 {
+                let mut damaged = table.to_vec();
+                damage(&mut damaged, &mut self.random);
+                let failure = self.random.pick(&[failure, failure, unfit]);
+                self.table(Input {
+                    table: &damaged,
+                    failure,
+                    ..input
+                });
+            }
+
+            let short = self.short_area();
+            let (table, run) = match self.random.below(3) {
+                0 => (&short[..], &run[..]),
+                1 => (table, &short[..]),
+                _ => (&short[..], &short[..]),
+            };
+            self.table(Input {
+                table,
+                run,
+                ..input
+            });
+            let area = self.short_area();
+            self.read(&trace.text(), area);
+            let area = self.short_area();
+            self.read_failure(&trace.text_with(failure), area);
+        }
+    }
+
+    /// The order of lowest choices, empty if the line is refused.
+    fn lowest_order(table: &[u32], failure: Failure, line: &[u32]) -> Vec<u16> {
+        let order = reference::with_machine(table, failure, line, |machine| {
+            let mut order = Vec::new();
+            loop {
+                let lowest = machine.choices().next();
+                let Some(choice) = lowest else {
+                    return order;
+                };
+                machine.carry_out(choice);
+                order.push(choice);
+            }
+        });
+        order.unwrap_or_default()
+    }
+
+    /// A complete order of allowed choices at random, empty if the line is refused.
+    fn random_order(
+        table: &[u32],
+        failure: Failure,
+        line: &[u32],
+        random: &mut Random,
+    ) -> Vec<u16> {
+        let order = reference::with_machine(table, failure, line, |machine| {
+            let mut order = Vec::new();
+            loop {
+                let choices: Vec<u16> = machine.choices().collect();
+                if choices.is_empty() {
+                    return order;
+                }
+                let choice = random.pick(&choices);
+                machine.carry_out(choice);
+                order.push(choice);
+            }
+        });
+        order.unwrap_or_default()
+    }
+
+    /// The first of the words that differ.
+    fn words_differ(name: &str, engine: &[u32], reference: &[u32]) -> Option<String> {
+        let place = (0..engine.len()).find(|&i| engine[i] != reference[i])?;
+        let count = (0..engine.len())
+            .filter(|&i| engine[i] != reference[i])
+            .count();
+        Some(format!(
+            "{name}: {count} words differ, the first is {place}: engine's {}, reference's {}",
+            engine[place], reference[place]
+        ))
+    }
+
+    /// An input in words; the table as its words that are not zero.
+    fn describe(input: Input) -> String {
+        let table: Vec<_> = (0..input.table.len())
+            .filter(|&i| input.table[i] != 0)
+            .map(|i| format!("{i}:{}", input.table[i]))
+            .collect();
+        format!(
+            "{:?}\nline {:?}\norder {:?}\ntable of {} words, not zero: {}\nrun of {} words\n",
+            input.failure,
+            input.line,
+            input.order,
+            input.table.len(),
+            table.join(" "),
+            input.run.len()
+        )
+    }
+
+    /// Changes something small in a text.
+    fn edit(text: &mut Vec<u8>, random: &mut Random) {
+        if text.is_empty() {
+            text.push(random.bits() as u8);
+            return;
+        }
+        let at = random.below(text.len());
+        let starts = |text: &[u8]| -> Vec<usize> {
+            let after = (0..text.len()).filter(|&i| text[i] == b'\n').map(|i| i + 1);
+            std::iter::once(0).chain(after).collect()
+        };
+        let line = |text: &[u8], random: &mut Random| {
+            let starts = starts(text);
+            let i = random.below(starts.len());
+            starts[i]..starts.get(i + 1).copied().unwrap_or(text.len())
+        };
+        match random.below(11) {
+            0 => text[at] = random.bits() as u8,
+            1 => text[at] ^= 1 << random.below(8),
+            2 => drop(text.remove(at)),
+            3 => text.insert(at, random.pick(b"0123456789 =\nevat")),
+            4 => text.truncate(at),
+            5 => drop(text.drain(line(text, random))),
+            6 => {
+                let copied = text[line(text, random)].to_vec();
+                let at = random.pick(&starts(text));
+                text.splice(at..at, copied);
+            }
+            7 => {
+                let lines: [&[u8]; 8] = [
+                    b"ev=save at=1\n",
+                    b"ev=recv at=0 from=1\n",
+                    b"ev=send at=1 to=0 val=4294967295\n",
+                    b"ev=send at=1 to=1 val=1\n",
+                    b"fail=0 set=1\n",
+                    b"procs=3\n",
+                    b"\n",
+                    b"ev=save at=64\n",
+                ];
+                let at = random.pick(&starts(text));
+                text.splice(at..at, random.pick(&lines).iter().copied());
+            }
+            8 => {
+                let at = random.pick(&starts(text));
+                let more = "ev=save at=0\n".repeat(1 + random.below(40));
+                text.splice(at..at, more.bytes());
+            }
+            _ => {
+                let digits = |i: usize| text.get(i).is_some_and(u8::is_ascii_digit);
+                if let Some(first) = (at..text.len()).find(|&i| digits(i)) {
+                    let end = (first..).find(|&i| !digits(i)).expect("a text has an end");
+                    let numbers: [&[u8]; 13] = [
+                        b"0",
+                        b"1",
+                        b"2",
+                        b"00",
+                        b"",
+                        b"63",
+                        b"64",
+                        b"65",
+                        b"4294967295",
+                        b"4294967296",
+                        b"18446744073709551615",
+                        b"18446744073709551616",
+                        b"99999999999999999999999999",
+                    ];
+                    text.splice(first..end, random.pick(&numbers).iter().copied());
+                }
+            }
+        }
+    }
+
+    /// Changes something small in a table area.
+    fn damage(table: &mut [u32], random: &mut Random) {
+        let events = table[1] as usize;
+        let event = 1 + random.below(events.max(1));
+        match random.below(12) {
+            0 => table[0] = random.pick(&[0, 1, 2, 3, 63, 64, 65, u32::MAX]),
+            1 => table[1] = random.pick(&[0, 1, 2_048, 2_049, events as u32 + 1, u32::MAX]),
+            2 => table[1] = table[1].saturating_sub(1),
+            3 => table[16 + event] ^= 1 << random.below(32),
+            4 => table[16 + event] = random.bits() as u32 & 0x3fff,
+            5 => table[2_065 + event] ^= 1 << random.below(32),
+            6 => table.swap(16 + event, 16 + 1 + random.below(events.max(1))),
+            7 => table[16 + events + 1] = 0x3000 | random.below(2) as u32,
+            8 => table[random.pick(&[2, 3, 16, 2_065, 4_114, 16_383])] ^= 1 << random.below(32),
+            9 => table[2_065 + events + 1] ^= 1,
+            10 => table[random.below(AREA_WORDS)] = random.bits() as u32,
+            _ => {
+                // one more event than there was, which may be fit
+                if events < MAX_EVENTS {
+                    table[1] += 1;
+                    table[16 + events + 1] = random.bits() as u32 & 0x30c3;
+                }
+            }
+        }
+    }
+}
