@@ -17,14 +17,9 @@ use Rattle.theory.proofs.Claims.{floor-failed}
 use Rattle.theory.proofs.Refusals.{line-fit}
 use Rattle.line.specs.declared.Line.{Line}
 use Rattle.line.specs.Given.{Tabled, each, lineIn, lineTo}
-use Rattle.line.specs.Words.{Sized}
-use Rattle.line.proofs.Table.{fit, sized}
+use Rattle.line.proofs.Table.{fit}
 
 module _ (t : Trace) (full : List ℕ) (G : Tabled t full) where
-  -- what every function asks for, from the full table of a trace and a cut in it
-  pub given : (cut : ℕ) → cut ≤ size t → Sized full cut
-  given = sized t full G
-
   module _ (f : ℕ → ℕ) (z : ℕ) where
     -- a line made of numbers has these numbers
     pub line-numbers : z < t .procs → lineIn (lineTo t f) z ≡ f z

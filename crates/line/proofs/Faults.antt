@@ -20,16 +20,8 @@ use Rattle.theory.specs.Line.{inSet, may, current, reached}
 use Rattle.theory.specs.Refusals.{failureFault, permits, lineFault}
 use Rattle.theory.proofs.Refusals.{set-shifted}
 use Rattle.line.specs.Given.{Tabled, each}
-use Rattle.line.specs.Words.{Sized, reachedW, mayStayW, mayW}
+use Rattle.line.specs.Words.{reachedW, mayStayW, mayW}
 use Rattle.line.proofs.Table.{fit, procs-is, size-is}
-
-pub sized-less : (full : List ℕ) (n m : ℕ) → Sized full n → m ≤ n → Sized full m
-sized-less full n m S l = record {
-  whole = S .whole;
-  procs-few = S .procs-few;
-  cut-few = omega (arith, S .cut-few);
-  matched = λ e a b k. S .matched e a (omega arith) k;
-}
 
 -- ---- `names_beyond`, `has_reached`, `may_stay`, `may_hold`
 

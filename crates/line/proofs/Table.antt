@@ -53,6 +53,12 @@ module _ (t : Trace) (full : List ℕ) (G : Tabled t full) where
   pub size-is : getD full 1 0 ≡ size t
   size-is = G .columns .words 1 (omega arith) ∙ word-size t
 
+  pub procs-most : getD full 0 0 ≤ 64
+  procs-most = omega (arith, procs-is, fit .few)
+
+  pub size-most : getD full 1 0 ≤ 2048
+  size-most = omega (arith, size-is, few)
+
   word-is : (e : ℕ) → 0 < e → e ≤ size t → getD full (16 + e) 0 ≡ wordOf (eventAt t e)
   unfolding eventAt
   word-is zero a b = absurd (let z : ⊥ = omega arith in z)
@@ -132,7 +138,7 @@ module _ (t : Trace) (full : List ℕ) (G : Tabled t full) where
   pub sized : (cut : ℕ) → cut ≤ size t → Sized full cut
   sized cut l = record {
     whole = G .columns .whole;
-    procs-few = omega (arith, procs-is, fit .few);
+    procs-few = procs-most;
     cut-few = omega (arith, few);
     matched = λ e a b k.
         let r = kind-receive e a (omega arith) k in

@@ -1,4 +1,4 @@
--- A line in words, lowered at one event after another. Of these the public contracts cite `Sized` only.
+-- A line in words, lowered at one event after another. The contracts of the private functions cite these, the public ones none.
 use Prim.Native.Nat.{ℕ, _+_, _-_, _/_, _%_, _<_, _≤_}
 use mathlib.Core.Path.{_≡_}
 use mathlib.Core.Bool.{Bool, true, false, _&&_, _||_, not}

@@ -1,7 +1,7 @@
 // Recovery lines of a trace, from its full table (crate protocol): the greatest line without a lost message after a failure; the epochs at
 // the cut; of a line the restarts, phases and gates, what is wrong with it (8, 9, 10), and who goes back. specs/Given says how a line stands
-// in words, specs/Words what a function asks for (`Sized`); the contracts are the theory's definitions, for every trace that the table is of.
-// Assumes nothing.
+// in words, and when a table is the full one of a trace (`Tabled`), which each public function on a table asks for; the contracts are the
+// theory's definitions, for every trace that the table is of. specs/Words is what the private functions are about. Assumes nothing.
 ghost use mathlib.Core.Path.{_≡_};
 ghost use mathlib.Core.Bool.{true, false, _&&_, not};
 ghost use lib.Count.{ones};
@@ -98,7 +98,7 @@ fn begin(epochs: &mut [u32], count: usize)
 
 // The epochs of the processes at the cut.
 pub fn epochs_at(full: &[u32], cut: usize, epochs: &mut [u32])
-    requires { ⌜ Sized (now full) cut × (length (now epochs) ≡ 64) ⌝ }
+    requires { ⌜ (length (now epochs) ≡ 64) × ((t : Trace) × Tabled t (now full) × (cut ≤ size t)) ⌝ }
     ensures { λ _. ⌜ ((t : Trace) → Tabled t (now (full .entry)) → cut ≤ size t → now (epochs .exit) ≡ wordsFrom (each t (current t past cut)) 0 64) ⌝ }
 {
     begin(epochs, processes(full));
@@ -253,7 +253,7 @@ fn lower(full: &[u32], epochs: &mut [u32], cut: usize)
 
 // The greatest permitted line without a lost message, for a failure of a set of processes right after event `cut`.
 pub fn greatest(full: &[u32], cut: usize, set: u64) -> Line
-    requires { ⌜ Sized (now full) cut ⌝ }
+    requires { ⌜ ((t : Trace) × Tabled t (now full) × (cut ≤ size t)) ⌝ }
     ensures line { λ r. ⌜ ((t : Trace) → Tabled t (now (full .entry)) → cut ≤ size t → r ≡ lineTo t (greatestLine t past cut (reached t past cut) (inSet set))) ⌝ }
     ensures means { λ r. ⌜ ((t : Trace) → Tabled t (now (full .entry)) → cut ≤ size t → Greatest t past cut (reached t past cut) (inSet set) (lineIn r)) ⌝ }
 {
@@ -325,7 +325,7 @@ fn note_restart(full: &[u32], numbers: &[u32], gates: &mut [u32], e: usize)
 
 // Of each process its phase at the restart, or at the cut where it stays, the event that it restarts after, and whether it stays.
 pub fn restarts(full: &[u32], line: Line, cut: usize, gates: &mut [u32])
-    requires { ⌜ Sized (now full) cut × (length (now gates) ≡ 192) ⌝ }
+    requires { ⌜ (length (now gates) ≡ 192) × ((t : Trace) × Tabled t (now full) × (cut ≤ size t) × (line .count ≡ t .procs)) ⌝ }
     ensures { λ _. ⌜ ((t : Trace) → Tabled t (now (full .entry)) → cut ≤ size t → line .count ≡ t .procs → now (gates .exit) ≡ wordsFrom (restartWord t cut (lineIn line)) 0 192) ⌝ }
 {
     let numbers = line.epochs;
@@ -360,7 +360,7 @@ fn set_gates(gates: &mut [u32], count: usize)
 
 // Of each process its gate, the event that it restarts after, and whether it stays.
 pub fn gates(full: &[u32], line: Line, cut: usize, gates: &mut [u32])
-    requires { ⌜ Sized (now full) cut × (length (now gates) ≡ 192) ⌝ }
+    requires { ⌜ (length (now gates) ≡ 192) × ((t : Trace) × Tabled t (now full) × (cut ≤ size t) × (line .count ≡ t .procs)) ⌝ }
     ensures { λ _. ⌜ ((t : Trace) → Tabled t (now (full .entry)) → cut ≤ size t → line .count ≡ t .procs → now (gates .exit) ≡ wordsFrom (gateWord t cut (lineIn line)) 0 192) ⌝ }
 {
     restarts(full, line, cut, gates);
@@ -380,7 +380,7 @@ fn names_beyond(set: u64, count: usize) -> bool
 
 // What is wrong with a failure: 8, 9, or 0.
 pub fn failure_fault(full: &[u32], step: u64, set: u64) -> u32
-    requires { ⌜ Sized (now full) (getD (now full) 1 0) ⌝ }
+    requires { ⌜ ((t : Trace) × Tabled t (now full)) ⌝ }
     ensures number { λ r. ⌜ ((t : Trace) → Tabled t (now (full .entry)) → r ≡ failureFault t step set) ⌝ }
     ensures within { λ r. ⌜ (r ≡ 0 → step ≤ getD (now (full .entry)) 1 0) ⌝ }
 {
@@ -451,7 +451,7 @@ fn permitted(epochs: &[u32], numbers: &[u32], count: usize, set: u64) -> bool
 
 // What is wrong with a failure and a line: 8, 9, 10, or 0.
 pub fn line_fault(full: &[u32], step: u64, set: u64, line: Line) -> u32
-    requires { ⌜ Sized (now full) (getD (now full) 1 0) ⌝ }
+    requires { ⌜ ((t : Trace) × Tabled t (now full)) ⌝ }
     ensures { λ r. ⌜ ((t : Trace) → Tabled t (now (full .entry)) → r ≡ lineFault t step set (line .count) (lineIn line)) ⌝ }
 {
     let f = failure_fault(full, step, set);

@@ -22,8 +22,7 @@ use Rattle.protocol.specs.Columns.{Columns}
 use Rattle.protocol.proofs.Passes.{held-formed}
 use Rattle.line.specs.declared.Line.{Line}
 use Rattle.line.specs.Given.{Tabled, lineIn, gateWord}
-use Rattle.line.specs.Words.{Sized}
-use Rattle.line.proofs.Table.{sized, size-is}
+use Rattle.line.proofs.Table.{size-is}
 use Rattle.replay.specs.Given.{Given}
 
 -- `tabulate` on a table of 16,384 words says whether the area holds a trace
@@ -37,9 +36,6 @@ fresh-holds a r e = tabled-holds a (replicate {A = ℕ} 16384 0) r (length-repli
 module _ (a full : List ℕ) (h : holdsTrace a ≡ true) (C : Columns (held a) full) where
   pub tabled : Tabled (held a) full
   tabled = record { formed = held-formed a h; columns = C }
-
-  pub sized-all : Sized full (getD full 1 0)
-  sized-all = let e = size-is (held a) full tabled in sized (held a) full tabled (getD full 1 0) (omega arith)
 
   -- a failure whose step is within the events that the table counts
   pub size-of : (step : ℕ) → step ≤ getD full 1 0 → step ≤ size (held a)
@@ -55,9 +51,6 @@ module _ (a full : List ℕ) (h : holdsTrace a ≡ true) (C : Columns (held a) f
 
     pub count-is : l .count ≡ held a .procs
     count-is = taken .count-is
-
-    pub sized-cut : Sized full step
-    sized-cut = sized (held a) full tabled step step-within
 
     module _ (gates : List ℕ) (g : gates ≡ wordsFrom (gateWord (held a) step (lineIn l)) 0 192) where
       few : held a .procs ≤ 64

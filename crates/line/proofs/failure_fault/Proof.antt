@@ -1,9 +1,16 @@
 -- `line::failure_fault` meets its contract: each way out gives the number that the theory gives.
+use Rattle.line.proofs.Table.{procs-most, size-most}
 use Rattle.line.proofs.Faults.{fault-8, fault-empty, fault-beyond, fault-none}
 use native.Mathlib.Omega.{arith}
 use borrow.Author.Needs.{needs}
 use Rattle.line.proofs.failure_fault.Statement.{statement}
 use Rattle.line.proofs.failure_fault.Tie as tie
+
+cast-if1 : tie.Need-cast-if1
+cast-if1 c =
+    let pre = c .before .before .pre in
+    let m = size-most (pre .0) _ (pre .1) in
+    search needs
 
 returns : tie.Need-returns
 returns c =
@@ -15,6 +22,11 @@ returns-2 c =
     let if1 = c .before .if1 in
     let if2 = c .if2 in
     (λ t g. fault-empty t _ g _ _ (if1 .left) (if2 .taken), λ z. (if1 .left))
+
+processes-requires : tie.Need-processes-requires
+processes-requires c κs =
+    let pre = c .before .before .before .before .pre in
+    ((pre .1 .columns .whole), procs-most (pre .0) _ (pre .1))
 
 returns-3 : tie.Need-returns-3
 returns-3 c =
@@ -37,4 +49,4 @@ returns-4 c =
 pub failure-fault-spec : {M : Type 1} → statement M
 failure-fault-spec =
     tie.close
-    (tie.spec (λ c. search needs) (λ c. search needs) returns returns-2 (λ c κs. search needs) (λ c κs. search needs) returns-3 returns-4)
+    (tie.spec (λ c. search needs) cast-if1 returns returns-2 processes-requires (λ c κs. search needs) returns-3 returns-4)

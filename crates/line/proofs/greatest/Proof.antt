@@ -1,10 +1,21 @@
 -- `line::greatest` meets its contract: the first line, lowered until nothing is lost, is the theory's line.
 use mathlib.Core.Path.{_≡_}
 use lib.ListN.{length}
+use Rattle.line.proofs.Table.{procs-most, sized}
 use Rattle.line.proofs.Lowering.{greatest-made, greatest-means}
 use borrow.Author.Needs.{needs}
 use Rattle.line.proofs.greatest.Statement.{statement}
 use Rattle.line.proofs.greatest.Tie as tie
+
+processes-requires : tie.Need-processes-requires
+processes-requires c κs =
+    let pre = c .before .pre in
+    ((pre .1 .columns .whole), procs-most (pre .0) _ (pre .1))
+
+lower-requires : tie.Need-lower-requires
+lower-requires c κs =
+    let pre = c .before .before .before .before .before .before .before .before .before .pre in
+    (sized (pre .0) _ (pre .1) _ (pre .2), search needs)
 
 returns : tie.Need-returns
 returns c =
@@ -17,4 +28,4 @@ returns c =
 pub greatest-spec : {M : Type 1} → statement M
 greatest-spec =
     tie.close
-    (tie.spec (λ c κs. search needs) (λ c. search needs) (λ c κs. search needs) (λ c. search needs) (λ c κs. search needs) (λ c. search needs) (λ c κs. search needs) returns)
+    (tie.spec processes-requires (λ c. search needs) (λ c κs. search needs) (λ c. search needs) (λ c κs. search needs) (λ c. search needs) lower-requires returns)

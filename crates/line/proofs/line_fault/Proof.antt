@@ -1,8 +1,8 @@
 -- `line::line_fault` meets its contract: the failure's number first, then the count, then the numbers.
 use mathlib.Core.Path.{_∙_}
-use Rattle.line.proofs.Table.{procs-is, size-is}
+use Rattle.line.proofs.Table.{procs-is, procs-most, size-is}
 use Rattle.line.proofs.Places.{line-at}
-use Rattle.line.proofs.Faults.{sized-less, fault-first, fault-count, fault-fit, fault-10}
+use Rattle.line.proofs.Faults.{fault-first, fault-count, fault-fit, fault-10}
 use borrow.Author.Needs.{needs}
 use Rattle.line.proofs.line_fault.Statement.{statement}
 use Rattle.line.proofs.line_fault.Tie as tie
@@ -12,6 +12,11 @@ returns c =
     let failure-fault = c .before .failure-fault in
     let if1 = c .if1 in
     λ t g. fault-first t _ g _ _ _ _ _ ((failure-fault .ensures .0) t g) (if1 .taken)
+
+processes-requires : tie.Need-processes-requires
+processes-requires c κs =
+    let pre = c .before .before .before .pre in
+    ((pre .1 .columns .whole), procs-most (pre .0) _ (pre .1))
 
 returns-2 : tie.Need-returns-2
 returns-2 c =
@@ -26,7 +31,7 @@ epochs-at-requires c κs =
     let pre = c .before .before .before .before .before .before .before .pre in
     let failure-fault = c .before .before .before .before .before .failure-fault in
     let if1 = c .before .before .before .before .if1 in
-    (sized-less _ _ _ pre ((failure-fault .ensures .1) (if1 .left)), search needs)
+    (search needs, ((pre .0), (pre .1), rw (← size-is (pre .0) _ (pre .1)) ((failure-fault .ensures .1) (if1 .left))))
 
 returns-3 : tie.Need-returns-3
 returns-3 c =
@@ -55,4 +60,4 @@ returns-4 c =
 pub line-fault-spec : {M : Type 1} → statement M
 line-fault-spec =
     tie.close
-    (tie.spec (λ c κs. search needs) returns (λ c κs. search needs) returns-2 (λ c. search needs) epochs-at-requires (λ c. search needs) (λ c. search needs) (λ c κs. search needs) returns-3 returns-4)
+    (tie.spec (λ c κs. search needs) returns processes-requires returns-2 (λ c. search needs) epochs-at-requires (λ c. search needs) (λ c. search needs) (λ c κs. search needs) returns-3 returns-4)

@@ -5,6 +5,8 @@ use lib.ListN.{length, getD}
 use Rattle.trace.specs.Trace.{Trace}
 use Rattle.theory.specs.Events.{size}
 use Rattle.line.specs.Given.{Tabled, lineIn}
+use Rattle.line.specs.Words.{Sized}
+use Rattle.line.proofs.Table.{procs-most, sized}
 use Rattle.line.proofs.Places.{Restarting, restarting-begins, restarting-next, restarting-done, line-at}
 use native.Mathlib.Omega.{arith}
 use borrow.Author.Needs.{needs}
@@ -12,7 +14,7 @@ use Rattle.line.proofs.restarts.Statement.{statement}
 use Rattle.line.proofs.restarts.Tie as tie
 
 abbrev Inv-loop : tie.InvT-loop
-Inv-loop full cut gates₀ numbers e₀ gates e = (e ≤ cut) × (length gates ≡ 192) × ((t : Trace) (line : ℕ → ℕ) → Tabled t full → cut ≤ size t → ((z : ℕ) → z < t .procs → line z ≡ getD numbers z 0) → Restarting t cut line e gates)
+Inv-loop full cut gates₀ numbers e₀ gates e = (e ≤ cut) × (length gates ≡ 192) × Sized full cut × ((t : Trace) (line : ℕ → ℕ) → Tabled t full → cut ≤ size t → ((z : ℕ) → z < t .procs → line z ≡ getD numbers z 0) → Restarting t cut line e gates)
 
 abbrev μ-loop : tie.MeasureT-loop
 μ-loop full cut gates₀ numbers e₀ gates e = cut - e
@@ -20,12 +22,12 @@ abbrev μ-loop : tie.MeasureT-loop
 processes-requires : tie.Need-processes-requires Inv-loop μ-loop
 processes-requires c κs =
     let pre = c .before .before .before .before .pre in
-    ((pre .0 .whole), (pre .0 .procs-few))
+    ((pre .1 .1 .columns .whole), procs-most (pre .1 .0) _ (pre .1 .1))
 
 begin-restarts-requires : tie.Need-begin-restarts-requires Inv-loop μ-loop
 begin-restarts-requires c κs =
     let pre = c .before .before .before .before .before .before .pre in
-    (search needs, (pre .1), (pre .0 .cut-few))
+    (search needs, (pre .0), (sized (pre .1 .0) _ (pre .1 .1) _ (pre .1 .2)) .cut-few)
 
 loop-holds : tie.Need-loop-holds Inv-loop μ-loop
 loop-holds c =
@@ -33,32 +35,31 @@ loop-holds c =
     let pre = c .before .before .before .before .before .before .before .before .before .pre in
     let args = c .before .before .before .before .before .before .before .before .before .args in
     let processes = c .before .before .before .before .processes in
-    (omega arith, (begin-restarts .kept .1 .1 .1 .0) ∙ (pre .1), λ t line g h ln. restarting-begins t _ g _ line (args .line .epochs) ln _ _ (processes .ensures .0) (begin-restarts .ensures))
+    (omega arith, (begin-restarts .kept .1 .1 .1 .0) ∙ (pre .0), sized (pre .1 .0) _ (pre .1 .1) _ (pre .1 .2), λ t line g h ln. restarting-begins t _ g _ line (args .line .epochs) ln _ _ (processes .ensures .0) (begin-restarts .ensures))
 
 note-restart-requires : tie.Need-note-restart-requires Inv-loop μ-loop
 note-restart-requires c κs =
-    let pre = c .before .before .before .before .before .before .before .before .before .before .before .before .before .pre in
     let loop = c .before .before .before .loop in
-    ((pre .0 .whole), search needs, (loop .inv .1), omega (arith, (pre .0 .cut-few)))
+    ((loop .inv .2 .whole), search needs, (loop .inv .1), omega (arith, (loop .inv .2 .cut-few)))
 
 loop-again : tie.Need-loop-again Inv-loop μ-loop
 loop-again c =
     let loop = c .before .before .before .before .before .before .loop in
     let args = c .before .before .before .before .before .before .before .before .before .before .before .before .before .before .before .before .args in
     let note-restart = c .before .before .note-restart in
-    let l : (loop .e) + 1 ≤ (args .cut) = omega arith in (l, (note-restart .kept .1 .1 .0) ∙ (loop .inv .1), λ t line g h ln. let b : (loop .e) + 1 ≤ size t = omega arith in restarting-next t (args .full .now) g _ line _ ln _ (loop .gates) _ b (loop .inv .1) (note-restart .ensures) ((loop .inv .2) t line g h ln))
+    let l : (loop .e) + 1 ≤ (args .cut) = omega arith in (l, (note-restart .kept .1 .1 .0) ∙ (loop .inv .1), (loop .inv .2), λ t line g h ln. let b : (loop .e) + 1 ≤ size t = omega arith in restarting-next t (args .full .now) g _ line _ ln _ (loop .gates) _ b (loop .inv .1) (note-restart .ensures) ((loop .inv .3) t line g h ln))
 
 same-length : tie.Need-same-length Inv-loop μ-loop
 same-length c =
     let loop = c .before .loop in
     let pre = c .before .before .before .before .before .before .before .before .before .before .before .pre in
-    (loop .inv .1) ∙ sym (pre .1)
+    (loop .inv .1) ∙ sym (pre .0)
 
 returns : tie.Need-returns Inv-loop μ-loop
 returns c =
     let loop = c .before .loop in
     let args = c .before .before .before .before .before .before .before .before .before .before .before .args in
-    let e : (loop .e) ≡ (args .cut) = omega arith in λ t g h k. restarting-done t _ _ _ (loop .gates) (loop .inv .1) e ((loop .inv .2) t (lineIn (args .line)) g h (line-at (args .line) _ k))
+    let e : (loop .e) ≡ (args .cut) = omega arith in λ t g h k. restarting-done t _ _ _ (loop .gates) (loop .inv .1) e ((loop .inv .3) t (lineIn (args .line)) g h (line-at (args .line) _ k))
 
 pub restarts-spec : {M : Type 1} → statement M
 restarts-spec =

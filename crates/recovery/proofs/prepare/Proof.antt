@@ -1,7 +1,7 @@
 -- `recovery::prepare` meets its contract, one law for each way out.
 use mathlib.Core.Path.{sym, _∙_}
 use Rattle.table.specs.Held.{held}
-use Rattle.recovery.proofs.Given.{tabled-holds, tabled, sized-all, sized-cut, step-within, count-is, given}
+use Rattle.recovery.proofs.Given.{tabled-holds, tabled, step-within, count-is, given}
 use Rattle.recovery.proofs.Replaying.{short-table, short-area, no-trace, line-number}
 use native.Mathlib.Omega.{arith}
 use borrow.Author.Needs.{needs}
@@ -27,7 +27,7 @@ line-fault-requires c κs =
     let pre = c .before .before .before .before .before .before .before .before .before .before .before .pre in
     let tabulate = c .before .before .before .before .tabulate in
     let if3 = c .before .if3 in
-    sized-all (args .table .now) _ (sym (tabled-holds (args .table .now) (args .full .now) _ (pre .0) (tabulate .ensures .0)) ∙ (if3 .taken)) ((tabulate .ensures .1 .0) (if3 .taken))
+    (held (args .table .now), tabled (args .table .now) _ (sym (tabled-holds (args .table .now) (args .full .now) _ (pre .0) (tabulate .ensures .0)) ∙ (if3 .taken)) ((tabulate .ensures .1 .0) (if3 .taken)))
 
 returns-3 : tie.Need-returns-3
 returns-3 c =
@@ -49,7 +49,11 @@ gates-requires c κs =
     let if3 = c .before .before .before .before .before .if3 in
     let line-fault = c .before .before .before .line-fault in
     let if4 = c .before .before .if4 in
-    (sized-cut (args .table .now) _ (sym (tabled-holds (args .table .now) (args .full .now) _ (pre .0) (tabulate .ensures .0)) ∙ (if3 .taken)) ((tabulate .ensures .1 .0) (if3 .taken)) (args .step) (args .set) (args .line) (sym ((line-fault .ensures) (held (args .table .now)) (tabled (args .table .now) _ (sym (tabled-holds (args .table .now) (args .full .now) _ (pre .0) (tabulate .ensures .0)) ∙ (if3 .taken)) ((tabulate .ensures .1 .0) (if3 .taken)))) ∙ (if4 .left)), (pre .1))
+    let h = sym (tabled-holds (args .table .now) (args .full .now) _ (pre .0) (tabulate .ensures .0)) ∙ (if3 .taken) in
+    let C = (tabulate .ensures .1 .0) (if3 .taken) in
+    let G = tabled (args .table .now) _ h C in
+    let z = sym ((line-fault .ensures) (held (args .table .now)) G) ∙ (if4 .left) in
+    ((pre .1), (held (args .table .now), G, step-within (args .table .now) _ h C (args .step) (args .set) (args .line) z, count-is (args .table .now) _ h C (args .step) (args .set) (args .line) z))
 
 returns-4 : tie.Need-returns-4
 returns-4 c =

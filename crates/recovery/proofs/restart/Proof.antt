@@ -1,7 +1,7 @@
 -- `recovery::restart` meets its contract, one law for each way out.
 use mathlib.Core.Path.{sym, _∙_}
 use Rattle.table.specs.Held.{held}
-use Rattle.recovery.proofs.Given.{fresh-holds, tabled, sized-all, size-of}
+use Rattle.recovery.proofs.Given.{fresh-holds, tabled, size-of}
 use Rattle.recovery.proofs.Restarting.{short, none-held, failure-number, refuses-restart, answers-restart}
 use native.Mathlib.Omega.{arith}
 use borrow.Author.Needs.{needs}
@@ -21,7 +21,7 @@ failure-fault-requires c κs =
     let tabulate = c .before .before .before .tabulate in
     let if2 = c .before .if2 in
     let h = sym (fresh-holds (args .table .now) _ (tabulate .ensures .0)) ∙ (if2 .taken) in
-    sized-all (args .table .now) _ h ((tabulate .ensures .1 .0) (if2 .taken))
+    (held (args .table .now), tabled (args .table .now) _ h ((tabulate .ensures .1 .0) (if2 .taken)))
 
 returns-2 : tie.Need-returns-2
 returns-2 c =

@@ -1,26 +1,16 @@
 -- `recovery::restart_from` meets its contract: the line, and what is said of it.
 use mathlib.Core.Path.{_≡_}
 use lib.ListN.{length}
-use Rattle.line.proofs.Table.{sized}
 use Rattle.recovery.proofs.Restarting.{count-of, count-few, made, means}
 use borrow.Author.Needs.{needs}
 use Rattle.recovery.proofs.restart_from.Statement.{statement}
 use Rattle.recovery.proofs.restart_from.Tie as tie
 
-greatest-requires : tie.Need-greatest-requires
-greatest-requires c κs =
-    let pre = c .before .pre in
-    sized (pre .0) _ (pre .1) _ (pre .2)
-
-epochs-at-requires : tie.Need-epochs-at-requires
-epochs-at-requires c κs =
-    let pre = c .before .before .before .pre in
-    (sized (pre .0) _ (pre .1) _ (pre .2), search needs)
-
 restarts-requires : tie.Need-restarts-requires
 restarts-requires c κs =
     let pre = c .before .before .before .before .before .before .pre in
-    (sized (pre .0) _ (pre .1) _ (pre .2), search needs)
+    let greatest = c .before .before .before .before .greatest in
+    (search needs, ((pre .0), (pre .1), (pre .2), count-of (pre .0) _ (pre .1) _ _ (pre .2) _ ((greatest .ensures .0) (pre .0) (pre .1) (pre .2))))
 
 back-set-requires : tie.Need-back-set-requires
 back-set-requires c κs =
@@ -50,4 +40,4 @@ returns c =
 pub restart-from-spec : {M : Type 1} → statement M
 restart-from-spec =
     tie.close
-    (tie.spec greatest-requires (λ c. search needs) epochs-at-requires (λ c. search needs) restarts-requires (λ c. search needs) (λ c. search needs) (λ c κs. search needs) back-set-requires back-requires returns)
+    (tie.spec (λ c κs. search needs) (λ c. search needs) (λ c κs. search needs) (λ c. search needs) restarts-requires (λ c. search needs) (λ c. search needs) (λ c κs. search needs) back-set-requires back-requires returns)
