@@ -16,13 +16,13 @@ use Rattle.reader.specs.declared.Line.{Line}
 use Rattle.reader.specs.declared.Line as line
 use Rattle.reader.specs.declared.Judged.{Judged}
 use Rattle.reader.specs.declared.Judged.the-variants.{Fit, Fails, Unfit}
-use Rattle.reader.specs.Line.{lineOf, most}
-use Rattle.reader.specs.Render.{renderEvent, renderEvents}
-use Rattle.reader.specs.Verdict.{pieces, extended, faultHere, judgeEvent, judge, Scan, afterLine, linesFrom, Verdict, verdictOf}
+use Rattle.reader.specs.Line.{lineOf, most, mostSet}
+use Rattle.reader.specs.Render.{renderEvent, renderEvents, renderFailure}
+use Rattle.reader.specs.Verdict.{pieces, extended, faultHere, judgeEvent, judge, Scan, afterLine, linesFrom}
 use Rattle.trace.proofs.Faults.{send-fit, recv-fit, save-fit}
 use Rattle.reader.proofs.Judging.{fit-few}
 use Rattle.reader.proofs.Turns.{with-lf}
-use Rattle.reader.proofs.OneLine.{Small, Says, line-says, lineFor, event-line}
+use Rattle.reader.proofs.OneLine.{Small, Says, failure-text, line-says, lineFor, event-line}
 use Rattle.reader.proofs.Pieces.{joined, line-piece, plain-event}
 
 -- the trace with more events
@@ -40,7 +40,7 @@ longer-more t e es = ap (λ (x : List Event). record { procs = t .procs; events 
 -- what a judgement says of the line's bytes and of the event
 abbrev Told : Trace → List ℕ → Judged → Type 0
 Told t l (Fit e) = (l ≡ renderEvent e) × (faultHere t e ≡ 0) × (valueFits e ≡ true)
-Told t l (Fails step set) = Unit
+Told t l (Fails step set) = Says l (line.the-variants.Failure step set)
 Told t l (Unfit n) = n ≡ 0 → ⊥
 
 event-told : (t : Trace) (l : List ℕ) (e : Event) → l ≡ renderEvent e → valueFits e ≡ true → Told t l (judgeEvent t e)
@@ -56,18 +56,19 @@ judge-told t l (line.the-variants.Procs n) s = λ z. omega arith
 judge-told t l (line.the-variants.Send at to val) s = event-told t l (Send at to val) (s .0) (le-leb val most (s .1 .2))
 judge-told t l (line.the-variants.Recv at from) s = event-told t l (Recv at from) (s .0) refl
 judge-told t l (line.the-variants.Save at) s = event-told t l (Save at) (s .0) refl
-judge-told t l (line.the-variants.Failure step set) s = tt
+judge-told t l (line.the-variants.Failure step set) s = s
 judge-told t l line.the-variants.Malformed s = λ z. omega arith
 
 -- u is t with these events more, all of them fit
 abbrev pub Grown : Trace → List Event → Trace → Type 0
 Grown t es u = (u ≡ longer t es) × (allFit (t .procs) (t .events) es ≡ true) × (length (t .events) + length es ≤ 2048)
 
--- what the reading of lines after a trace t says: of a refusal its number, of a trace its events, and where no failure line follows their bytes
+-- what the reading of lines after a trace t says: of a refusal its number, of a trace its events and their bytes, and of a failure line its own
 abbrev pub Heard : Trace → List (List ℕ) → Scan → Type 0
 Heard t ps (Scan.refused n k) = n ≡ 0 → ⊥
 Heard t ps (Scan.ended u k) = (es : List Event) × (joined ps ≡ renderEvents es) × Grown t es u
-Heard t ps (Scan.stopped u step set k rest) = (es : List Event) × Grown t es u
+Heard t ps (Scan.stopped u step set k rest) =
+    (es : List Event) × (joined ps ≡ renderEvents es ++ (renderFailure step set ++ joined rest)) × (step ≤ most) × (set ≤ mostSet) × Grown t es u
 
 none-grown : (t : Trace) → length (t .events) ≤ 2048 → Grown t [] t
 unfolding allFit
@@ -86,15 +87,22 @@ more-heard : (t : Trace) (l m : List ℕ) (ms : List (List ℕ)) (e : Event) →
 unfolding joined renderEvents
 more-heard t l m ms e q z v (Scan.refused n k) h = h
 more-heard t l m ms e q z v (Scan.ended u k) h = (e ∷ h .0, rw (q, h .1), more-grown t u e (h .0) z v (h .2))
-more-heard t l m ms e q z v (Scan.stopped u step set k rest) h = (e ∷ h .0, more-grown t u e (h .0) z v (h .1))
+more-heard t l m ms e q z v (Scan.stopped u step set k rest) h = (
+  e ∷ h .0,
+  rw (q, h .1, append-assoc (renderEvent e) (10 ∷ renderEvents (h .0)) (renderFailure step set ++ joined rest)),
+  h .2,
+  h .3,
+  more-grown t u e (h .0) z v (h .4),
+)
 
 after-heard : (t : Trace) (k : ℕ) (l m : List ℕ) (ms : List (List ℕ)) (next : Event → Scan)
     → length (t .events) ≤ 2048 → ((e : Event) → length (t .events) < 2048 → Heard (extended t e) (m ∷ ms) (next e))
     → (j : Judged) → Told t l j → Heard t (l ∷ (m ∷ ms)) (afterLine j t k (m ∷ ms) next)
+unfolding joined renderEvents
 after-heard t k l m ms next few more (Fit e) d =
     let (room, fit) = fit-few t e (d .1) in
     more-heard t l m ms e (d .0) fit (d .2) (next e) (more e room)
-after-heard t k l m ms next few more (Fails step set) d = ([], none-grown t few)
+after-heard t k l m ms next few more (Fails step set) d = ([], rw (d .0) (sym (failure-text step set (joined (m ∷ ms)))), d .1, d .2, none-grown t few)
 after-heard t k l m ms next few more (Unfit n) d = d
 
 pub lines-heard : (t : Trace) (k : ℕ) (ps : List (List ℕ)) → length (t .events) ≤ 2048 → Heard t ps (linesFrom t k ps)
@@ -127,16 +135,22 @@ unfolding judgeEvent faultHere
 event-judged t e r room fit v =
     ap (judge t) (event-line e (fit-small (t .procs) (t .events) e r fit v)) ∙ judge-event t e ∙ rw (lt-leb 2048 (length (t .events)) room, fit)
 
-pub lines-read : (t : Trace) (k : ℕ) (es : List Event) → t .procs ≤ 64 → length (t .events) + length es ≤ 2048 → allFit (t .procs) (t .events) es ≡ true
-    → verdictOf (linesFrom t k (pieces (renderEvents es))) ≡ Verdict.accepted (longer t es)
-unfolding linesFrom pieces renderEvents allFit
-lines-read t k [] r h f = ap Verdict.accepted (longer-none t)
-lines-read t k (e ∷ es) r h f =
+-- what follows rendered events is read after them, from some line on
+pub events-read : (t : Trace) (k : ℕ) (es : List Event) (rest : List ℕ) → t .procs ≤ 64 → length (t .events) + length es ≤ 2048
+    → allFit (t .procs) (t .events) es ≡ true → (j : ℕ) × (linesFrom t k (pieces (renderEvents es ++ rest)) ≡ linesFrom (longer t es) j (pieces rest))
+unfolding renderEvents allFit
+events-read t k [] rest r h f = (k, ap (λ (u : Trace). linesFrom u k (pieces rest)) (longer-none t))
+events-read t k (e ∷ es) rest r h f =
     let fit : faultOf (t .procs) (t .events) e ≡ 0 = eqb-true (faultOf (t .procs) (t .events) e) 0 (and-left _ _ f) in
     let values = and-right (eqb (faultOf (t .procs) (t .events) e) 0) _ f in
     let judged = event-judged t e r (omega arith) fit (and-left (valueFits e) _ values) in
-    ap (λ (x : List (List ℕ)). verdictOf (linesFrom t k x)) (line-piece (renderEvent e) (renderEvents es) (plain-event e))
-    ∙ ap verdictOf (with-lf t k (renderEvent e) (renderEvents es))
-    ∙ ap (λ (j : Judged). verdictOf (afterLine j t k (pieces (renderEvents es)) (λ d. linesFrom (extended t d) (k + 1) (pieces (renderEvents es))))) judged
-    ∙ lines-read (extended t e) (k + 1) es r (omega (arith, length-append (t .events) (e ∷ []))) (and-right (valueFits e) _ values)
-    ∙ ap Verdict.accepted (longer-more t e es)
+    let after = renderEvents es ++ rest in
+    let (j, more) = events-read (extended t e) (k + 1) es rest r (omega (arith, length-append (t .events) (e ∷ []))) (and-right (valueFits e) _ values) in (
+      j,
+      ap (λ (x : List ℕ). linesFrom t k (pieces x)) (append-assoc (renderEvent e) (10 ∷ renderEvents es) rest)
+          ∙ ap (linesFrom t k) (line-piece (renderEvent e) after (plain-event e))
+          ∙ with-lf t k (renderEvent e) after
+          ∙ ap (λ (x : Judged). afterLine x t k (pieces after) (λ d. linesFrom (extended t d) (k + 1) (pieces after))) judged
+          ∙ more
+          ∙ ap (λ (u : Trace). linesFrom u j (pieces rest)) (longer-more t e es),
+    )

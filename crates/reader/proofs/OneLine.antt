@@ -1,7 +1,7 @@
--- One line: what is read of a line is what stands there, and a rendered event is read as itself. From the laws of fields.
+-- One line: what is read of a line is what stands there, and a rendered line is read as itself. From the laws of fields.
 use Prim.Native.Nat.{ℕ, _≤_}
 use mathlib.Core.Path.{_≡_, refl, ap, _∙_}
-use mathlib.Core.List.{List, [], _++_, append-assoc, append-nil}
+use mathlib.Core.List.{List, [], _∷_, _++_, append-assoc, append-nil}
 use mathlib.Core.Bool.{true}
 use Rattle.words.proofs.Cases.{by-bool}
 use Rattle.text.specs.Number.{isDigit, decimal}
@@ -12,7 +12,7 @@ use Rattle.trace.specs.declared.Event.the-variants.{Send, Recv, Save}
 use Rattle.reader.specs.declared.Line.{Line}
 use Rattle.reader.specs.declared.Line as line
 use Rattle.reader.specs.Line.{kProcs, kSend, kTo, kVal, kRecv, kFrom, kSave, kFail, kSet, most, mostSet, procsOf, sendOf, recvOf, saveOf, failOf, lineOf}
-use Rattle.reader.specs.Render.{renderEvent}
+use Rattle.reader.specs.Render.{renderEvent, renderFailure}
 use Rattle.reader.proofs.Field.{behind-start, read-field, read-end, rendered-field, rendered-end}
 
 -- no number of an event is more than its key can hold
@@ -21,13 +21,17 @@ Small (Send at to val) = (at ≤ most) × (to ≤ most) × (val ≤ most)
 Small (Recv at from) = (at ≤ most) × (from ≤ most)
 Small (Save at) = at ≤ most
 
+-- a failure line without its LF, field behind field
+abbrev pub failureText : ℕ → ℕ → List ℕ
+failureText step set = kFail ++ (decimal step ++ (kSet ++ (decimal set ++ [])))
+
 -- What a line that was read says of its bytes: by cases of the line, so that no form has to be told from another.
 abbrev pub Says : List ℕ → Line → Type 0
 Says l (line.the-variants.Procs n) = (l ≡ kProcs ++ decimal n) × (n ≤ most)
 Says l (line.the-variants.Send at to val) = (l ≡ renderEvent (Send at to val)) × Small (Send at to val)
 Says l (line.the-variants.Recv at from) = (l ≡ renderEvent (Recv at from)) × Small (Recv at from)
 Says l (line.the-variants.Save at) = (l ≡ renderEvent (Save at)) × Small (Save at)
-Says l (line.the-variants.Failure step set) = (l ≡ kFail ++ (decimal step ++ (kSet ++ (decimal set ++ [])))) × (step ≤ most) × (set ≤ mostSet)
+Says l (line.the-variants.Failure step set) = (l ≡ failureText step set) × (step ≤ most) × (set ≤ mostSet)
 Says l line.the-variants.Malformed = Unit
 
 -- the rendered lines, field behind field
@@ -45,6 +49,11 @@ recv-text a b = simp (append-assoc, append-nil)
 pub save-text : (a : ℕ) → renderEvent (Save a) ≡ kSave ++ (decimal a ++ [])
 unfolding renderEvent
 save-text a = simp append-nil
+
+-- a failure line and whatever follows its LF
+pub failure-text : (step set : ℕ) (rest : List ℕ) → renderFailure step set ++ rest ≡ failureText step set ++ 10 ∷ rest
+unfolding renderFailure
+failure-text step set rest = simp (append-assoc, append-nil)
 
 -- ---- what is read is what stands there
 
@@ -134,3 +143,11 @@ event-line (Save a) h =
     ap lineOf (save-text a)
     ∙ rw (field-1 l 0 kSave most true refl refl)
     (rendered-field most refl l 0 kSave a _ _ _ (behind-start l) h refl (λ p s. rendered-end l p _ s))
+
+pub failure-line : (step set : ℕ) → step ≤ most → set ≤ mostSet → lineOf (failureText step set) ≡ line.the-variants.Failure step set
+unfolding lineOf failOf startsWith isDigit
+failure-line step set h i =
+    let l = failureText step set in
+    rw (field-1 l 0 kFail most true refl refl)
+    (rendered-field most refl l 0 kFail step _ _ _ (behind-start l) h refl (λ p s.
+    rendered-field mostSet refl l p kSet set _ _ _ s i refl (λ q u. rendered-end l q _ u)))

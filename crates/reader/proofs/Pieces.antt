@@ -14,7 +14,7 @@ use Rattle.reader.specs.Line.{kProcs}
 use Rattle.reader.specs.Render.{renderEvent}
 use Rattle.reader.specs.Verdict.{grow, pieces}
 use Rattle.reader.proofs.Decimal.{last-none, last-small, last-more}
-use Rattle.reader.proofs.OneLine.{send-text, recv-text, save-text}
+use Rattle.reader.proofs.OneLine.{failureText, send-text, recv-text, save-text}
 
 -- pieces with an LF between each two
 unfoldable pub joined : List (List ℕ) → List ℕ
@@ -87,3 +87,7 @@ unfolding plain
 plain-event (Send a b v) = rw (send-text a b v) (plain-decimal a _ (plain-decimal b _ (plain-decimal v [] refl)))
 plain-event (Recv a b) = rw (recv-text a b) (plain-decimal a _ (plain-decimal b [] refl))
 plain-event (Save a) = rw (save-text a) (plain-decimal a [] refl)
+
+pub plain-failure : (step set : ℕ) → plain (failureText step set) ≡ true
+unfolding plain
+plain-failure step set = plain-decimal step _ (plain-decimal set [] refl)

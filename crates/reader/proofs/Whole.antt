@@ -1,7 +1,7 @@
--- The whole text: an accepted text is a well-formed trace rendered, and a well-formed trace rendered is accepted. From the laws of its lines.
+-- The whole text: an accepted text is a well-formed trace rendered, and a well-formed trace rendered is accepted; also with a failure line. From the laws of its lines.
 use Prim.Native.Nat.{ℕ, _≤_}
-use mathlib.Core.Path.{_≡_, ap, subst, _∙_}
-use mathlib.Core.List.{List, [], _∷_, _++_}
+use mathlib.Core.Path.{_≡_, refl, sym, ap, subst, _∙_}
+use mathlib.Core.List.{List, [], _∷_, _++_, append-assoc, append-nil}
 use mathlib.Core.Bool.{true}
 use native.Mathlib.Omega.{arith}
 use lib.Dec.{leb}
@@ -14,19 +14,21 @@ use Rattle.trace.specs.Trace.{Trace}
 use Rattle.trace.specs.Fit.{wellFormed}
 use Rattle.reader.specs.declared.Line.{Line}
 use Rattle.reader.specs.declared.Line as line
-use Rattle.reader.specs.Line.{kProcs, lineOf}
-use Rattle.reader.specs.Render.{renderEvents, render}
+use Rattle.reader.specs.Line.{kProcs, lineOf, most, mostSet}
+use Rattle.reader.specs.Render.{renderEvents, render, renderFailure}
 use Rattle.reader.specs.Failure.{Failing, refused, failing, lastLine, failingOf, failureOf}
-use Rattle.reader.specs.Verdict.{pieces, Scan, linesFrom, firstLine, scanPieces, scan, Verdict, verdictOf, verdict}
-use Rattle.reader.proofs.OneLine.{Says, line-says, procs-line}
-use Rattle.reader.proofs.Pieces.{joined, first-piece, joined-pieces, line-piece, plain-procs}
-use Rattle.reader.proofs.Events.{Grown, Heard, lines-heard, lines-read}
+use Rattle.reader.specs.Verdict.{pieces, judge, Scan, linesFrom, firstLine, scanPieces, scan, Verdict, verdictOf, verdict}
+use Rattle.reader.proofs.Turns.{with-lf}
+use Rattle.reader.proofs.OneLine.{Says, failureText, failure-text, line-says, procs-line, failure-line}
+use Rattle.reader.proofs.Pieces.{joined, first-piece, joined-pieces, line-piece, plain-procs, plain-failure}
+use Rattle.reader.proofs.Events.{Grown, Heard, lines-heard, events-read}
 
--- what reading says of the text: a refusal has a number, a trace is well formed, and where no failure line follows the text is its rendering
+-- what reading says of the text: a refusal has a number, a trace is well formed, and the text is its rendering, up to a failure line that is rendered too
 abbrev pub Taken : List ℕ → Scan → Type 0
 Taken text (Scan.refused n k) = n ≡ 0 → ⊥
 Taken text (Scan.ended t k) = (wellFormed t ≡ true) × (text ≡ render t)
-Taken text (Scan.stopped t step set k rest) = wellFormed t ≡ true
+Taken text (Scan.stopped t step set k rest) =
+    (wellFormed t ≡ true) × (step ≤ most) × (set ≤ mostSet) × (text ≡ render t ++ (renderFailure step set ++ joined rest))
 
 -- a run of n processes before its first event
 abbrev quiet : ℕ → Trace
@@ -43,7 +45,12 @@ heard-taken : (n : ℕ) (l m : List ℕ) (ms : List (List ℕ)) → l ≡ kProcs
 unfolding joined render
 heard-taken n l m ms q low high (Scan.refused k j) h = h
 heard-taken n l m ms q low high (Scan.ended u k) h = (grown-fit n (h .0) u low high (h .2), rw (h .2 .0, q, h .1))
-heard-taken n l m ms q low high (Scan.stopped u step set k rest) h = grown-fit n (h .0) u low high (h .1)
+heard-taken n l m ms q low high (Scan.stopped u step set k rest) h = (
+  grown-fit n (h .0) u low high (h .4),
+  h .2,
+  h .3,
+  rw (h .4 .0, q, h .1) (sym (append-assoc (kProcs ++ decimal n) (10 ∷ renderEvents (h .0)) (renderFailure step set ++ joined rest))),
+)
 
 first-taken : (l m : List ℕ) (ms : List (List ℕ)) (x : Line) → Says l x
     → Taken (joined (l ∷ (m ∷ ms))) (firstLine x (λ n. linesFrom (quiet n) 2 (m ∷ ms)))
@@ -84,9 +91,10 @@ scan-read n text low high =
     let (m, ms, q) = first-piece text in
     rw (q, procs-line n (omega arith), le-ltb n 2 low, le-ltb 64 n high)
 
-pub render-taken : (t : Trace) → wellFormed t ≡ true → verdict (render t) ≡ Verdict.accepted t
-unfolding verdict scan render wellFormed
-render-taken t w =
+-- what follows a rendered trace is read after it, from some line on
+rendered-read : (t : Trace) (rest : List ℕ) → wellFormed t ≡ true → (k : ℕ) × (scan (render t ++ rest) ≡ linesFrom t k (pieces rest))
+unfolding scan render wellFormed
+rendered-read t rest w =
     let p = t .procs in
     let size = length (t .events) in
     let a = and-right (leb 2 p) _ w in
@@ -94,29 +102,64 @@ render-taken t w =
     let low : 2 ≤ p = leb-true 2 p (and-left _ _ w) in
     let high : p ≤ 64 = leb-true p 64 (and-left _ _ a) in
     let few : size ≤ 2048 = leb-true size 2048 (and-left _ _ b) in
-    ap (λ (x : List (List ℕ)). verdictOf (scanPieces x)) (line-piece (kProcs ++ decimal p) (renderEvents (t .events)) (plain-procs p))
-    ∙ ap verdictOf (scan-read p (renderEvents (t .events)) low high)
-    ∙ lines-read (quiet p) 2 (t .events) high (omega arith) (and-right (leb size 2048) _ b)
+    let after = renderEvents (t .events) ++ rest in
+    let (k, more) = events-read (quiet p) 2 (t .events) rest high (omega arith) (and-right (leb size 2048) _ b) in (
+      k,
+      ap (λ (x : List ℕ). scanPieces (pieces x)) (append-assoc (kProcs ++ decimal p) (10 ∷ renderEvents (t .events)) rest)
+          ∙ ap scanPieces (line-piece (kProcs ++ decimal p) after (plain-procs p))
+          ∙ scan-read p after low high
+          ∙ more,
+    )
+
+pub render-taken : (t : Trace) → wellFormed t ≡ true → verdict (render t) ≡ Verdict.accepted t
+unfolding verdict linesFrom pieces
+render-taken t w = let (k, read) = rendered-read t [] w in ap verdict (sym (append-nil (render t))) ∙ ap verdictOf read
 
 -- ---- A text that ends with a failure line
 
-last-failing : (ls : List (List ℕ)) (k : ℕ) (f : Failing) (t : Trace) (step set : ℕ) → lastLine ls k f ≡ failing t step set → f ≡ failing t step set
-last-failing [] k f t step set e = e
-last-failing ([] ∷ []) k f t step set e = e
+-- nothing follows a failure line that is the last
+last-failing : (ls : List (List ℕ)) (k : ℕ) (f : Failing) (t : Trace) (step set : ℕ) → lastLine ls k f ≡ failing t step set
+    → (f ≡ failing t step set) × (joined ls ≡ [])
+unfolding joined
+last-failing [] k f t step set e = (e, refl)
+last-failing ([] ∷ []) k f t step set e = (e, refl)
 last-failing ((b ∷ l) ∷ ls) k f t step set e = let z : _≡_ {A = ℕ} 0 1 = cc in absurd (let y : ⊥ = omega arith in y)
 last-failing ([] ∷ (l ∷ ls)) k f t step set e = let z : _≡_ {A = ℕ} 0 1 = cc in absurd (let y : ⊥ = omega arith in y)
 
-failing-of : (text : List ℕ) (t : Trace) (step set : ℕ) (s : Scan) → Taken text s → failingOf s ≡ failing t step set → wellFormed t ≡ true
+-- a well-formed trace and a failure line whose numbers its keys can hold, rendered
+abbrev pub Rendered : List ℕ → Trace → ℕ → ℕ → Type 0
+Rendered text t step set = (wellFormed t ≡ true) × (step ≤ most) × (set ≤ mostSet) × (text ≡ render t ++ renderFailure step set)
+
+failing-of : (text : List ℕ) (t : Trace) (step set : ℕ) (s : Scan) → Taken text s → failingOf s ≡ failing t step set → Rendered text t step set
 failing-of text t step set (Scan.refused n k) h e = let z : _≡_ {A = ℕ} 0 1 = cc in absurd (let y : ⊥ = omega arith in y)
 failing-of text t step set (Scan.ended u k) h e = let z : _≡_ {A = ℕ} 0 1 = cc in absurd (let y : ⊥ = omega arith in y)
 failing-of text t step set (Scan.stopped u i m k rest) h e =
-    let q : failing u i m ≡ failing t step set = last-failing rest k (failing u i m) t step set e in
-    let r : u ≡ t = cc in
-    rw r at h
+    let (q, none) = last-failing rest k (failing u i m) t step set e in
+    let a : u ≡ t = cc in
+    let b : i ≡ step = cc in
+    let c : m ≡ set = cc in
+    rw (a, b, c, none, append-nil (renderFailure step set)) at h
 
-pub failing-taken : (text : List ℕ) (t : Trace) (step set : ℕ) → failureOf text ≡ failing t step set → wellFormed t ≡ true
+pub failing-taken : (text : List ℕ) (t : Trace) (step set : ℕ) → failureOf text ≡ failing t step set → Rendered text t step set
 unfolding failureOf
 failing-taken text t step set e = failing-of text t step set (scan text) (scan-taken text) e
+
+failure-read : (t : Trace) (k step set : ℕ) → step ≤ most → set ≤ mostSet
+    → linesFrom t k (pieces (renderFailure step set)) ≡ Scan.stopped t step set k (pieces [])
+unfolding judge
+failure-read t k step set h i =
+    let l = failureText step set in
+    ap (λ (x : List ℕ). linesFrom t k (pieces x)) (sym (append-nil (renderFailure step set)) ∙ failure-text step set [])
+    ∙ ap (linesFrom t k) (line-piece l [] (plain-failure step set))
+    ∙ with-lf t k l []
+    ∙ rw (failure-line step set h i)
+
+pub render-failing : (t : Trace) (step set : ℕ) → wellFormed t ≡ true → step ≤ most → set ≤ mostSet
+    → failureOf (render t ++ renderFailure step set) ≡ failing t step set
+unfolding failureOf pieces
+render-failing t step set w h i =
+    let (k, read) = rendered-read t (renderFailure step set) w in
+    ap failingOf (read ∙ failure-read t k step set h i)
 
 last-refused : (ls : List (List ℕ)) (k : ℕ) (t : Trace) (step set n j : ℕ) → lastLine ls k (failing t step set) ≡ refused n j → n ≡ 0 → ⊥
 last-refused [] k t step set n j e z = let y : _≡_ {A = ℕ} 0 1 = cc in omega arith
