@@ -1,7 +1,7 @@
 -- What a replay is given begins it: the words of the first state are in their ranges and stand for the run, for every trace and line that are given.
-use mathlib.Core.Path.{_≡_, refl, _∙_, ap, subst}
+use mathlib.Core.Path.{_≡_, refl, _∙_, ap}
 use mathlib.Core.List.{List}
-use Prim.Native.Nat.{ℕ, zero, suc, _+_, _≤_, _<_}
+use Prim.Native.Nat.{ℕ, _+_, _≤_, _<_}
 use native.Mathlib.Omega.{arith}
 use lib.ListN.{length, getD, set, replicate, length-replicate}
 use lib.Seq.{getD-set-other}
@@ -12,7 +12,6 @@ use Rattle.theory.specs.Events.{send, size, at, kind, recvs, sent, recvOf}
 use Rattle.theory.specs.Epochs.{past}
 use Rattle.theory.specs.Line.{Run, recorded}
 use Rattle.theory.specs.Replay.{start}
-use Rattle.theory.specs.Order.{run, lowestFrom, lowestOrder}
 use Rattle.theory.proofs.Base.{place-le}
 use Rattle.theory.proofs.Events.{sends-of}
 use Rattle.theory.proofs.WellFormed.{valid}
@@ -25,8 +24,6 @@ use Rattle.simulation.proofs.Orders.{rel-bounded}
 use Rattle.simulation.proofs.Passes.{linked-small}
 use Rattle.simulation.proofs.Columns.{few, count-is, kind-is, pair-lt, base, tested}
 use Rattle.simulation.proofs.Claims.{started}
-use Rattle.replay.specs.declared.Replayed.{Replayed}
-use Rattle.replay.specs.Answer.{answerOf, wordsOf}
 use Rattle.replay.specs.Given.{Given}
 use Rattle.replay.specs.Shapes.{PairedTo, Linkable}
 use Rattle.protocol.proofs.Passes.{zero-word}
@@ -63,12 +60,8 @@ module _ (t : Trace) (line : ℕ → ℕ) (cut : ℕ) (full gates : List ℕ) (H
   count-few = omega (arith, count, few-events)
 
   -- twice the events, counted by words
-  pub lowest-answer : (n : ℕ) → n ≡ getD full 1 0 → (x : Replayed) → x ≡ answerOf R (run R (lowestFrom R (n + n) (start R))) (length (lowestFrom R (n + n) (start R)))
-      → x ≡ answerOf R (run R (lowestOrder R)) (length (lowestOrder R))
-  lowest-answer n e x h = subst (λ m. x ≡ answerOf R (run R (lowestFrom R (m + m) (start R))) (length (lowestFrom R (m + m) (start R)))) (e ∙ count) h
-
-  pub lowest-words : (n : ℕ) → n ≡ getD full 1 0 → (b : List ℕ) → b ≡ wordsOf R (run R (lowestFrom R (n + n) (start R))) → b ≡ wordsOf R (run R (lowestOrder R))
-  lowest-words n e b h = subst (λ m. b ≡ wordsOf R (run R (lowestFrom R (m + m) (start R)))) (e ∙ count) h
+  pub twice : (n : ℕ) → n ≡ getD full 1 0 → n + n ≡ size (R .trace) + size (R .trace)
+  twice n e = omega (arith, e, count)
 
   pub pairs : PairedTo full (getD full 1 0)
   unfolding PairedTo recvOf

@@ -7,4 +7,6 @@ pub mod Ordering
 -- the first state
 pub mod Beginning
 -- the order of the lowest choices
+pub mod Sets
 pub mod Lowering
+pub mod Searching

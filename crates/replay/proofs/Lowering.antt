@@ -1,129 +1,82 @@
 -- The lowest allowed choice by words is the theory's, and the order of lowest choices is carried out step for step: one law for each way out of the
 -- functions that do it, for every run that the words stand for.
-use mathlib.Core.Path.{_≡_, refl, sym, _∙_, ap, subst}
-use mathlib.Core.Bool.{Bool, true, false}
+use mathlib.Core.Path.{_≡_, refl, sym, _∙_, ap}
+use mathlib.Core.Bool.{true, false}
 use mathlib.Core.List.{List, [], _∷_}
-use mathlib.Core.Option.{Option, none, some}
-use Prim.Native.Nat.{ℕ, zero, suc, _+_, _-_, _*_, _≤_, _<_}
+use mathlib.Core.Option.{Option, none, some, bind, Option·some-injective, Option·none-ne-some}
+use Prim.Native.Nat.{ℕ, zero, suc, _+_, _-_, _≤_, _<_}
 use native.Mathlib.Omega.{arith}
-use native.Mathlib.Numerals.{add-one}
 use lib.ListN.{length, getD}
-use borrow.Author.Tests.{eq-eqb, ne-eqb}
+use borrow.Author.Tests.{le-ltb}
 use Rattle.words.specs.Area.{areaWords}
-use Rattle.theory.specs.Lists.{or-else, first}
+use Rattle.theory.specs.Events.{size}
 use Rattle.theory.specs.Line.{Run}
 use Rattle.theory.specs.Replay.{State, start}
-use Rattle.theory.specs.Order.{carriedOut, choose, carry, run, named, lowest, lowestFrom}
+use Rattle.theory.specs.Order.{choiceOf, carriedOut, choose, carry, run, lowest, lowestFrom, lowestOrder}
 use Rattle.theory.proofs.Flow.{Inv}
+use Rattle.theory.proofs.Base.{on, le?, clash}
 use Rattle.theory.proofs.Loss.{inv-start}
-use Rattle.simulation.specs.Words.{currentBase, allowedW, applyW, Bounded, noneFrom}
+use Rattle.theory.proofs.Orders.{complete-iff}
+use Rattle.theory.proofs.Lowest.{lowest-none, lowest-some, lowest-iff, lowest-order}
+use Rattle.simulation.specs.Words.{currentBase, allowedW, applyW, Bounded}
 use Rattle.simulation.specs.Related.{Rel, Started}
 use Rattle.simulation.proofs.Choices.{Agrees, refuses, allows, choice-agrees}
-use Rattle.simulation.proofs.Orders.{none-same, rel-bounded, record-left}
+use Rattle.simulation.proofs.Orders.{rel-bounded, record-left}
 use Rattle.replay.specs.declared.Replayed.{Replayed}
 use Rattle.replay.specs.Answer.{answerOf, wordsOf}
-use Rattle.replay.specs.Lowest.{noChoice, orNext, firstOf, tried, ofProcesses, ofSender, ofSenders, lowestW, Lowered}
-
--- ---- Loops that look for the first
-
-pub first-none : (f : ℕ → ℕ) → noChoice ≡ firstOf f 0
-unfolding firstOf
-first-none f = refl
-
--- none so far, and none here
-pub first-more : (f : ℕ → ℕ) (z r : ℕ) → noChoice ≡ firstOf f z → r ≡ f z → r ≡ noChoice → noChoice ≡ firstOf f (z + 1)
-unfolding firstOf
-first-more f z r h e k = rw (add-one z, ← h) (sym k ∙ e)
-
--- none so far, and one here
-pub first-found : (f : ℕ → ℕ) (z n r : ℕ) → noChoice ≡ firstOf f z → z < n → r ≡ f z → (r ≡ noChoice → ⊥) → r ≡ firstOf f n
-first-found f z n r h l e k = let q : n ≡ suc z + (n - suc z) = omega arith in rw q (stays (n - suc z))
-  where
-    here : r ≡ firstOf f (suc z)
-    here = unfold firstOf in rw (← h) e
-
-    next : (y : ℕ) → r ≡ firstOf f y → r ≡ firstOf f (suc y)
-    next y i = unfold firstOf in rw (← i, ne-eqb r noChoice k)
-
-    stays : (d : ℕ) → r ≡ firstOf f (suc z + d)
-    stays zero = let q : suc z + 0 ≡ suc z = omega arith in rw q here
-    stays (suc d) = let q : suc z + suc d ≡ suc (suc z + d) = omega arith in rw q (next (suc z + d) (stays d))
-
-module _ (t g a : List ℕ) (c : ℕ) (r : Bool) (e : r ≡ allowedW t g a c) where
-  pub tried-yes : r ≡ true → c ≡ tried t g a c
-  tried-yes h = rw (← e, h)
-
-  pub tried-no : r ≡ false → noChoice ≡ tried t g a c
-  tried-no h = rw (← e, h)
-
-module _ (t g a : List ℕ) (n c : ℕ) (e : c ≡ ofProcesses t g a n) where
-  pub lowest-process : (c ≡ noChoice → ⊥) → c ≡ lowestW t g a n
-  unfolding lowestW
-  lowest-process h = rw (← e, ne-eqb c noChoice h)
-
-  pub lowest-hand : (d : ℕ) → c ≡ noChoice → d ≡ ofSenders t g a n → d ≡ lowestW t g a n
-  unfolding lowestW
-  lowest-hand d h f = rw (← e, eq-eqb c noChoice h) f
+use Rattle.replay.specs.Lowest.{noChoice, NoneBefore, Lowered}
 
 -- ---- The lowest choice
 
 module _ (R : Run) (t l g a₀ : List ℕ) (S : Started R t l g a₀) where
   module _ (a : List ℕ) (s : State) (r : Rel R a s) (i : Inv R s) where
-    -- a number by words tells a choice of the machine and the state that it leaves
-    unfoldable Told : ℕ → Option (ℕ × State) → Type 0
-    Told c none = c ≡ noChoice
-    Told c (some u) = (c ≡ u .0) × (c < noChoice) × Rel R (applyW t l a c) (u .1) × Inv R (u .1) × (choose R s c ≡ some (u .1))
+    agrees : (c : ℕ) → Agrees R (S .laws) t l g (S .cols) (allowedW t g a c) (applyW t l a c) (choose R s c)
+    agrees c = choice-agrees R (S .laws) t l g (S .cols) a s r i c
 
-    tried-told : (c : ℕ) → c < noChoice → Told (tried t g a c) (named R c (choose R s c))
-    unfolding Told
-    tried-told c h = go (choose R s c) refl (choice-agrees R (S .laws) t l g (S .cols) a s r i c)
+    not-allowed : (c : ℕ) → allowedW t g a c ≡ false → choose R s c ≡ none
+    not-allowed c h = go (choose R s c) refl (agrees c)
       where
-        go : (o : Option State) → choose R s c ≡ o → Agrees R (S .laws) t l g (S .cols) (allowedW t g a c) (applyW t l a c) o → Told (tried t g a c) (named R c o)
-        go none e (refuses y) = rw y
-        go (some u) e (allows v y r′ j) = rw y (refl, h, r′, j, e)
+        go : (o : Option State) → choose R s c ≡ o → Agrees R (S .laws) t l g (S .cols) (allowedW t g a c) (applyW t l a c) o → choose R s c ≡ none
+        go none e v = e
+        go (some u) e (allows v y r′ j) = clash y h
 
-    or-told : (c d : ℕ) (o p : Option (ℕ × State)) → Told c o → Told d p → Told (orNext c d) (or-else o p)
-    unfolding Told
-    or-told c d none p h k = rw (eq-eqb c noChoice h) k
-    or-told c d (some u) p h k = rw (ne-eqb c noChoice (λ q. omega (arith, h .1))) h
+    unfoldable pub Next : ℕ → State → Type 0
+    Next c u = Rel R (applyW t l a c) u × Inv R u × (choose R s c ≡ some u)
 
-    told-none : Told noChoice none
-    unfolding Told
-    told-none = refl
-
-    first-told : (f : ℕ → ℕ) (h : ℕ → Option (ℕ × State)) (n : ℕ) → ((x : ℕ) → x < n → Told (f x) (h x)) → Told (firstOf f n) (first h n)
-    unfolding firstOf first
-    first-told f h zero k = told-none
-    first-told f h (suc n) k = or-told (firstOf f n) (f n) (first h n) (h n) (first-told f h n (λ x l. k x (omega arith))) (k n (omega arith))
-
-    lowest-told : Told (lowestW t g a (R .trace .procs)) (lowest R s)
-    unfolding lowestW lowest
-    lowest-told =
-        let n = R .trace .procs in
-        let few = S .laws .few in
-        or-told (ofProcesses t g a n) (ofSenders t g a n) _ _
-        (first-told (tried t g a) (λ z. named R z (choose R s z)) n (λ z h. tried-told z (omega (arith, few))))
-        (first-told (ofSender t g a n) (λ p. first (λ q. named R (64 + 64 * p + q) (choose R s (64 + 64 * p + q))) n) n
-        (λ p h. first-told (λ q. tried t g a (64 + 64 * p + q)) (λ q. named R (64 + 64 * p + q) (choose R s (64 + 64 * p + q))) n
-        (λ q k. tried-told (64 + 64 * p + q) (omega (arith, few)))))
-
-    pub none-lowest : (c : ℕ) → c ≡ lowestW t g a (R .trace .procs) → c ≡ noChoice → lowest R s ≡ none
-    unfolding Told
-    none-lowest c e h = go (lowest R s) refl lowest-told
+    pub is-allowed : (c : ℕ) → allowedW t g a c ≡ true → (u : State) × Next c u
+    unfolding Next
+    is-allowed c h = go (choose R s c) refl (agrees c)
       where
-        go : (o : Option (ℕ × State)) → lowest R s ≡ o → Told (lowestW t g a (R .trace .procs)) o → lowest R s ≡ none
-        go none q w = q
-        go (some u) q w = absurd (omega (arith, w .1, e, h))
+        go : (o : Option State) → choose R s c ≡ o → Agrees R (S .laws) t l g (S .cols) (allowedW t g a c) (applyW t l a c) o → (u : State) × Next c u
+        go none e (refuses y) = clash h y
+        go (some u) e (allows v y r′ j) = (u, (r′, j, e))
 
-    pub some-lowest : (c : ℕ) → c ≡ lowestW t g a (R .trace .procs) → (c ≡ noChoice → ⊥)
-        → (u : State) × (lowest R s ≡ some (c, u)) × (c < noChoice) × Rel R (applyW t l a c) u × Inv R u × (choose R s c ≡ some u)
-    unfolding Told
-    some-lowest c e h = go (lowest R s) refl (subst (λ x. Told x (lowest R s)) (sym e) lowest-told)
+    beyond : (c : ℕ) → noChoice ≤ c → choose R s c ≡ none
+    unfolding choose choiceOf bind
+    beyond c k = rw (le-ltb c 64 (omega arith), le-ltb c 4160 k)
+
+    pub none-lowest : NoneBefore t g a noChoice → lowest R s ≡ none
+    unfolding NoneBefore
+    none-lowest h = lowest-iff R (S .laws) s i .1 (λ c. on (le? noChoice c) (λ k. beyond c k) (λ k. not-allowed c (h c k)))
+
+    pub some-lowest : (c : ℕ) → NoneBefore t g a c → allowedW t g a c ≡ true
+        → (u : State) × (lowest R s ≡ some (c, u)) × Rel R (applyW t l a c) u × Inv R u × (choose R s c ≡ some u)
+    unfolding NoneBefore Next
+    some-lowest c n h = go (lowest R s) refl
       where
-        go : (o : Option (ℕ × State)) → lowest R s ≡ o → Told c o
-            → (u : State) × (lowest R s ≡ some (c, u)) × (c < noChoice) × Rel R (applyW t l a c) u × Inv R u × (choose R s c ≡ some u)
-        go none q w = absurd (h w)
-        go (some u) q w = (u .1, q ∙ ap (λ x. some (x, u .1)) (sym (w .0)), w .1, w .2, w .3, w .4)
+        w : (u : State) × Next c u
+        w = is-allowed c h
+
+        same : (v : ℕ × State) → lowest R s ≡ some v → c ≡ v .0
+        same v e = on (le? c (v .0)) (λ k. on (le? (v .0) c) (λ m. omega arith) (λ m. absurd (Option·none-ne-some (w .0) (sym ((lowest-some R (S .laws) s i v e) .1 c m) ∙ w .1 .2))))
+            (λ k. absurd (Option·none-ne-some (v .1) (sym (not-allowed (v .0) (n (v .0) k)) ∙ (lowest-some R (S .laws) s i v e) .0)))
+
+        go : (o : Option (ℕ × State)) → lowest R s ≡ o → (u : State) × (lowest R s ≡ some (c, u)) × Rel R (applyW t l a c) u × Inv R u × (choose R s c ≡ some u)
+        go none e = absurd (Option·none-ne-some (w .0) (sym (lowest-none R (S .laws) s i e c) ∙ w .1 .2))
+        go (some v) e =
+            let q = same v e in
+            let f : w .0 ≡ v .1 = Option·some-injective (w .0) (v .1) (sym (w .1 .2) ∙ ap (choose R s) q ∙ (lowest-some R (S .laws) s i v e) .0) in
+            (w .0, e ∙ ap (λ x. some (x, v .1)) (sym q) ∙ ap (λ x. some (c, x)) (sym f), w .1 .0, w .1 .1, w .1 .2)
 
   -- ---- The order of the lowest choices, i of them done
   module _ (most : ℕ) where
@@ -168,20 +121,16 @@ module _ (R : Run) (t l g a₀ : List ℕ) (S : Started R t l g a₀) where
     going-bound a i v = rel-bounded R (S .laws) t l g (S .cols) a (v .0) (v .1) (v .2)
 
     -- no choice is left
-    pub going-end : (a : List ℕ) (i n c : ℕ) → Going a i → n ≡ getD t 0 0 → c ≡ lowestW t g a n → c ≡ noChoice → Lowered R a most i
-    going-end a i n c v en e h =
-        ended a i v (from-none (most - i) (v .0) (none-lowest a (v .0) (v .1) (v .2) c (e ∙ ap (lowestW t g a) (en ∙ S .cols .base .procs-is)) h))
+    pub going-end : (a : List ℕ) (i : ℕ) → Going a i → NoneBefore t g a noChoice → Lowered R a most i
+    going-end a i v h = ended a i v (from-none (most - i) (v .0) (none-lowest a (v .0) (v .1) (v .2) h))
 
     -- as many as there may be are done
     pub going-out : (a : List ℕ) (i : ℕ) → Going a i → most ≤ i → Lowered R a most i
     going-out a i v h = ended a i v (let e : most - i ≡ 0 = omega arith in rw e (from-zero (v .0)))
 
-    pub chosen-lt : (a : List ℕ) (i n c : ℕ) → Going a i → n ≡ getD t 0 0 → c ≡ lowestW t g a n → (c ≡ noChoice → ⊥) → c < noChoice
-    chosen-lt a i n c v en e h = (some-lowest a (v .0) (v .1) (v .2) c (e ∙ ap (lowestW t g a) (en ∙ S .cols .base .procs-is)) h) .2
-
-    pub going-next : (a b : List ℕ) (i n c : ℕ) → Going a i → i < most → n ≡ getD t 0 0 → c ≡ lowestW t g a n → (c ≡ noChoice → ⊥) → b ≡ applyW t l a c → Going b (i + 1)
-    going-next a b i n c v l en e h eb =
-        let w = some-lowest a (v .0) (v .1) (v .2) c (e ∙ ap (lowestW t g a) (en ∙ S .cols .base .procs-is)) h in
+    pub going-next : (a b : List ℕ) (i c : ℕ) → Going a i → i < most → NoneBefore t g a c → allowedW t g a c ≡ true → b ≡ applyW t l a c → Going b (i + 1)
+    going-next a b i c v l n h eb =
+        let w = some-lowest a (v .0) (v .1) (v .2) c n h in
         let d : most - i ≡ suc (most - (i + 1)) = omega arith in
         let f : lowestFrom R (most - i) (v .0) ≡ c ∷ lowestFrom R (most - (i + 1)) (w .0) =
         ap (λ k. lowestFrom R k (v .0)) d ∙ from-some (most - (i + 1)) c (v .0) (w .0) (w .1) in
@@ -189,22 +138,25 @@ module _ (R : Run) (t l g a₀ : List ℕ) (S : Started R t l g a₀) where
         let car : carry R (v .0) (suc i) (c ∷ lowestFrom R (most - (i + 1)) (w .0)) ≡ run R order = ap (carry R (v .0) (suc i)) (sym f) ∙ v .3 in
         let one : suc i ≡ i + 1 = omega arith in (
           w .0,
-          rw eb (w .3),
-          w .4,
-          ap (λ k. carry R (w .0) k (lowestFrom R (most - (i + 1)) (w .0))) (ap suc (sym one)) ∙ sym (carry-some (v .0) (w .0) (suc i) c _ (w .5)) ∙ car,
+          rw eb (w .2),
+          w .3,
+          ap (λ k. carry R (w .0) k (lowestFrom R (most - (i + 1)) (w .0))) (ap suc (sym one)) ∙ sym (carry-some (v .0) (w .0) (suc i) c _ (w .4)) ∙ car,
           omega (arith, len),
         )
 
     -- ---- The answer
-    pub lowered-bound : (a : List ℕ) (n : ℕ) → Lowered R a most n → Bounded a
-    lowered-bound a n v = rel-bounded R (S .laws) t l g (S .cols) a (v .0) (v .1) (v .2)
+    module _ (all : most ≡ size (R .trace) + size (R .trace)) where
+      whole : order ≡ lowestOrder R
+      whole = ap (λ m. lowestFrom R m (start R)) all
 
-    pub lowered-answer : (a : List ℕ) (n : ℕ) (x : Replayed) → Lowered R a most n → x ≡ (record { number = 0; place = 0; steps = n; complete = noneFrom t g a 4160 })
-        → x ≡ answerOf R (run R order) (length order)
-    unfolding answerOf
-    lowered-answer a n x v e = e ∙ rw (v .3, none-same R (S .laws) t l g (S .cols) a (v .0) (v .1) (v .2), v .4)
+      pub lowered-answer : (a : List ℕ) (n : ℕ) (x : Replayed) → Lowered R a most n → x ≡ (record { number = 0; place = 0; steps = n; complete = true })
+          → x ≡ answerOf R (run R (lowestOrder R)) (length (lowestOrder R))
+      unfolding answerOf
+      lowered-answer a n x v e =
+          let o = lowest-order R (S .laws) in
+          e ∙ rw (o .1, complete-iff R (o .0) .1 (o .2), v .4 ∙ ap length whole)
 
-    pub lowered-words : (a b : List ℕ) (n : ℕ) → Lowered R a most n → length b ≡ areaWords
-        → ((k : ℕ) → k < currentBase → getD b k 0 ≡ getD a k 0) → ((k : ℕ) → currentBase ≤ k → k < areaWords → getD b k 0 ≡ 0) → b ≡ wordsOf R (run R order)
-    unfolding wordsOf
-    lowered-words a b n v j low high = rw (v .3) (record-left R (S .laws) t l g (S .cols) a b (v .0) (v .1) j low high)
+      pub lowered-words : (a b : List ℕ) (n : ℕ) → Lowered R a most n → length b ≡ areaWords
+          → ((k : ℕ) → k < currentBase → getD b k 0 ≡ getD a k 0) → ((k : ℕ) → currentBase ≤ k → k < areaWords → getD b k 0 ≡ 0) → b ≡ wordsOf R (run R (lowestOrder R))
+      unfolding wordsOf
+      lowered-words a b n v j low high = rw (← whole, v .3) (record-left R (S .laws) t l g (S .cols) a b (v .0) (v .1) j low high)

@@ -61,11 +61,11 @@ module _ (R : Run) (t l g a₀ : List ℕ) (S : Started R t l g a₀) where
   went-bound a (carriedOut s) r v h = rel-bounded R (S .laws) t l g (S .cols) a s (v .1) (v .2)
   went-bound a (refused i) r v h = absurd (omega (arith, v .0, v .1))
 
-  pub went-answer : (a : List ℕ) (w : Outcome) (r n : ℕ) (x : Replayed) → Left R a w r → r ≡ 0
-      → x ≡ (record { number = 0; place = 0; steps = n; complete = noneFrom t g a 4160 }) → x ≡ answerOf R w n
+  pub went-answer : (a : List ℕ) (w : Outcome) (r n : ℕ) (x : Replayed) (b : Bool) → Left R a w r → r ≡ 0 → b ≡ noneFrom t g a 4160
+      → x ≡ (record { number = 0; place = 0; steps = n; complete = b }) → x ≡ answerOf R w n
   unfolding Left answerOf
-  went-answer a (carriedOut s) r n x v h e = e ∙ rw (none-same R (S .laws) t l g (S .cols) a s (v .1) (v .2))
-  went-answer a (refused i) r n x v h e = absurd (omega (arith, v .0, v .1))
+  went-answer a (carriedOut s) r n x b v h d e = e ∙ rw (d, none-same R (S .laws) t l g (S .cols) a s (v .1) (v .2))
+  went-answer a (refused i) r n x b v h d e = absurd (omega (arith, v .0, v .1))
 
   pub went-words : (a b : List ℕ) (w : Outcome) (r : ℕ) → Left R a w r → r ≡ 0 → length b ≡ areaWords
       → ((k : ℕ) → k < currentBase → getD b k 0 ≡ getD a k 0) → ((k : ℕ) → currentBase ≤ k → k < areaWords → getD b k 0 ≡ 0) → b ≡ wordsOf R w

@@ -1,46 +1,53 @@
--- The lowest allowed choice by words, and what carrying out the lowest choices leaves. No public contract cites these.
-use Prim.Native.Nat.{ℕ, zero, suc, _+_, _*_}
+-- The search for the lowest allowed choice by words, and what carrying out the lowest choices leaves. No public contract cites these.
+use Prim.Native.Nat.{ℕ, _-_, _/_, _^_, _<_}
 use mathlib.Core.Path.{_≡_}
+use mathlib.Core.Bool.{false}
 use mathlib.Core.List.{List}
 use lib.ListN.{length}
+use lib.Bits.{bitAnd, bitOr}
+use lib.Count.{trailingZeros}
 use lib.Dec.{eqb}
 use Rattle.theory.specs.Lists.{pick}
-use Rattle.theory.specs.Line.{Run}
+use Rattle.theory.specs.Line.{Run, inSet}
 use Rattle.theory.specs.Replay.{State, start}
 use Rattle.theory.specs.Order.{carriedOut, run, lowestFrom}
 use Rattle.theory.proofs.Flow.{Inv}
-use Rattle.simulation.specs.Words.{allowedW}
+use Rattle.simulation.specs.Words.{lowW, processOk, handOk, allowedW}
 use Rattle.simulation.specs.Related.{Rel}
 
--- stands for no choice
+-- sets of processes, as numbers of 64 bits: all of them, the first member, the set without it, the set with process z
+abbrev pub everyone : ℕ
+everyone = 18446744073709551615
+
+unfoldable pub firstIn : ℕ → ℕ
+firstIn m = trailingZeros 64 m
+
+unfoldable pub restOf : ℕ → ℕ
+restOf m = bitAnd m (m - 1)
+
+unfoldable pub withIn : ℕ → ℕ → ℕ
+withIn m z = bitOr m (2 ^ z)
+
+-- the choices are the numbers before this
 abbrev pub noChoice : ℕ
 noChoice = 4160
 
-abbrev pub orNext : ℕ → ℕ → ℕ
-orNext c d = pick (eqb c noChoice) d c
-
--- the first of f 0 .. f (n - 1) that is a choice
-unfoldable pub firstOf : (ℕ → ℕ) → ℕ → ℕ
-firstOf f zero = noChoice
-firstOf f (suc n) = orNext (firstOf f n) (f n)
-
 module _ (t g a : List ℕ) where
-  -- a choice, where it is allowed
-  abbrev pub tried : ℕ → ℕ
-  tried c = pick (allowedW t g a c) c noChoice
+  -- no process outside of the set may run
+  unfoldable pub Idle : ℕ → Type 0
+  Idle m = (z : ℕ) → z < 64 → inSet m z ≡ false → processOk t g a z ≡ false
 
-  -- of n processes; of the channels of sender p; of all senders
-  abbrev pub ofProcesses : ℕ → ℕ
-  ofProcesses n = firstOf tried n
+  -- no kept message of a channel before c may be handed over
+  unfoldable pub Shut : ℕ → Type 0
+  Shut c = (d : ℕ) → d < c → handOk t g a (d / 64) d ≡ false
 
-  abbrev pub ofSender : ℕ → ℕ → ℕ
-  ofSender n p = firstOf (λ q. tried (64 + 64 * p + q)) n
+  -- no choice before c is allowed
+  unfoldable pub NoneBefore : ℕ → Type 0
+  NoneBefore c = (d : ℕ) → d < c → allowedW t g a d ≡ false
 
-  abbrev pub ofSenders : ℕ → ℕ
-  ofSenders n = firstOf (ofSender n) n
-
-  unfoldable pub lowestW : ℕ → ℕ
-  lowestW n = orNext (ofProcesses n) (ofSenders n)
+-- one thing, unless the least phase of an orphan not sent again is another in area b than it was in a
+unfoldable pub unlessLower : List ℕ → List ℕ → ℕ → ℕ → ℕ
+unlessLower a b x y = pick (eqb (lowW b) (lowW a)) x y
 
 -- the order of the lowest choices, at most so many, is carried out in n steps, and the area stands for the state that it comes to
 abbrev pub Lowered : Run → List ℕ → ℕ → ℕ → Type 0

@@ -5,19 +5,21 @@ ghost use mathlib.Core.Path.{_≡_};
 ghost use mathlib.Core.Bool.{true};
 ghost use Prim.Native.Nat.{ℕ, _+_, _-_, _*_, _/_, _%_, _≤_, _<_};
 ghost use lib.ListN.{length, getD};
+ghost use lib.Dec.{eqb};
+ghost use Rattle.theory.specs.Lists.{pick};
 ghost use Rattle.words.specs.Area.{areaWords};
-ghost use Rattle.simulation.specs.Words.{takenBase, currentBase, orphanBase, takeBase, putBase, lowPlace, numberW, valueW, sendOk, eventOk, processOk, handOk, allowedW, lowerW, lowOf, movedW, dropW, putInW, takeOutW, eventW, processW, applyW, Bounded, Small, noneFrom};
+ghost use Rattle.simulation.specs.Words.{takenBase, currentBase, orphanBase, takeBase, putBase, lowPlace, peerW, numberW, valueW, curW, sendOk, eventOk, processOk, handOk, allowedW, lowerW, lowOf, movedW, dropW, putInW, takeOutW, eventW, processW, applyW, Bounded, Small, noneFrom};
 ghost use Rattle.simulation.specs.Linking.{pairW, backW, mineW, orphanW, goesW, earlyW, chainA, linkL, linkA, linkedL, linkedA, beginA};
+ghost use Rattle.theory.specs.Events.{size};
 ghost use Rattle.theory.specs.Line.{Run, recorded};
 ghost use Rattle.simulation.specs.Related.{Started};
-ghost use Rattle.theory.specs.Replay.{start};
-ghost use Rattle.theory.specs.Order.{run, lowestFrom, lowestOrder};
+ghost use Rattle.theory.specs.Order.{run, lowestOrder};
 ghost use Rattle.replay.specs.Shapes.{Readable, Movable, Paired, PairedTo, Linkable};
 ghost use Rattle.trace.specs.Trace.{Trace};
 ghost use Rattle.theory.specs.Epochs.{past};
 ghost use Rattle.replay.specs.Left.{Left};
 ghost use Rattle.replay.specs.Given.{Given};
-ghost use Rattle.replay.specs.Lowest.{ofProcesses, ofSender, ofSenders, lowestW, Lowered};
+ghost use Rattle.replay.specs.Lowest.{everyone, firstIn, restOf, withIn, Idle, Shut, unlessLower, Lowered};
 ghost use Rattle.replay.specs.Answer.{answerOf, wordsOf};
 use protocol::EPOCH_BASE;
 use protocol::MATCH_BASE;
@@ -500,13 +502,12 @@ fn clear(area: &mut [u32], from: usize)
 }
 
 // The answer to an order that was carried out; the area keeps the record, its working words are 0 again.
-fn finish(full: &[u32], gates: &[u32], area: &mut [u32], steps: usize) -> Replayed
-    requires { ⌜ Readable (now full) (now gates) (now area) ⌝ }
-    ensures answer { λ r. ⌜ r ≡ (record { number = 0; place = 0; steps = steps; complete = noneFrom (now (full .entry)) (now (gates .entry)) (now (area .entry)) 4160 }) ⌝ }
+fn finish(area: &mut [u32], steps: usize, done: bool) -> Replayed
+    requires { ⌜ length (now area) ≡ areaWords ⌝ }
+    ensures answer { λ r. ⌜ r ≡ (record { number = 0; place = 0; steps = steps; complete = done }) ⌝ }
     ensures kept { λ _. ⌜ ((k : ℕ) → k < currentBase → getD (now (area .exit)) k 0 ≡ getD (now (area .entry)) k 0) ⌝ }
     ensures zeros { λ _. ⌜ ((k : ℕ) → currentBase ≤ k → k < areaWords → getD (now (area .exit)) k 0 ≡ 0) ⌝ }
 {
-    let done = complete(full, gates, area);
     clear(area, CURRENT);
     Replayed {
         number: 0,
@@ -538,7 +539,8 @@ fn replay_in(
             complete: false,
         };
     }
-    finish(full, gates, area, order.len())
+    let done = complete(full, gates, area);
+    finish(area, order.len(), done)
 }
 
 // The links and the first state: all events linked, then the least phase of an orphan.
@@ -566,91 +568,148 @@ pub fn replay(full: &[u32], gates: &[u32], order: &[u16], area: &mut [u32], cut:
     replay_in(full, &links, gates, order, area)
 }
 
-// The first of the processes that may run; CHOICES where there is none.
-fn of_processes(full: &[u32], gates: &[u32], area: &[u32], procs: usize) -> usize
-    requires { ⌜ (procs ≤ 64) × Readable (now full) (now gates) (now area) ⌝ }
-    ensures { λ r. ⌜ r ≡ ofProcesses (now (full .entry)) (now (gates .entry)) (now (area .entry)) procs ⌝ }
+// The lowest choice is looked for from where the last search ended: in a set outside of which no process may run, and from a channel
+// before which no kept message may be handed over. A step gives back to the set whom it may let run.
+const EVERYONE: u64 = 18446744073709551615;
+
+const CHANNELS: usize = 4096;
+
+// The first member of a set of processes.
+fn first(set: u64) -> usize
+    ensures { λ r. ⌜ r ≡ firstIn set ⌝ }
 {
-    let mut z: usize = 0;
-    while z < procs {
-        if allowed(full, gates, area, z) {
-            return z;
-        }
-        z += 1;
-    }
-    CHOICES
+    u64::trailing_zeros(set) as usize
 }
 
-// The first of the channels of sender p whose oldest kept message may be handed over.
-fn of_sender(full: &[u32], gates: &[u32], area: &[u32], procs: usize, p: usize) -> usize
-    requires { ⌜ (procs ≤ 64) × (p < 64) × Readable (now full) (now gates) (now area) ⌝ }
-    ensures { λ r. ⌜ r ≡ ofSender (now (full .entry)) (now (gates .entry)) (now (area .entry)) procs p ⌝ }
+// A set of processes that has a member, without its first.
+fn rest(set: u64) -> u64
+    requires { ⌜ 0 < set ⌝ }
+    ensures { λ r. ⌜ r ≡ restOf set ⌝ }
 {
-    let mut q: usize = 0;
-    while q < procs {
-        let c = HANDS + 64 * p + q;
-        if allowed(full, gates, area, c) {
+    set & (set - 1)
+}
+
+// A set of processes with process z.
+fn with(set: u64, z: usize) -> u64
+    requires { ⌜ z < 64 ⌝ }
+    ensures { λ r. ⌜ r ≡ withIn set z ⌝ }
+{
+    set | 1u64 << z
+}
+
+// The set from its first member that may run.
+fn runnable(full: &[u32], gates: &[u32], area: &[u32], set: u64) -> u64
+    requires { ⌜ Readable (now full) (now gates) (now area) × Idle (now full) (now gates) (now area) set ⌝ }
+    ensures part { λ r. ⌜ r ≤ set ⌝ }
+    ensures idle { λ r. ⌜ Idle (now (full .entry)) (now (gates .entry)) (now (area .entry)) r ⌝ }
+    ensures runs { λ r. ⌜ (0 < r → processOk (now (full .entry)) (now (gates .entry)) (now (area .entry)) (firstIn r) ≡ true) ⌝ }
+{
+    let mut left = set;
+    while left != 0 {
+        if process_ok(full, gates, area, first(left)) {
+            return left;
+        }
+        left = rest(left);
+    }
+    0
+}
+
+// The first channel, from one on, whose oldest kept message may be handed over; CHANNELS where there is none.
+fn next_hand(full: &[u32], gates: &[u32], area: &[u32], from: usize) -> usize
+    requires { ⌜ Readable (now full) (now gates) (now area) × Shut (now full) (now gates) (now area) from × (from ≤ 4096) ⌝ }
+    ensures shut { λ r. ⌜ Shut (now (full .entry)) (now (gates .entry)) (now (area .entry)) r ⌝ }
+    ensures found { λ r. ⌜ ((r ≡ 4096 → ⊥) → (r < 4096) × (handOk (now (full .entry)) (now (gates .entry)) (now (area .entry)) (r / 64) r ≡ true)) ⌝ }
+{
+    let mut c = from;
+    while c < CHANNELS {
+        if hand_ok(full, gates, area, c / 64, c) {
             return c;
         }
-        q += 1;
+        c += 1;
     }
-    CHOICES
+    CHANNELS
 }
 
-// The first of all channels, by sender, then receiver.
-fn of_senders(full: &[u32], gates: &[u32], area: &[u32], procs: usize) -> usize
-    requires { ⌜ (procs ≤ 64) × Readable (now full) (now gates) (now area) ⌝ }
-    ensures { λ r. ⌜ r ≡ ofSenders (now (full .entry)) (now (gates .entry)) (now (area .entry)) procs ⌝ }
+// The other process of the next event of process z.
+fn peer_of_next(full: &[u32], area: &[u32], z: usize) -> usize
+    requires { ⌜ (z < 64) × (length (now full) ≡ areaWords) × (length (now area) ≡ areaWords) × Bounded (now area) ⌝ }
+    ensures { λ r. ⌜ r ≡ peerW (now (full .entry)) (curW (now (area .entry)) z) ⌝ }
 {
-    let mut p: usize = 0;
-    while p < procs {
-        let c = of_sender(full, gates, area, procs, p);
-        if c != CHOICES {
-            return c;
-        }
-        p += 1;
-    }
-    CHOICES
+    let e = pointer(area, CURRENT + z);
+    (full[EVENT_BASE + e] / 64 % 64) as usize
 }
 
-// The lowest allowed choice: a process, or else a channel.
-fn lowest_choice(full: &[u32], gates: &[u32], area: &[u32], procs: usize) -> usize
-    requires { ⌜ (procs ≤ 64) × Readable (now full) (now gates) (now area) ⌝ }
-    ensures { λ r. ⌜ r ≡ lowestW (now (full .entry)) (now (gates .entry)) (now (area .entry)) procs ⌝ }
+// Where to look for a channel: from where the last search ended, unless the least phase is another than it was.
+fn look_from(was: u32, is: u32, from: usize) -> usize
+    ensures { λ r. ⌜ r ≡ pick (eqb is was) from 0 ⌝ }
 {
-    let c = of_processes(full, gates, area, procs);
-    if c != CHOICES {
-        return c;
+    if is == was {
+        return from;
     }
-    of_senders(full, gates, area, procs)
+    0
 }
 
-// Carries out the lowest choices, one after another, at most so many: how many there were.
+// The oldest kept message of channel c is handed over: the set of those whom that may let run.
+fn hand_over(links: &[u32], area: &mut [u32], c: usize) -> u64
+    requires { ⌜ (c < 4096) × (8197 ≤ length (now links)) × (length (now area) ≡ areaWords) × Bounded (now area) ⌝ }
+    ensures words { λ _. ⌜ now (area .exit) ≡ putInW (now (links .entry)) (now (area .entry)) c ⌝ }
+    ensures ends { λ r. ⌜ r ≡ withIn (withIn 0 (c / 64)) (c % 64) ⌝ }
+{
+    put_in(links, area, c);
+    with(with(0, c / 64), c % 64)
+}
+
+// The first member of a set does its next event: the set with those whom that may let run.
+fn run_first(full: &[u32], links: &[u32], area: &mut [u32], set: u64) -> u64
+    requires { ⌜ (firstIn set < 64) × Movable (now full) (now links) (now area) ⌝ }
+    ensures words { λ _. ⌜ now (area .exit) ≡ processW (now (full .entry)) (now (links .entry)) (now (area .entry)) (firstIn set) ⌝ }
+    ensures set { λ r. ⌜ r ≡ unlessLower (now (area .entry)) (now (area .exit)) (withIn set (peerW (now (full .entry)) (curW (now (area .entry)) (firstIn set)))) everyone ⌝ }
+{
+    let z = first(set);
+    let low = area[LOW];
+    let peer = peer_of_next(full, area, z);
+    do_process(full, links, area, z);
+    if area[LOW] != low {
+        return EVERYONE;
+    }
+    with(set, peer)
+}
+
+// Carries out the lowest choices, one after another, at most so many: how many there were. Only a new least phase lets others run, or
+// be handed over, than a step itself names.
 fn carry_lowest(full: &[u32], links: &[u32], gates: &[u32], area: &mut [u32], most: usize) -> usize
     requires { ⌜ (length (now full) ≡ areaWords) × (128 ≤ length (now gates)) × (length (now area) ≡ areaWords) × Small (now links) × ((R : Run) × Started R (now full) (now links) (now gates) (now area)) ⌝ }
     ensures { λ r. ⌜ ((R : Run) → Started R (now (full .entry)) (now (links .entry)) (now (gates .entry)) (now (area .entry)) → Lowered R (now (area .exit)) most r) ⌝ }
 {
-    let procs = wide(full[0]);
+    let mut may: u64 = EVERYONE;
+    let mut from: usize = 0;
     let mut i: usize = 0;
     while i < most {
-        let c = lowest_choice(full, gates, area, procs);
-        if c == CHOICES {
-            return i;
+        may = runnable(full, gates, area, may);
+        if may == 0 {
+            from = next_hand(full, gates, area, from);
+            if from == CHANNELS {
+                return i;
+            }
+            may = hand_over(links, area, from);
+        } else {
+            let low = area[LOW];
+            may = run_first(full, links, area, may);
+            from = look_from(low, area[LOW], from);
         }
-        apply(full, links, area, c);
         i += 1;
     }
     i
 }
 
-// Replays the order of the lowest choices from the first state.
+// Replays the order of the lowest choices from the first state. It is complete after twice as many steps as there are events, at most.
 fn lowest_in(full: &[u32], links: &[u32], gates: &[u32], area: &mut [u32], most: usize) -> Replayed
     requires { ⌜ (length (now full) ≡ areaWords) × (128 ≤ length (now gates)) × (length (now area) ≡ areaWords) × Small (now links) × ((R : Run) × Started R (now full) (now links) (now gates) (now area)) ⌝ }
-    ensures answer { λ r. ⌜ ((R : Run) → Started R (now (full .entry)) (now (links .entry)) (now (gates .entry)) (now (area .entry)) → r ≡ answerOf R (run R (lowestFrom R most (start R))) (length (lowestFrom R most (start R)))) ⌝ }
-    ensures words { λ _. ⌜ ((R : Run) → Started R (now (full .entry)) (now (links .entry)) (now (gates .entry)) (now (area .entry)) → now (area .exit) ≡ wordsOf R (run R (lowestFrom R most (start R)))) ⌝ }
+    ensures answer { λ r. ⌜ ((R : Run) → Started R (now (full .entry)) (now (links .entry)) (now (gates .entry)) (now (area .entry)) → most ≡ size (R .trace) + size (R .trace) → r ≡ answerOf R (run R (lowestOrder R)) (length (lowestOrder R))) ⌝ }
+    ensures words { λ _. ⌜ ((R : Run) → Started R (now (full .entry)) (now (links .entry)) (now (gates .entry)) (now (area .entry)) → most ≡ size (R .trace) + size (R .trace) → now (area .exit) ≡ wordsOf R (run R (lowestOrder R))) ⌝ }
 {
     let steps = carry_lowest(full, links, gates, area, most);
-    finish(full, gates, area, steps)
+    finish(area, steps, true)
 }
 
 // Replays the order that always takes the lowest allowed choice, from the line that the gates stand for, in an area of exactly 16,384

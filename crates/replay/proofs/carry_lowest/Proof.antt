@@ -1,71 +1,93 @@
--- `replay::carry_lowest` meets its contract: what is still to do of the order of lowest choices comes to what the whole of it does.
-use mathlib.Core.Path.{_≡_, refl, _∙_}
-use Prim.Native.Nat.{_-_, _≤_}
+-- `replay::carry_lowest` meets its contract: what is still to do of the order of lowest choices comes to what the whole of it does, and the search
+-- leaves nothing out.
+use mathlib.Core.Path.{_≡_, _∙_, ap}
+use mathlib.Core.Logic.{⊎-elim}
+use Prim.Native.Nat.{_-_, _≤_, _<_}
 use native.Mathlib.Omega.{arith}
-use lib.ListN.{length, getD}
-use Rattle.theory.specs.Line.{Run}
-use Rattle.simulation.specs.Related.{Started}
+use lib.ListN.{length}
 use Rattle.replay.proofs.Ordering.{procs-few, links-long}
-use Rattle.replay.proofs.Lowering.{Going, going-start, going-bound, going-end, going-out, going-next, chosen-lt}
+use Rattle.replay.proofs.Lowering.{going-bound, going-out}
+use Rattle.replay.proofs.Sets.{first-lt}
+use Rattle.replay.proofs.Searching.{Looking, looking-start, looking-hand, looking-run, search-end}
 use borrow.Author.Needs.{needs}
 use Rattle.replay.proofs.carry_lowest.Statement.{statement}
 use Rattle.replay.proofs.carry_lowest.Tie as tie
 
 abbrev Inv-loop : tie.InvT-loop
-Inv-loop full links gates area₀ most procs i₀ area i =
-    (i ≤ most) × (length area ≡ length area₀) × (procs ≡ getD full 0 0) × ((R : Run) → (S : Started R full links gates area₀) → Going R full links gates area₀ S most area i)
+Inv-loop full links gates area₀ most may₀ from₀ i₀ area may from i = (i ≤ most) × Looking full links gates area₀ most area may from i
 
 abbrev μ-loop : tie.MeasureT-loop
-μ-loop full links gates area₀ most procs i₀ area i = most - i
+μ-loop full links gates area₀ most may₀ from₀ i₀ area may from i = most - i
 
 loop-holds : tie.Need-loop-holds Inv-loop μ-loop
-loop-holds c =
-    let wide = c .wide in
-    let args = c .before .before .before .before .before .before .args in
-    (omega arith, refl, (wide .ensures), λ R S. going-start R _ _ _ _ S (args .most))
+loop-holds c = (omega arith, looking-start _ _ _ _ _)
 
-lowest-choice-requires : tie.Need-lowest-choice-requires Inv-loop μ-loop
-lowest-choice-requires c κs =
+runnable-requires : tie.Need-runnable-requires Inv-loop μ-loop
+runnable-requires c κs =
+    let pre = c .before .before .before .before .before .before .before .pre in
     let loop = c .before .before .loop in
-    let pre = c .before .before .before .before .before .before .before .before .before .pre in
-    let args = c .before .before .before .before .before .before .before .before .before .args in
-    (omega (arith, (loop .inv .2), procs-few _ _ _ _ _ ((pre .4) .1)), ((pre .0), (pre .1), (loop .inv .1) ∙ (pre .2), going-bound _ _ _ _ _ ((pre .4) .1) (args .most) (loop .area) (loop .i) ((loop .inv .3) ((pre .4) .0) ((pre .4) .1))))
+    let args = c .before .before .before .before .before .before .before .args in
+    (((pre .0), (pre .1), (loop .inv .1 .0) ∙ (pre .2), going-bound _ _ _ _ _ (pre .4 .1) (args .most) (loop .area) (loop .i) ((loop .inv .1 .5) (pre .4 .0) (pre .4 .1))), (loop .inv .1 .3))
+
+next-hand-requires : tie.Need-next-hand-requires Inv-loop μ-loop
+next-hand-requires c κs =
+    let pre = c .before .before .before .before .before .before .before .before .before .before .pre in
+    let loop = c .before .before .before .before .before .loop in
+    let args = c .before .before .before .before .before .before .before .before .before .before .args in
+    (((pre .0), (pre .1), (loop .inv .1 .0) ∙ (pre .2), going-bound _ _ _ _ _ (pre .4 .1) (args .most) (loop .area) (loop .i) ((loop .inv .1 .5) (pre .4 .0) (pre .4 .1))), (loop .inv .1 .4), (loop .inv .1 .2))
 
 returns : tie.Need-returns Inv-loop μ-loop
 returns c =
-    let args = c .before .before .before .before .before .before .before .before .before .before .before .args in
-    let loop = c .before .before .before .before .loop in
-    let lowest-choice = c .before .lowest-choice in
-    let if1 = c .if1 in
-    λ R S. going-end R _ _ _ _ S (args .most) (loop .area) (loop .i) _ _ ((loop .inv .3) R S) (loop .inv .2) (lowest-choice .ensures) (if1 .taken)
-
-apply-requires : tie.Need-apply-requires Inv-loop μ-loop
-apply-requires c κs =
-    let pre = c .before .before .before .before .before .before .before .before .before .before .before .before .pre in
     let args = c .before .before .before .before .before .before .before .before .before .before .before .before .args in
-    let loop = c .before .before .before .before .before .loop in
-    let lowest-choice = c .before .before .lowest-choice in
-    let if1 = c .before .if1 in
-    (chosen-lt _ _ _ _ _ ((pre .4) .1) (args .most) (loop .area) (loop .i) _ _ ((loop .inv .3) ((pre .4) .0) ((pre .4) .1)) (loop .inv .2) (lowest-choice .ensures) (if1 .left), ((pre .0), procs-few _ _ _ _ _ ((pre .4) .1), links-long _ _ _ _ _ ((pre .4) .1), (pre .3), (loop .inv .1) ∙ (pre .2), going-bound _ _ _ _ _ ((pre .4) .1) (args .most) (loop .area) (loop .i) ((loop .inv .3) ((pre .4) .0) ((pre .4) .1))))
+    let loop = c .before .before .before .before .before .before .before .loop in
+    let if1 = c .before .before .before .if1 in
+    let runnable = c .before .before .before .before .runnable in
+    let if2 = c .if2 in
+    let next-hand = c .before .next-hand in
+    λ R S. search-end R _ _ _ _ S (args .most) (loop .area) (loop .i) ((loop .inv .1 .5) R S) (rw (if1 .taken) at (runnable .ensures .1 .0)) (rw (if2 .taken) at (next-hand .ensures .0))
+
+hand-over-requires : tie.Need-hand-over-requires Inv-loop μ-loop
+hand-over-requires c κs =
+    let next-hand = c .before .before .next-hand in
+    let if2 = c .before .if2 in
+    let pre = c .before .before .before .before .before .before .before .before .before .before .before .before .before .pre in
+    let loop = c .before .before .before .before .before .before .before .before .loop in
+    let args = c .before .before .before .before .before .before .before .before .before .before .before .before .before .args in
+    (((next-hand .ensures .1) (if2 .left)) .0, links-long _ _ _ _ _ (pre .4 .1), (loop .inv .1 .0) ∙ (pre .2), going-bound _ _ _ _ _ (pre .4 .1) (args .most) (loop .area) (loop .i) ((loop .inv .1 .5) (pre .4 .0) (pre .4 .1)))
+
+run-first-requires : tie.Need-run-first-requires Inv-loop μ-loop
+run-first-requires c κs =
+    let runnable = c .before .before .before .runnable in
+    let if1 = c .before .before .if1 in
+    let loop = c .before .before .before .before .before .before .loop in
+    let pre = c .before .before .before .before .before .before .before .before .before .before .before .pre in
+    let args = c .before .before .before .before .before .before .before .before .before .before .before .args in
+    (first-lt (runnable .result) (omega (arith, (if1 .left))) (omega (arith, (runnable .ensures .0), (loop .inv .1 .1))), ((pre .0), procs-few _ _ _ _ _ (pre .4 .1), links-long _ _ _ _ _ (pre .4 .1), (pre .3), (loop .inv .1 .0) ∙ (pre .2), going-bound _ _ _ _ _ (pre .4 .1) (args .most) (loop .area) (loop .i) ((loop .inv .1 .5) (pre .4 .0) (pre .4 .1))))
 
 loop-again : tie.Need-loop-again Inv-loop μ-loop
 loop-again c =
-    let apply = c .before .before .apply in
-    let loop = c .before .before .before .before .before .before .before .before .loop in
-    let args = c .before .before .before .before .before .before .before .before .before .before .before .before .before .before .before .args in
-    let loop-test = c .before .before .before .before .before .before .before .loop-test in
-    let lowest-choice = c .before .before .before .before .before .lowest-choice in
-    let if1 = c .before .before .before .before .if1 in
-    (omega arith, (apply .kept .1 .1 .0) ∙ (loop .inv .1), (loop .inv .2), λ R S. going-next R _ _ _ _ S (args .most) (loop .area) _ (loop .i) _ _ ((loop .inv .3) R S) (loop-test .taken) (loop .inv .2) (lowest-choice .ensures) (if1 .left) (apply .ensures))
+    let pre = c .before .before .before .before .before .before .before .before .before .pre in
+    let loop = c .before .before .before .before .loop in
+    let loop-test = c .before .before .before .loop-test in
+    let runnable = c .before .runnable in
+    let if1 = c .if1 in (
+      omega arith,
+      ⊎-elim
+          (λ w. let n = w .2 .ensures .1 (w .3 .left) in
+          looking-hand _ _ _ _ _ (pre .4 .0) (pre .4 .1) (loop .area) _ (loop .i) (loop-test .taken) (loop .inv .1 .0) (ap length (w .8) ∙ w .5 .kept .1 .0) (loop .inv .1 .5) (w .2 .result) (n .0) (rw (w .0 .taken) at (runnable .ensures .1 .0)) (w .2 .ensures .0) (n .1) _ _ (w .8 ∙ w .5 .ensures .0) (w .9 ∙ w .5 .ensures .1) (w .10))
+          (λ w. let p : 0 < (runnable .result) = omega (arith, w .0 .left) in
+          looking-run _ _ _ _ _ (pre .4 .0) (pre .4 .1) (loop .area) _ (loop .i) (loop-test .taken) (loop .inv .1 .0) (w .3 .kept .1 .1 .0) (loop .inv .1 .5) (runnable .result) (loop .from) p (omega (arith, (runnable .ensures .0), (loop .inv .1 .1))) (loop .inv .1 .2) (runnable .ensures .1 .0) (loop .inv .1 .4) ((runnable .ensures .1 .1) p) _ _ (w .3 .ensures .0) (w .9 ∙ w .3 .ensures .1) (w .10 ∙ w .7 .ensures) _ (w .8))
+          (if1 .came),
+    )
 
 returns-2 : tie.Need-returns-2 Inv-loop μ-loop
 returns-2 c =
-    let args = c .before .before .before .before .before .before .before .before .args in
+    let args = c .before .before .before .before .before .before .args in
     let loop = c .before .loop in
     let loop-test = c .loop-test in
-    λ R S. going-out R _ _ _ _ S (args .most) (loop .area) (loop .i) ((loop .inv .3) R S) (loop-test .left)
+    λ R S. going-out R _ _ _ _ S (args .most) (loop .area) (loop .i) ((loop .inv .1 .5) R S) (loop-test .left)
 
 pub carry-lowest-spec : {M : Type 1} → statement M
 carry-lowest-spec =
     tie.close
-    (tie.spec Inv-loop μ-loop (λ c. search needs) (λ c κs. search needs) loop-holds lowest-choice-requires (λ c. search needs) returns apply-requires (λ c. search needs) (λ c. search needs) loop-again (λ c. search needs) returns-2)
+    (tie.spec Inv-loop μ-loop loop-holds runnable-requires next-hand-requires (λ c. search needs) returns hand-over-requires (λ c. search needs) run-first-requires (λ c. search needs) (λ c κs. search needs) (λ c. search needs) (λ c. search needs) loop-again (λ c. search needs) returns-2)

@@ -1,16 +1,14 @@
--- `replay::finish` meets its contract: completeness by the area as it was, then the working words 0.
+-- `replay::finish` meets its contract: the working words are 0 again.
 use native.Mathlib.Omega.{arith}
-use mathlib.Core.Path.{_≡_}
+use mathlib.Core.Path.{_≡_, refl}
 use borrow.Author.Needs.{needs}
 use Rattle.replay.proofs.finish.Statement.{statement}
 use Rattle.replay.proofs.finish.Tie as tie
 
 returns : tie.Need-returns
 returns c =
-    let complete = c .before .before .before .before .complete in
     let clear = c .before .before .clear in
-    let pre = c .before .before .before .before .before .before .before .before .before .pre in
-    (rw (complete .ensures), ((clear .ensures .0), λ k h j. (clear .ensures .1) k h (omega (arith, (pre .2), j))))
+    (refl, ((clear .ensures .0), λ k h j. (clear .ensures .1) k h (omega (arith, c .before .before .before .before .before .pre, j))))
 
 pub finish-spec : {M : Type 1} → statement M
-finish-spec = tie.close (tie.spec (λ c κs. search needs) (λ c κs. search needs) (λ c. search needs) returns)
+finish-spec = tie.close (tie.spec (λ c κs. search needs) (λ c. search needs) returns)

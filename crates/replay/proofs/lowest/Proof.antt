@@ -3,7 +3,7 @@ use mathlib.Core.Path.{_≡_, refl, _∙_}
 use native.Mathlib.Omega.{arith}
 use Rattle.theory.specs.Epochs.{past}
 use Rattle.theory.specs.Line.{recorded}
-use Rattle.replay.proofs.Beginning.{zeros, links-long, linkable, begun-in, small-in, count-few, lowest-answer, lowest-words}
+use Rattle.replay.proofs.Beginning.{zeros, links-long, linkable, begun-in, small-in, count-few, twice}
 use borrow.Author.Needs.{needs}
 use Rattle.replay.proofs.lowest.Statement.{statement}
 use Rattle.replay.proofs.lowest.Tie as tie
@@ -25,13 +25,13 @@ lowest-in-requires c κs =
 
 returns : tie.Need-returns
 returns c =
-    let wide = c .before .before .before .before .before .wide in
     let lowest-in = c .before .before .lowest-in in
     let args = c .before .before .before .before .before .before .before .before .before .before .before .before .before .before .before .before .before .before .before .before .args in
     let pre = c .before .before .before .before .before .before .before .before .before .before .before .before .before .before .before .before .before .before .before .before .pre in
     let zero = c .before .before .before .before .before .before .before .before .before .before .before .before .before .before .before .zero in
     let begin = c .before .before .before .before .before .before .before .before .before .before .begin in
-    (λ t line H. lowest-answer t line _ _ _ H _ (wide .ensures) _ ((lowest-in .ensures .0) (recorded t past (args .cut) line) (begun-in t line _ _ _ H _ _ refl (zeros (args .area .now) _ (pre .0) (zero .ensures)) _ _ (begin .ensures .0) (begin .ensures .1))), λ t line H. lowest-words t line _ _ _ H _ (wide .ensures) _ ((lowest-in .ensures .1) (recorded t past (args .cut) line) (begun-in t line _ _ _ H _ _ refl (zeros (args .area .now) _ (pre .0) (zero .ensures)) _ _ (begin .ensures .0) (begin .ensures .1))))
+    let wide = c .before .before .before .before .before .wide in
+    (λ t line H. (lowest-in .ensures .0) (recorded t past (args .cut) line) (begun-in t line _ _ _ H _ _ refl (zeros (args .area .now) _ (pre .0) (zero .ensures)) _ _ (begin .ensures .0) (begin .ensures .1)) (twice t line _ _ _ H _ (wide .ensures)), λ t line H. (lowest-in .ensures .1) (recorded t past (args .cut) line) (begun-in t line _ _ _ H _ _ refl (zeros (args .area .now) _ (pre .0) (zero .ensures)) _ _ (begin .ensures .0) (begin .ensures .1)) (twice t line _ _ _ H _ (wide .ensures)))
 
 shared-slice-read-wide : tie.Need-shared-slice-read-wide
 shared-slice-read-wide c =

@@ -1,0 +1,324 @@
+-- The search for the lowest choice: what a set of processes and a channel rule out, and what a step leaves of that. A process step can let run only
+-- that process and its peer, a message handed over only the two ends of its channel, unless the least phase of an orphan not sent again changes.
+use mathlib.Core.Path.{_≡_, refl, sym, _∙_, ap}
+use mathlib.Core.Logic.{_≢_}
+use mathlib.Core.Bool.{true, false}
+use mathlib.Core.List.{List, [], _∷_}
+use mathlib.Core.Option.{some}
+use Prim.Native.Nat.{ℕ, _+_, _-_, _*_, _/_, _%_, _^_, _≤_, _<_}
+use native.Mathlib.Omega.{arith}
+use lib.ListN.{length, getD, set}
+use lib.Seq.{getD-set-other}
+use lib.Dec.{ltb, eqb}
+use borrow.Author.Tests.{lt-ltb, le-ltb, eq-eqb, ne-eqb}
+use Rattle.words.proofs.Cases.{by-bool, by-lt, by-eq, clash}
+use Rattle.theory.specs.Lists.{pick}
+use Rattle.theory.specs.Line.{Run, inSet}
+use Rattle.theory.specs.Replay.{process, State}
+use Rattle.theory.specs.Order.{choiceOf}
+use Rattle.theory.proofs.Flow.{Inv, Did, did-other, did-send, did-recv, view}
+use Rattle.theory.proofs.Orders.{choose-of}
+use Rattle.simulation.specs.Words.{takenBase, currentBase, orphanBase, takeBase, putBase, lowPlace, kindW, peerW, valueW, numberW, curW, orpW, takeW, putW, lowW, sendOk, eventOk, processOk, handOk, allowedW, lowOf, movedW, dropW, putInW, takeOutW, eventW, processW, applyW, Bounded}
+use Rattle.simulation.specs.Related.{head0, Rel, Started}
+use Rattle.simulation.proofs.Facts.{left-none, left-some}
+use Rattle.simulation.proofs.Moves.{at-next}
+use Rattle.replay.specs.Lowest.{everyone, firstIn, restOf, withIn, Idle, Shut, NoneBefore, unlessLower, Lowered}
+use Rattle.replay.proofs.Sets.{none-in, everyone-in, lower-out, first-lt, first-in, rest-out, with-out, with-lt}
+use Rattle.replay.proofs.Lowering.{Next, is-allowed, Going, going-start, going-bound, going-end, going-next}
+
+-- ---- Words that a step leaves alone
+
+module _ (t l a : List ℕ) where
+  put-other : (c k : ℕ) → k ≢ putBase + c → getD (putInW l a c) k 0 ≡ getD a k 0
+  unfolding putInW
+  put-other c k h = getD-set-other a (putBase + c) k (getD l (4 * putW a c + 1) 0) 0 h
+
+  drop-other : (z e k : ℕ) → k ≢ orphanBase + z → k ≢ lowPlace → getD (dropW t l a z e) k 0 ≡ getD a k 0
+  unfolding dropW
+  drop-other z e k h j =
+      let b = set a (orphanBase + z) (getD l (4 * e + 2) 0) in
+      getD-set-other b lowPlace k (lowOf t b (getD t 0 0)) 0 j ∙ getD-set-other a (orphanBase + z) k (getD l (4 * e + 2) 0) 0 h
+
+  take-other : (c e k : ℕ) → e < 2049 → currentBase ≤ k → k ≢ takeBase + c → getD (takeOutW t l a c e) k 0 ≡ getD a k 0
+  unfolding takeOutW
+  take-other c e k lt j h =
+      let b = set a (takeBase + c) (getD l (4 * takeW a c + 1) 0) in
+      let d = set b e (numberW t (takeW a c)) in
+      getD-set-other d (takenBase + e) k (valueW t (takeW a c)) 0 (λ q. omega arith) ∙ getD-set-other b e k (numberW t (takeW a c)) 0 (λ q. omega arith)
+      ∙ getD-set-other a (takeBase + c) k (getD l (4 * takeW a c + 1) 0) 0 h
+
+  -- a word after the record that is no pointer of process z or of its peer's channels, nor the least phase
+  event-other : (z e k : ℕ) → e < 2049 → currentBase ≤ k → k ≢ orphanBase + z → k ≢ lowPlace → (kindW t e ≡ 1 → k ≢ putBase + (64 * z + peerW t e))
+      → k ≢ takeBase + (64 * peerW t e + z) → getD (eventW t l a z e) k 0 ≡ getD a k 0
+  unfolding eventW
+  event-other z e k b j o w p q = by-eq (kindW t e) 1
+      (λ s. rw (eq-eqb (kindW t e) 1 s) (by-bool (eqb (orpW a z) e)
+      (λ x. rw x (drop-other z e k o w))
+      (λ x. rw x (put-other (64 * z + peerW t e) k (p s)))))
+      (λ s. rw (ne-eqb (kindW t e) 1 s) (by-bool (eqb (kindW t e) 2)
+      (λ x. rw x (take-other (64 * peerW t e + z) e k b j q))
+      (λ x. rw x refl)))
+
+  module _ (z : ℕ) (bound : Bounded a) (hz : z < 64) where
+    e-lt : curW a z < 2049
+    unfolding Bounded
+    e-lt = bound (currentBase + z) (omega arith) (omega arith)
+
+    process-other : (k : ℕ) → currentBase ≤ k → k ≢ currentBase + z → k ≢ orphanBase + z → k ≢ lowPlace
+        → (kindW t (curW a z) ≡ 1 → k ≢ putBase + (64 * z + peerW t (curW a z))) → k ≢ takeBase + (64 * peerW t (curW a z) + z)
+        → getD (processW t l a z) k 0 ≡ getD a k 0
+    unfolding processW movedW
+    process-other k j c o w p q =
+        getD-set-other (eventW t l a z (curW a z)) (currentBase + z) k (getD l (4 * curW a z) 0) 0 c ∙ event-other z (curW a z) k e-lt j o w p q
+
+-- ---- Tests whose words are the same
+
+module _ (t g a b : List ℕ) (low : lowW b ≡ lowW a) where
+  hand-same : (p c : ℕ) → putW b c ≡ putW a c → handOk t g b p c ≡ handOk t g a p c
+  unfolding handOk
+  hand-same p c e = rw (e, low)
+
+  process-same : (z : ℕ) → curW b z ≡ curW a z → ((p : ℕ) → p < 64 → putW b (64 * z + p) ≡ putW a (64 * z + p))
+      → ((p : ℕ) → p < 64 → takeW b (64 * p + z) ≡ takeW a (64 * p + z)) → ((p : ℕ) → p < 64 → putW b (64 * p + z) ≡ putW a (64 * p + z))
+      → processOk t g b z ≡ processOk t g a z
+  unfolding processOk eventOk
+  process-same z c u v w =
+      let q : peerW t (curW a z) < 64 = omega arith in
+      rw (c, low, u (peerW t (curW a z)) q, v (peerW t (curW a z)) q, w (peerW t (curW a z)) q)
+
+-- ---- What a step leaves of the search
+
+module _ (t l g a : List ℕ) (bound : Bounded a) where
+  -- a message handed over on channel c, where no process may run
+  module _ (c : ℕ) (hc : c < 4096) where
+    hand-low : lowW (putInW l a c) ≡ lowW a
+    hand-low = put-other t l a c lowPlace (λ q. omega arith)
+
+    pub hand-idle : Idle t g a 0 → Idle t g (putInW l a c) (withIn (withIn 0 (c / 64)) (c % 64))
+    unfolding Idle
+    hand-idle h z hz o =
+        let v = with-out (withIn 0 (c / 64)) (c % 64) z o in
+        let w = with-out 0 (c / 64) z (v .0) in
+        process-same t g a (putInW l a c) hand-low z (put-other t l a c (currentBase + z) (λ q. omega arith))
+        (λ p k. put-other t l a c (putBase + (64 * z + p)) (λ q. w .1 (omega arith)))
+        (λ p k. put-other t l a c (takeBase + (64 * p + z)) (λ q. omega arith))
+        (λ p k. put-other t l a c (putBase + (64 * p + z)) (λ q. v .1 (omega arith)))
+        ∙ h z hz (none-in z)
+
+    pub hand-shut : Shut t g a c → Shut t g (putInW l a c) c
+    unfolding Shut
+    hand-shut h d k = hand-same t g a (putInW l a c) hand-low (d / 64) d (put-other t l a c (putBase + d) (λ q. omega arith)) ∙ h d k
+
+  -- a process step that does not change the least phase
+  module _ (m z : ℕ) (hz : z < 64) (member : inSet m z ≡ true) (low : lowW (processW t l a z) ≡ lowW a) where
+    pub run-idle : Idle t g a m → Idle t g (processW t l a z) (withIn m (peerW t (curW a z)))
+    unfolding Idle
+    run-idle h y hy o =
+        let v = with-out m (peerW t (curW a z)) y o in
+        let n : y ≢ z = λ e. clash (rw e member) (v .0) in
+        let other = process-other t l a z bound hz in
+        process-same t g a (processW t l a z) low y
+        (other (currentBase + y) (omega arith) (λ q. n (omega arith)) (λ q. omega arith) (λ q. omega arith) (λ s q. omega arith) (λ q. omega arith))
+        (λ p k. other (putBase + (64 * y + p)) (omega arith) (λ q. omega arith) (λ q. omega arith) (λ q. omega arith) (λ s q. n (omega arith)) (λ q. omega arith))
+        (λ p k. other (takeBase + (64 * p + y)) (omega arith) (λ q. omega arith) (λ q. omega arith) (λ q. omega arith) (λ s q. omega arith) (λ q. n (omega arith)))
+        (λ p k. other (putBase + (64 * p + y)) (omega arith) (λ q. omega arith) (λ q. omega arith) (λ q. omega arith) (λ s q. v .1 (omega arith)) (λ q. omega arith))
+        ∙ h y hy (v .0)
+
+-- ---- From the tests to the choices
+
+module _ (t l g a : List ℕ) where
+  run-none : (m : ℕ) → firstIn m ≤ 64 → Idle t g a m → NoneBefore t g a (firstIn m)
+  unfolding Idle NoneBefore allowedW
+  run-none m k h d j = let v : d < 64 = omega arith in rw (lt-ltb d 64 v) (h d v (lower-out m d j))
+
+  pub run-allowed : (z : ℕ) → z < 64 → processOk t g a z ≡ true → allowedW t g a z ≡ true
+  unfolding allowedW
+  run-allowed z v h = rw (lt-ltb z 64 v) h
+
+  pub run-applied : (z : ℕ) → z < 64 → applyW t l a z ≡ processW t l a z
+  unfolding applyW
+  run-applied z v = rw (lt-ltb z 64 v)
+
+  pub hand-none : (c : ℕ) → c ≤ 4096 → Idle t g a 0 → Shut t g a c → NoneBefore t g a (64 + c)
+  unfolding Idle Shut NoneBefore allowedW
+  hand-none c k h s d j = by-lt d 64
+      (λ v. rw (lt-ltb d 64 v) (h d v (none-in d)))
+      (λ v. let w : d < 4160 = omega arith in rw (le-ltb d 64 v, lt-ltb d 4160 w) (s (d - 64) (omega arith)))
+
+  pub hand-allowed : (c : ℕ) → c < 4096 → handOk t g a (c / 64) c ≡ true → allowedW t g a (64 + c) ≡ true
+  unfolding allowedW
+  hand-allowed c k h =
+      let e : 64 + c - 64 ≡ c = omega arith in
+      rw (le-ltb (64 + c) 64 (omega arith), lt-ltb (64 + c) 4160 (omega arith), e) h
+
+  pub hand-applied : (c : ℕ) → applyW t l a (64 + c) ≡ putInW l a c
+  unfolding applyW
+  hand-applied c = let e : 64 + c - 64 ≡ c = omega arith in rw (le-ltb (64 + c) 64 (omega arith), e)
+
+-- ---- No kept message becomes ready by a process step: the channel of a send has none left
+
+is-process : (z : ℕ) → z < 64 → choiceOf z ≡ some (process z)
+unfolding choiceOf
+is-process z h = rw (lt-ltb z 64 h)
+
+module _ (R : Run) (t l g a₀ : List ℕ) (S : Started R t l g a₀) where
+  left-same : (s u : State) (z p q : ℕ) → Did R s (process z) u → u .left p q ≡ s .left p q
+  left-same s u z p q (did-other h k) = refl
+  left-same s u z p q (did-send h k e) = refl
+  left-same s u z p q (did-recv h k e) = refl
+
+  module _ (a : List ℕ) (s : State) (r : Rel R a s) (i : Inv R s) (z : ℕ) (hz : z < 64) (ok : processOk t g a z ≡ true) where
+    z-in : z < R .trace .procs
+    unfolding processOk
+    z-in = go (s .todo z) refl
+      where
+        go : (es : List ℕ) → s .todo z ≡ es → z < R .trace .procs
+        go [] e = let c : eqb (curW a z) 0 ≡ true = eq-eqb (curW a z) 0 (r .cur z hz ∙ ap head0 e) in clash ok (rw c)
+        go (e ∷ es) h = let n = at-next R (S .laws) t l g (S .cols) s i z e es h in omega (arith, S .laws .process-lt e (n .0) (n .1), n .2)
+
+    -- where its next event is a send, no kept message of that channel is left
+    none-left : (q : ℕ) → q ≡ peerW t (curW a z) → kindW t (curW a z) ≡ 1 → s .left z q ≡ []
+    unfolding processOk eventOk
+    none-left q eq k = go (s .left z q) refl
+      where
+        hq : q < 64
+        hq = omega arith
+
+        go : (ms : List ℕ) → s .left z q ≡ ms → s .left z q ≡ []
+        go [] e = e
+        go (m ∷ ms) e =
+            let no : sendOk (getD g (64 + z) 0) (putW a (64 * z + peerW t (curW a z))) ≡ false =
+            rw (S .cols .base .gated .places z z-in, ← eq) (left-some R (S .laws) s i z q _ _ (r .chan z q hz hq) m ms e) in
+            clash ok (by-bool (eqb (curW a z) 0) (λ x. rw x) (λ x. rw x (by-bool (ltb (getD g z 0) (lowW a)) (λ y. rw (y, eq-eqb (kindW t (curW a z)) 1 k, no)) (λ y. rw y))))
+
+    module _ (u : State) (r′ : Rel R (processW t l a z) u) (j : Inv R u) (did : Did R s (process z) u) (bound : Bounded a) (low : lowW (processW t l a z) ≡ lowW a) where
+      shut-there : (q : ℕ) → q ≡ peerW t (curW a z) → kindW t (curW a z) ≡ 1 → handOk t g (processW t l a z) z (64 * z + q) ≡ false
+      unfolding handOk
+      shut-there q eq k =
+          let hq : q < 64 = omega arith in
+          let yes : sendOk (R .restart z) (putW (processW t l a z) (64 * z + q)) ≡ true =
+          left-none R (S .laws) u j z q _ _ (r′ .chan z q hz hq) (left-same s u z z q did ∙ none-left q eq k) in
+          rw (S .cols .base .gated .places z z-in, yes)
+
+      run-shut : (n : ℕ) → n ≤ 4096 → Shut t g a n → Shut t g (processW t l a z) n
+      unfolding Shut
+      run-shut n ln h d v = by-eq (kindW t (curW a z)) 1
+          (λ k. by-eq d (64 * z + peerW t (curW a z))
+          (λ e. let f : d / 64 ≡ z = omega arith in rw (f, e) (shut-there (peerW t (curW a z)) refl k))
+          (λ e. elsewhere (λ x q. e (omega arith))))
+          (λ k. elsewhere (λ x. absurd (k x)))
+        where
+          elsewhere : (kindW t (curW a z) ≡ 1 → putBase + d ≢ putBase + (64 * z + peerW t (curW a z))) → handOk t g (processW t l a z) (d / 64) d ≡ false
+          elsewhere o =
+              hand-same t g a (processW t l a z) low (d / 64) d
+              (process-other t l a z bound hz (putBase + d) (omega arith) (λ q. omega arith) (λ q. omega arith) (λ q. omega arith) o (λ q. omega arith))
+              ∙ h d v
+
+-- ---- The loop over the lowest choices
+
+pub all-idle : (t g a : List ℕ) → Idle t g a 18446744073709551615
+unfolding Idle
+all-idle t g a z hz o = clash (everyone-in z hz) o
+
+pub rest-idle : (t g a : List ℕ) (m : ℕ) → 0 < m → m < 2 ^ 64 → Idle t g a m → processOk t g a (firstIn m) ≡ false → Idle t g a (restOf m)
+unfolding Idle
+rest-idle t g a m p lm h f z hz o = by-eq z (firstIn m) (λ e. rw e f) (λ n. h z hz (rest-out m p lm z o n))
+
+pub next-shut : (t g a : List ℕ) (c : ℕ) → Shut t g a c → handOk t g a (c / 64) c ≡ false → Shut t g a (c + 1)
+unfolding Shut
+next-shut t g a c h f d k = by-eq d c (λ e. rw e f) (λ n. h d (omega arith))
+
+pub none-shut : (t g a : List ℕ) → Shut t g a 0
+unfolding Shut
+none-shut t g a d h = absurd (omega arith)
+
+module _ (R : Run) (t l g a₀ : List ℕ) (S : Started R t l g a₀) (most : ℕ) (a : List ℕ) (i : ℕ) (v : Going R t l g a₀ S most a i) where
+  -- no process may run, no kept message be handed over
+  pub search-end : Idle t g a 0 → Shut t g a 4096 → Lowered R a most i
+  search-end h k = going-end R t l g a₀ S most a i v (hand-none t l g a 4096 (omega arith) h k)
+
+  bound : Bounded a
+  bound = going-bound R t l g a₀ S most a i v
+
+  module _ (lt : i < most) (b : List ℕ) where
+    module _ (m : ℕ) (p : 0 < m) (lm : m < 2 ^ 64) (idle : Idle t g a m) (ok : processOk t g a (firstIn m) ≡ true) (eb : b ≡ processW t l a (firstIn m)) where
+      z-lt : firstIn m < 64
+      z-lt = first-lt m p lm
+
+      z-allowed : allowedW t g a (firstIn m) ≡ true
+      z-allowed = run-allowed t l g a (firstIn m) z-lt ok
+
+      pub run-going : Going R t l g a₀ S most b (i + 1)
+      run-going =
+          going-next R t l g a₀ S most a b i (firstIn m) v lt (run-none t l g a m (omega (arith, z-lt)) idle) z-allowed (eb ∙ sym (run-applied t l g a (firstIn m) z-lt))
+
+      pub run-idle-still : lowW b ≡ lowW a → Idle t g b (withIn m (peerW t (curW a (firstIn m))))
+      run-idle-still h = rw eb (run-idle t l g a bound m (firstIn m) z-lt (first-in m p lm) (rw eb at h) idle)
+
+      pub run-shut-still : lowW b ≡ lowW a → (n : ℕ) → n ≤ 4096 → Shut t g a n → Shut t g b n
+      unfolding Next
+      run-shut-still h n ln k =
+          let z = firstIn m in
+          let w = is-allowed R t l g a₀ S a (v .0) (v .1) (v .2) z z-allowed in
+          let d : Did R (v .0) (process z) (w .0) = view R (v .0) (w .0) (process z) (sym (choose-of R (v .0) z (process z) (is-process z z-lt)) ∙ w .1 .2) in
+          let r : Rel R (processW t l a z) (w .0) = rw (run-applied t l g a z z-lt) at (w .1 .0) in
+          rw eb (run-shut R t l g a₀ S a (v .0) (v .1) (v .2) z z-lt ok (w .0) r (w .1 .1) d bound (rw eb at h) n ln k)
+
+    module _ (c : ℕ) (hc : c < 4096) (idle : Idle t g a 0) (shut : Shut t g a c) (ok : handOk t g a (c / 64) c ≡ true) (eb : b ≡ putInW l a c) where
+      pub hand-going : Going R t l g a₀ S most b (i + 1)
+      hand-going = going-next R t l g a₀ S most a b i (64 + c) v lt (hand-none t l g a c (omega arith) idle shut) (hand-allowed t l g a c hc ok) (eb ∙ sym (hand-applied t l g a c))
+
+      pub hand-idle-still : Idle t g b (withIn (withIn 0 (c / 64)) (c % 64))
+      hand-idle-still = rw eb (hand-idle t l g a bound c hc idle)
+
+      pub hand-shut-still : Shut t g b c
+      hand-shut-still = rw eb (hand-shut t l g a bound c hc shut)
+
+-- what holds before each choice, i of them done: a set outside of which no process may run, a channel before which none is ready
+module _ (t l g a₀ : List ℕ) (most : ℕ) where
+  abbrev pub Looking : List ℕ → ℕ → ℕ → ℕ → Type 0
+  Looking a may from i =
+      (length a ≡ length a₀) × (may < 2 ^ 64) × (from ≤ 4096) × Idle t g a may × Shut t g a from
+      × ((R : Run) (S : Started R t l g a₀) → Going R t l g a₀ S most a i)
+
+  pub looking-start : Looking a₀ everyone 0 0
+  looking-start = (refl, omega arith, omega arith, all-idle t g a₀, none-shut t g a₀, λ R S. going-start R t l g a₀ S most)
+
+  module _ (R : Run) (S : Started R t l g a₀) (a b : List ℕ) (i : ℕ) (lt : i < most) (la : length a ≡ length a₀) (lb : length b ≡ length a)
+      (v : (R : Run) (S : Started R t l g a₀) → Going R t l g a₀ S most a i) where
+    -- the oldest kept message of channel c handed over
+    module _ (c : ℕ) (hc : c < 4096) (h : Idle t g a 0) (k : Shut t g a c) (ok : handOk t g a (c / 64) c ≡ true) (may from : ℕ) (eb : b ≡ putInW l a c)
+        (em : may ≡ withIn (withIn 0 (c / 64)) (c % 64)) (ef : from ≡ c) where
+      pub looking-hand : Looking b may from (i + 1)
+      looking-hand = rw (em, ef) (
+        lb ∙ la,
+        with-lt (withIn 0 (c / 64)) (c % 64) (with-lt 0 (c / 64) (omega arith) (omega arith)) (omega arith),
+        omega arith,
+        hand-idle-still R t l g a₀ S most a i (v R S) lt b c hc h k ok eb,
+        hand-shut-still R t l g a₀ S most a i (v R S) lt b c hc h k ok eb,
+        λ R S. hand-going R t l g a₀ S most a i (v R S) lt b c hc h k ok eb,
+      )
+
+    -- the next event of the first process of m done
+    module _ (m n : ℕ) (p : 0 < m) (lm : m < 2 ^ 64) (ln : n ≤ 4096) (h : Idle t g a m) (k : Shut t g a n) (ok : processOk t g a (firstIn m) ≡ true)
+        (may from : ℕ) (eb : b ≡ processW t l a (firstIn m)) (em : may ≡ unlessLower a b (withIn m (peerW t (curW a (firstIn m)))) everyone)
+        (ef : from ≡ pick (eqb (lowW b) (lowW a)) n 0) (d : List ℕ) (ed : d ≡ b) where
+      pub looking-run : Looking d may from (i + 1)
+      unfolding unlessLower
+      looking-run = by-eq (lowW b) (lowW a)
+          (λ e. rw (ed, em, ef, eq-eqb (lowW b) (lowW a) e) (
+            lb ∙ la,
+            with-lt m (peerW t (curW a (firstIn m))) lm (omega arith),
+            ln,
+            run-idle-still R t l g a₀ S most a i (v R S) lt b m p lm h ok eb e,
+            run-shut-still R t l g a₀ S most a i (v R S) lt b m p lm h ok eb e n ln k,
+            λ R S. run-going R t l g a₀ S most a i (v R S) lt b m p lm h ok eb,
+          ))
+          (λ e. rw (ed, em, ef, ne-eqb (lowW b) (lowW a) e) (
+            lb ∙ la,
+            omega arith,
+            omega arith,
+            all-idle t g b,
+            none-shut t g b,
+            λ R S. run-going R t l g a₀ S most a i (v R S) lt b m p lm h ok eb,
+          ))

@@ -1,0 +1,141 @@
+-- Sets of processes as numbers of 64 bits: their first member, the set without it, the set with one more.
+use mathlib.Core.Path.{_≡_, sym, _∙_, ap}
+use mathlib.Core.Bool.{true, false}
+use Prim.Native.Nat.{ℕ, zero, suc, _-_, _/_, _%_, _^_, min, max, _≤_, _<_}
+use native.Mathlib.Omega.{arith}
+use native.Mathlib.Nat.{pow-zero, pow-suc, div-one, div-self, zero-div}
+use native.Mathlib.Numerals.{one-add}
+use lib.Bits.{bitAnd, bitOr, and-step, or-step, and-le-r, or-lt, or-shr, and-shr}
+use lib.Count.{trailingZeros}
+use lib.Pow.{shr-shr, pow-pos, pow-lt}
+use borrow.Author.Tests.{eq-eqb, ne-eqb}
+use Rattle.words.proofs.Cases.{by-eq, clash}
+use Rattle.theory.specs.Line.{inSet}
+use Rattle.replay.specs.Lowest.{firstIn, restOf, withIn}
+
+-- bit z of m
+abbrev bit : ℕ → ℕ → ℕ
+bit m z = m / 2 ^ z % 2
+
+bit-zero : (m : ℕ) → bit m 0 ≡ m % 2
+bit-zero m = rw (pow-zero 2, div-one m)
+
+bit-suc : (m z : ℕ) → bit m (suc z) ≡ bit (m / 2) z
+bit-suc m z = ap (λ x. m / 2 ^ x % 2) (sym (one-add z)) ∙ ap (λ x. x % 2) (sym (shr-shr m 1 z))
+
+-- a bit of a sum of sets
+bit-or : (m x z : ℕ) → bit (bitOr m x) z ≡ max (bit m z) (bit x z)
+bit-or m x z =
+    let a = m / 2 ^ z in
+    let b = x / 2 ^ z in
+    let e : bitOr a b % 2 ≡ max (a % 2) (b % 2) = (let s = or-step a b in omega (arith, s)) in
+    rw (or-shr m x z) e
+
+bit-and : (m x z : ℕ) → bit (bitAnd m x) z ≡ min (bit m z) (bit x z)
+bit-and m x z =
+    let a = m / 2 ^ z in
+    let b = x / 2 ^ z in
+    let e : bitAnd a b % 2 ≡ min (a % 2) (b % 2) = (let s = and-step a b in omega (arith, s)) in
+    rw (and-shr m x z) e
+
+-- an even number's bits are those of its half; an odd one has its first member at 0
+module _ (k m : ℕ) where
+  even-first : m % 2 ≡ 0 → trailingZeros (suc k) m ≡ suc (trailingZeros k (m / 2))
+  unfolding trailingZeros
+  even-first h = rw h
+
+  odd-first : m % 2 ≡ 1 → trailingZeros (suc k) m ≡ 0
+  unfolding trailingZeros
+  odd-first h = rw h
+
+-- no member comes before the first
+before-first : (k m z : ℕ) → z < trailingZeros k m → bit m z ≡ 0
+unfolding trailingZeros
+before-first zero m z h = absurd (omega arith)
+before-first (suc k) m zero h = by-eq (m % 2) 0 (λ e. bit-zero m ∙ e) (λ o. absurd (omega (arith, odd-first k m (omega arith))))
+before-first (suc k) m (suc y) h =
+    by-eq (m % 2) 0 (λ e. bit-suc m y ∙ before-first k (m / 2) y (omega (arith, even-first k m e))) (λ o. absurd (omega (arith, odd-first k m (omega arith))))
+
+-- a number of k + 1 bits that is even and not 0: its half
+module _ (k m : ℕ) (p : 0 < m) (l : m < 2 ^ suc k) where
+  half-lt : m / 2 < 2 ^ k
+  half-lt = omega (arith, pow-suc 2 k)
+
+  half-pos : m % 2 ≡ 0 → 0 < m / 2
+  half-pos e = omega arith
+
+first-bit : (k m : ℕ) → 0 < m → m < 2 ^ k → (trailingZeros k m < k) × (bit m (trailingZeros k m) ≡ 1)
+first-bit zero m p l = absurd (omega (arith, pow-zero 2))
+first-bit (suc k) m p l = by-eq (m % 2) 0
+    (λ e. let i = first-bit k (m / 2) (half-pos k m p l e) (half-lt k m p l) in
+    rw (even-first k m e) (omega (arith, i .0), bit-suc m (trailingZeros k (m / 2)) ∙ i .1))
+    (λ o. let e : m % 2 ≡ 1 = omega arith in rw (odd-first k m e) (omega arith, bit-zero m ∙ e))
+
+-- one less has every member but the first
+less-one : (k m z : ℕ) → 0 < m → m < 2 ^ k → (z ≡ trailingZeros k m → ⊥) → bit m z ≤ bit (m - 1) z
+less-one zero m z p l h = absurd (omega (arith, pow-zero 2))
+less-one (suc k) m zero p l h = by-eq (m % 2) 0
+    (λ e. omega (arith, bit-zero m, e))
+    (λ o. absurd (h (sym (odd-first k m (omega arith)))))
+less-one (suc k) m (suc y) p l h = by-eq (m % 2) 0
+    (λ e. let q : (m - 1) / 2 ≡ m / 2 - 1 = omega arith in
+    let i = less-one k (m / 2) y (half-pos k m p l e) (half-lt k m p l) (λ x. h (ap suc x ∙ sym (even-first k m e))) in
+    rw (bit-suc m y, bit-suc (m - 1) y, q) i)
+    (λ o. let q : (m - 1) / 2 ≡ m / 2 = omega arith in rw (bit-suc m y, bit-suc (m - 1) y, q) (omega arith))
+
+all-bits : (k z : ℕ) → z < k → bit (2 ^ k - 1) z ≡ 1
+all-bits zero z l = absurd (omega arith)
+all-bits (suc k) zero l = bit-zero (2 ^ suc k - 1) ∙ omega (arith, pow-suc 2 k, pow-pos k)
+all-bits (suc k) (suc y) l =
+    let q : (2 ^ suc k - 1) / 2 ≡ 2 ^ k - 1 = omega (arith, pow-suc 2 k, pow-pos k) in
+    bit-suc (2 ^ suc k - 1) y ∙ rw q (all-bits k y (omega arith))
+
+-- ---- Members
+
+out-bit : (m z : ℕ) → inSet m z ≡ false → bit m z ≡ 0
+out-bit m z h = by-eq (bit m z) 1 (λ e. clash (eq-eqb (bit m z) 1 e) h) (λ n. omega arith)
+
+bit-out : (m z : ℕ) → bit m z ≡ 0 → inSet m z ≡ false
+bit-out m z h = ne-eqb (bit m z) 1 (λ e. omega arith)
+
+pub none-in : (z : ℕ) → inSet 0 z ≡ false
+none-in z = bit-out 0 z (rw (zero-div (2 ^ z)))
+
+pub everyone-in : (z : ℕ) → z < 64 → inSet 18446744073709551615 z ≡ true
+everyone-in z l = eq-eqb (bit 18446744073709551615 z) 1 (all-bits 64 z l)
+
+pub lower-out : (m z : ℕ) → z < firstIn m → inSet m z ≡ false
+unfolding firstIn
+lower-out m z l = bit-out m z (before-first 64 m z l)
+
+module _ (m : ℕ) (p : 0 < m) (l : m < 2 ^ 64) where
+  pub first-lt : firstIn m < 64
+  unfolding firstIn
+  first-lt = first-bit 64 m p l .0
+
+  pub first-in : inSet m (firstIn m) ≡ true
+  unfolding firstIn
+  first-in = eq-eqb (bit m (trailingZeros 64 m)) 1 (first-bit 64 m p l .1)
+
+  pub rest-out : (z : ℕ) → inSet (restOf m) z ≡ false → (z ≡ firstIn m → ⊥) → inSet m z ≡ false
+  unfolding firstIn restOf
+  rest-out z o n =
+      let a = out-bit (bitAnd m (m - 1)) z o in
+      let b = bit-and m (m - 1) z in
+      let c = less-one 64 m z p l n in
+      bit-out m z (omega (arith, a, b, c))
+
+pub with-out : (m q z : ℕ) → inSet (withIn m q) z ≡ false → (inSet m z ≡ false) × (z ≡ q → ⊥)
+unfolding withIn
+with-out m q z o =
+    let a = out-bit (bitOr m (2 ^ q)) z o in
+    let b = bit-or m (2 ^ q) z in
+    (bit-out m z (omega (arith, a, b)), λ e. let c : bit (2 ^ q) z ≡ 1 = rw (e, div-self (pow-pos q)) in omega (arith, a, b, c))
+
+pub rest-less : (m : ℕ) → 0 < m → restOf m < m
+unfolding restOf
+rest-less m p = omega (arith, and-le-r m (m - 1))
+
+pub with-lt : (m q : ℕ) → m < 2 ^ 64 → q < 64 → withIn m q < 2 ^ 64
+unfolding withIn
+with-lt m q l k = or-lt 64 m (2 ^ q) l (pow-lt k)

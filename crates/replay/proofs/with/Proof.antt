@@ -1,0 +1,18 @@
+-- `replay::with` meets its contract.
+use mathlib.Core.Path.{_∙_, ap}
+use Prim.Native.Nat.{_^_}
+use native.Mathlib.Omega.{arith}
+use native.Mathlib.Nat.{one-mul}
+use lib.Bits.{bitOr}
+use lib.Pow.{shl-exact}
+use borrow.Author.Needs.{needs}
+use Rattle.replay.specs.Lowest.{withIn}
+use Rattle.replay.proofs.with.Statement.{statement}
+use Rattle.replay.proofs.with.Tie as tie
+
+returns : tie.Need-returns
+unfolding withIn
+returns c = ap (bitOr (c .args .set)) (shl-exact 1 (c .args .z) 64 (omega arith) (omega arith) ∙ one-mul (2 ^ c .args .z))
+
+pub with-spec : {M : Type 1} → statement M
+with-spec = tie.close (tie.spec (λ c. search needs) returns)
