@@ -1,12 +1,15 @@
 -- Laws of the tests: one for each turn and each way out of the functions that test an area's words.
 use Prim.Native.Nat.{ℕ, suc, _+_, _-_, _/_, _%_, _<_, _≤_}
-use mathlib.Core.Path.{_≡_}
+use mathlib.Core.Path.{_≡_, sym}
 use mathlib.Core.List.{List, [], _∷_, _++_}
-use mathlib.Core.Bool.{Bool, true, false}
+use mathlib.Core.Bool.{Bool, true, false, _&&_, and-true, and-false, and-assoc}
 use native.Mathlib.Omega.{arith}
 use native.Mathlib.Numerals.{add-one}
 use lib.ListN.{length, getD}
+use lib.Bits.{bitOr, or-add-and, or-zero-l, and-le-l, and-le-r}
+use lib.Dec.{eqb}
 use borrow.Author.Tests.{le-leb, lt-leb, eq-eqb, ne-eqb}
+use Rattle.words.proofs.Cases.{by-eq}
 use Rattle.trace.specs.declared.Event.{Event}
 use Rattle.trace.specs.declared.Event.the-variants.{Send, Recv, Save}
 use Rattle.trace.specs.Fit.{faultOf}
@@ -28,19 +31,28 @@ module _ (w v : ℕ) where
   unfolding eventOf
   event-save n m = rw (ne-eqb (w / 4096) 1 n, ne-eqb (w / 4096) 2 m)
 
--- the turns of `zeros`, at place i
-module _ (a : List ℕ) (i to : ℕ) where
-  pub zeros-end : to ≤ i → zerosFrom a i (to - i) ≡ true
-  unfolding zerosFrom
-  zeros-end h = let e : to - i ≡ 0 = omega arith in rw e
+-- two numbers have a bit together exactly if one of them has
+or-zero : (x y : ℕ) → eqb (bitOr x y) 0 ≡ eqb x 0 && eqb y 0
+or-zero x y = by-eq (bitOr x y) 0
+    (λ e. let n = or-add-and x y in
+    let l = and-le-l x y in
+    let r = and-le-r x y in
+    rw (eq-eqb (bitOr x y) 0 e, eq-eqb x 0 (omega (arith, e, n, r)), eq-eqb y 0 (omega (arith, e, n, l))))
+    (λ e. by-eq x 0
+    (λ h. by-eq y 0 (λ k. absurd (e (rw (h, k) (or-zero-l 0)))) (λ k. rw (ne-eqb (bitOr x y) 0 e, ne-eqb y 0 k, and-false (eqb x 0))))
+    (λ h. rw (ne-eqb (bitOr x y) 0 e, ne-eqb x 0 h)))
 
-  pub zeros-other : i < to → (getD a i 0 ≡ 0 → ⊥) → zerosFrom a i (to - i) ≡ false
+-- the turns of `zeros`, at place i, with the words before it together
+module _ (a : List ℕ) (any i to : ℕ) where
+  pub zeros-end : to ≤ i → eqb any 0 && zerosFrom a i (to - i) ≡ eqb any 0
   unfolding zerosFrom
-  zeros-other l n = let e : to - i ≡ suc (to - suc i) = omega arith in rw (e, ne-eqb (getD a i 0) 0 n)
+  zeros-end h = let e : to - i ≡ 0 = omega arith in rw (e, and-true (eqb any 0))
 
-  pub zeros-next : i < to → getD a i 0 ≡ 0 → zerosFrom a i (to - i) ≡ zerosFrom a (i + 1) (to - (i + 1))
+  pub zeros-next : i < to → eqb any 0 && zerosFrom a i (to - i) ≡ eqb (bitOr any (getD a i 0)) 0 && zerosFrom a (i + 1) (to - (i + 1))
   unfolding zerosFrom
-  zeros-next l z = let e : to - i ≡ suc (to - suc i) = omega arith in rw (add-one i, e, eq-eqb (getD a i 0) 0 z)
+  zeros-next l =
+      let e : to - i ≡ suc (to - suc i) = omega arith in
+      rw (add-one i, e, or-zero any (getD a i 0)) (sym (and-assoc (eqb any 0) (eqb (getD a i 0) 0) (zerosFrom a (suc i) (to - suc i))))
 
 -- the turns of `events_fit`, at event number i: w and v are its word and value, e the event that they say
 module _ (p : ℕ) (es : List Event) (a : List ℕ) (i n : ℕ) where

@@ -34,19 +34,19 @@ pub fn event(word: u32, value: u32) -> Event
     Event::Save { at: at }
 }
 
-// Whether the words from a place up to another are 0.
+// Whether the words from a place up to another are 0. They are looked at together, with no way out between, so that the machine can take
+// several at once: most words of an area are such.
 fn zeros(area: &[u32], from: usize, to: usize) -> bool
     requires { ⌜ (from ≤ to) × (to ≤ length (now area)) ⌝ }
     ensures { λ r. ⌜ r ≡ zerosFrom (now (area .entry)) from (to - from) ⌝ }
 {
+    let mut any: u32 = 0;
     let mut i = from;
     while i < to {
-        if area[i] != 0 {
-            return false;
-        }
+        any = any | area[i];
         i += 1;
     }
-    true
+    any == 0
 }
 
 // Whether the first n events are fit one after another and have the words that the area has.
