@@ -1,5 +1,6 @@
 pub mod Classes
 pub mod Turns
+pub mod Pairs
 pub mod Chains
 pub mod Rows
 pub mod Following
