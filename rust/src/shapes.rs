@@ -163,6 +163,8 @@ pub enum Shape {
     Orphans,
     /// One half is an epoch ahead of the other, and phases rise with each turn between them.
     Steep,
+    /// The same of the last two processes alone, so that there are as many phases as can be.
+    Turns,
 }
 
 /// How often processes save and receive.
@@ -178,13 +180,14 @@ pub struct Habits {
 
 impl Shape {
     /// All shapes.
-    pub const ALL: [Shape; 6] = [
+    pub const ALL: [Shape; 7] = [
         Shape::Dense,
         Shape::Ring,
         Shape::Clusters,
         Shape::Checkpoints,
         Shape::Orphans,
         Shape::Steep,
+        Shape::Turns,
     ];
 
     /// The name of this shape.
@@ -196,6 +199,7 @@ impl Shape {
             Shape::Checkpoints => "checkpoints",
             Shape::Orphans => "orphans",
             Shape::Steep => "steep",
+            Shape::Turns => "turns",
         }
     }
 
@@ -227,6 +231,7 @@ impl Shape {
                 let high = half + random.below(procs - half);
                 random.pick(&[(low, high), (high, low)])
             }
+            Shape::Turns => random.pick(&[(procs - 2, procs - 1), (procs - 1, procs - 2)]),
         }
     }
 
@@ -236,6 +241,7 @@ impl Shape {
             Shape::Checkpoints => 30,
             Shape::Steep if events > 256 => 0,
             Shape::Steep => 1,
+            Shape::Turns => 0,
             _ => 3,
         };
         match self {
@@ -243,6 +249,11 @@ impl Shape {
                 saves,
                 receives: 100,
                 in_transit: procs / 2,
+            },
+            Shape::Turns => Habits {
+                saves,
+                receives: 100,
+                in_transit: 1,
             },
             _ => Habits {
                 saves,
@@ -268,8 +279,13 @@ impl Shape {
         let mut made = Vec::with_capacity(events);
         let mut in_transit: Vec<(usize, usize)> = Vec::new();
         let mut saves = [0; MAX_PROCS];
-        if self == Shape::Steep {
-            let ahead = saves[..procs].iter_mut().enumerate().skip(procs / 2);
+        let ahead = match self {
+            Shape::Steep => procs - procs / 2,
+            Shape::Turns => 1,
+            _ => 0,
+        };
+        if ahead > 0 {
+            let ahead = saves[..procs].iter_mut().enumerate().skip(procs - ahead);
             for (at, saves) in ahead.take(events) {
                 *saves += 1;
                 made.push(Event::Save { at });
@@ -310,6 +326,7 @@ impl Shape {
         let (first, count) = match self {
             Shape::Orphans => (0, half),
             Shape::Steep if random.percent(75) => (half, trace.procs - half),
+            Shape::Turns if random.percent(75) => (trace.procs - 1, 1),
             _ => (0, trace.procs),
         };
         let all = u64::MAX >> (MAX_PROCS - count) << first;

@@ -104,6 +104,7 @@ mod bench {
             let set = match shape {
                 Shape::Orphans => u64::MAX >> (MAX_PROCS - half),
                 Shape::Steep => u64::MAX >> (MAX_PROCS - half) << half,
+                Shape::Turns => 1 << (procs - 1),
                 _ => 1,
             };
             let failure = Failure {
