@@ -8,7 +8,7 @@ use mathlib.Core.Option.{some}
 use Prim.Native.Nat.{ℕ, _+_, _-_, _*_, _/_, _%_, _^_, _≤_, _<_}
 use native.Mathlib.Omega.{arith}
 use lib.ListN.{length, getD, set}
-use lib.Seq.{getD-set-other}
+use lib.Seq.{getD-set-same, getD-set-other}
 use lib.Dec.{ltb, eqb}
 use borrow.Author.Tests.{lt-ltb, le-ltb, eq-eqb, ne-eqb}
 use Rattle.words.proofs.Cases.{by-bool, by-lt, by-eq, clash}
@@ -18,11 +18,11 @@ use Rattle.theory.specs.Replay.{process, State}
 use Rattle.theory.specs.Order.{choiceOf}
 use Rattle.theory.proofs.Flow.{Inv, Did, did-other, did-send, did-recv, view}
 use Rattle.theory.proofs.Orders.{choose-of}
-use Rattle.simulation.specs.Words.{takenBase, currentBase, orphanBase, takeBase, putBase, lowPlace, kindW, peerW, valueW, numberW, curW, orpW, takeW, putW, lowW, sendOk, eventOk, processOk, handOk, allowedW, lowOf, movedW, dropW, putInW, takeOutW, eventW, processW, applyW, Bounded}
+use Rattle.simulation.specs.Words.{takenBase, currentBase, orphanBase, takeBase, putBase, lowPlace, noPhase, kindW, peerW, valueW, numberW, phaseW, curW, orpW, takeW, putW, lowW, sendOk, eventOk, processOk, handOk, allowedW, lowOf, movedW, dropW, putInW, takeOutW, eventW, processW, applyW, Bounded}
 use Rattle.simulation.specs.Related.{head0, Rel, Started}
 use Rattle.simulation.proofs.Facts.{left-none, left-some}
 use Rattle.simulation.proofs.Moves.{at-next}
-use Rattle.replay.specs.Lowest.{everyone, firstIn, restOf, withIn, Idle, Shut, NoneBefore, unlessLower, Lowered}
+use Rattle.replay.specs.Lowest.{everyone, firstIn, restOf, withIn, keptPhase, Idle, Shut, Under, NoneBefore, unlessLower, Lowered}
 use Rattle.replay.proofs.Sets.{none-in, everyone-in, lower-out, first-lt, first-in, rest-out, with-out, with-lt}
 use Rattle.replay.proofs.Lowering.{Next, is-allowed, Going, going-start, going-bound, going-end, going-next}
 
@@ -86,6 +86,65 @@ module _ (t g a b : List ℕ) (low : lowW b ≡ lowW a) where
       let q : peerW t (curW a z) < 64 = omega arith in
       rw (c, low, u (peerW t (curW a z)) q, v (peerW t (curW a z)) q, w (peerW t (curW a z)) q)
 
+kept-same : (t g a b : List ℕ) (p c : ℕ) → putW b c ≡ putW a c → keptPhase t g b p c ≡ keptPhase t g a p c
+unfolding keptPhase
+kept-same t g a b p c e = rw e
+
+-- ---- Phases of kept messages
+
+module _ (t g a : List ℕ) where
+  shut-under : (p c n : ℕ) → lowW a ≤ n → n ≤ keptPhase t g a p c → handOk t g a p c ≡ false
+  unfolding keptPhase handOk
+  shut-under p c n h k = by-bool (sendOk (getD g (64 + p) 0) (putW a c))
+      (λ e. rw e)
+      (λ e. let m : n ≤ phaseW t (putW a c) = rw e at k in rw (e, le-ltb (phaseW t (putW a c)) (lowW a) (omega arith)))
+
+  pub none-under : (ls : List ℕ) → ((p : ℕ) → p < 64 → getD ls p 0 ≡ 0) → Under t g a ls
+  unfolding Under
+  none-under ls z p h = let e = z p h in (omega (arith, e), λ q k. omega (arith, e))
+
+  module _ (p : ℕ) (hp : p < 64) where
+    -- a sender whose phase is not ready
+    pub under-shut : (ls : List ℕ) → Under t g a ls → lowW a ≤ getD ls p 0 → (q : ℕ) → q < 64 → handOk t g a p (64 * p + q) ≡ false
+    unfolding Under
+    under-shut ls u h q k = shut-under p (64 * p + q) (getD ls p 0) h (u p hp .1 q k)
+
+    pub under-set : (ls : List ℕ) (v : ℕ) → length ls ≡ 64 → Under t g a ls → v ≤ noPhase → ((q : ℕ) → q < 64 → v ≤ keptPhase t g a p (64 * p + q)) → Under t g a (set ls p v)
+    unfolding Under
+    under-set ls v n u h k x hx = by-eq x p
+        (λ e. let f : getD (set ls p v) x 0 ≡ v = rw e (getD-set-same ls p v 0 (omega (arith, n))) in rw (f, e) (h, k))
+        (λ e. rw (getD-set-other ls p x v 0 e) (u x hx))
+
+  module _ (p : ℕ) where
+    -- the receivers before q: none is ready, and a phase that theirs are not below
+    abbrev pub Waits : ℕ → ℕ → Type 0
+    Waits least q = (least ≤ noPhase) × ((r : ℕ) → r < q → least ≤ keptPhase t g a p (64 * p + r)) × ((r : ℕ) → r < q → handOk t g a p (64 * p + r) ≡ false)
+
+    pub waits-none : Waits noPhase 0
+    waits-none = (omega arith, (λ r h. absurd (omega arith)), λ r h. absurd (omega arith))
+
+    pub waits-next : (least q f m : ℕ) → Waits least q → f ≡ keptPhase t g a p (64 * p + q) → lowW a ≤ f → m ≡ pick (ltb f least) f least → Waits m (q + 1)
+    waits-next least q f m w e h em = (
+      omega (arith, w .0, less .0),
+      (λ r k. by-eq r q (λ x. rw x (omega (arith, e, less .1))) (λ x. omega (arith, w .1 r (omega arith), less .0))),
+      λ r k. by-eq r q (λ x. rw x (shut-under p (64 * p + q) f h (omega (arith, e)))) (λ x. w .2 r (omega arith)),
+    )
+      where
+        less : (m ≤ least) × (m ≤ f)
+        less = by-lt f least (λ k. let x : m ≡ f = em ∙ rw (lt-ltb f least k) in (omega arith, omega arith)) (λ k. let x : m ≡ least = em ∙ rw (le-ltb f least k) in (omega arith, omega arith))
+
+-- the channels of a sender after those of the ones before
+pub shut-to : (t g a : List ℕ) (p q : ℕ) → q ≤ 64 → Shut t g a (64 * p) → ((r : ℕ) → r < q → handOk t g a p (64 * p + r) ≡ false) → Shut t g a (64 * p + q)
+unfolding Shut
+shut-to t g a p q l h k d j = by-lt d (64 * p) (λ m. h d m)
+    (λ m. let e : d ≡ 64 * p + (d - 64 * p) = omega arith in
+    let f : d / 64 ≡ p = omega arith in
+    rw (f, e) (k (d - 64 * p) (omega arith)))
+
+pub shut-before : (t g a : List ℕ) (c d : ℕ) → d ≤ c → Shut t g a c → Shut t g a d
+unfolding Shut
+shut-before t g a c d l h e k = h e (omega arith)
+
 -- ---- What a step leaves of the search
 
 module _ (t l g a : List ℕ) (bound : Bounded a) where
@@ -108,6 +167,12 @@ module _ (t l g a : List ℕ) (bound : Bounded a) where
     pub hand-shut : Shut t g a c → Shut t g (putInW l a c) c
     unfolding Shut
     hand-shut h d k = hand-same t g a (putInW l a c) hand-low (d / 64) d (put-other t l a c (putBase + d) (λ q. omega arith)) ∙ h d k
+
+    pub hand-under : (ls : List ℕ) → getD ls (c / 64) 0 ≡ 0 → Under t g a ls → Under t g (putInW l a c) ls
+    unfolding Under
+    hand-under ls e u p hp = by-eq p (c / 64)
+        (λ f. rw (f, e) (omega arith, λ q k. omega arith))
+        (λ f. (u p hp .0, λ q k. rw (kept-same t g a (putInW l a c) p (64 * p + q) (put-other t l a c (putBase + (64 * p + q)) (λ x. f (omega arith)))) (u p hp .1 q k)))
 
   -- a process step that does not change the least phase
   module _ (m z : ℕ) (hz : z < 64) (member : inSet m z ≡ true) (low : lowW (processW t l a z) ≡ lowW a) where
@@ -191,28 +256,37 @@ module _ (R : Run) (t l g a₀ : List ℕ) (S : Started R t l g a₀) where
             rw (S .cols .base .gated .places z z-in, ← eq) (left-some R (S .laws) s i z q _ _ (r .chan z q hz hq) m ms e) in
             clash ok (by-bool (eqb (curW a z) 0) (λ x. rw x) (λ x. rw x (by-bool (ltb (getD g z 0) (lowW a)) (λ y. rw (y, eq-eqb (kindW t (curW a z)) 1 k, no)) (λ y. rw y))))
 
-    module _ (u : State) (r′ : Rel R (processW t l a z) u) (j : Inv R u) (did : Did R s (process z) u) (bound : Bounded a) (low : lowW (processW t l a z) ≡ lowW a) where
-      shut-there : (q : ℕ) → q ≡ peerW t (curW a z) → kindW t (curW a z) ≡ 1 → handOk t g (processW t l a z) z (64 * z + q) ≡ false
-      unfolding handOk
-      shut-there q eq k =
+    module _ (u : State) (r′ : Rel R (processW t l a z) u) (j : Inv R u) (did : Did R s (process z) u) (bound : Bounded a) where
+      none-there : (q : ℕ) → q ≡ peerW t (curW a z) → kindW t (curW a z) ≡ 1 → sendOk (getD g (64 + z) 0) (putW (processW t l a z) (64 * z + q)) ≡ true
+      none-there q eq k =
           let hq : q < 64 = omega arith in
-          let yes : sendOk (R .restart z) (putW (processW t l a z) (64 * z + q)) ≡ true =
-          left-none R (S .laws) u j z q _ _ (r′ .chan z q hz hq) (left-same s u z z q did ∙ none-left q eq k) in
-          rw (S .cols .base .gated .places z z-in, yes)
+          rw (S .cols .base .gated .places z z-in) (left-none R (S .laws) u j z q _ _ (r′ .chan z q hz hq) (left-same s u z z q did ∙ none-left q eq k))
 
-      run-shut : (n : ℕ) → n ≤ 4096 → Shut t g a n → Shut t g (processW t l a z) n
-      unfolding Shut
-      run-shut n ln h d v = by-eq (kindW t (curW a z)) 1
-          (λ k. by-eq d (64 * z + peerW t (curW a z))
-          (λ e. let f : d / 64 ≡ z = omega arith in rw (f, e) (shut-there (peerW t (curW a z)) refl k))
-          (λ e. elsewhere (λ x q. e (omega arith))))
-          (λ k. elsewhere (λ x. absurd (k x)))
+      -- a channel is the one of the send, or its next message to put in stays
+      at-channel : {A : Type 0} (d : ℕ) → d < 4096 → ((d ≡ 64 * z + peerW t (curW a z)) → kindW t (curW a z) ≡ 1 → A) → (putW (processW t l a z) d ≡ putW a d → A) → A
+      at-channel d hd f g′ = by-eq (kindW t (curW a z)) 1
+          (λ k. by-eq d (64 * z + peerW t (curW a z)) (λ e. f e k) (λ e. g′ (elsewhere (λ x q. e (omega arith)))))
+          (λ k. g′ (elsewhere (λ x. absurd (k x))))
         where
-          elsewhere : (kindW t (curW a z) ≡ 1 → putBase + d ≢ putBase + (64 * z + peerW t (curW a z))) → handOk t g (processW t l a z) (d / 64) d ≡ false
-          elsewhere o =
-              hand-same t g a (processW t l a z) low (d / 64) d
-              (process-other t l a z bound hz (putBase + d) (omega arith) (λ q. omega arith) (λ q. omega arith) (λ q. omega arith) o (λ q. omega arith))
-              ∙ h d v
+          elsewhere : (kindW t (curW a z) ≡ 1 → putBase + d ≢ putBase + (64 * z + peerW t (curW a z))) → putW (processW t l a z) d ≡ putW a d
+          elsewhere o = process-other t l a z bound hz (putBase + d) (omega arith) (λ q. omega arith) (λ q. omega arith) (λ q. omega arith) o (λ q. omega arith)
+
+      run-under : (ls : List ℕ) → Under t g a ls → Under t g (processW t l a z) ls
+      unfolding Under keptPhase
+      run-under ls v p hp = (
+        v p hp .0,
+        λ q hq. at-channel (64 * p + q) (omega arith)
+            (λ e k. let f : p ≡ z = omega arith in
+            let i : q ≡ peerW t (curW a z) = omega arith in
+            rw (f, none-there q i k) (let w = v p hp .0 in rw f at w))
+            (λ e. rw e (v p hp .1 q hq)),
+      )
+
+      run-shut : lowW (processW t l a z) ≡ lowW a → (n : ℕ) → n ≤ 4096 → Shut t g a n → Shut t g (processW t l a z) n
+      unfolding Shut handOk
+      run-shut low n ln h d v = at-channel d (omega arith)
+          (λ e k. let f : d / 64 ≡ z = omega arith in rw (f, e, none-there (peerW t (curW a z)) refl k))
+          (λ e. rw (e, low) (h d v))
 
 -- ---- The loop over the lowest choices
 
@@ -223,10 +297,6 @@ all-idle t g a z hz o = clash (everyone-in z hz) o
 pub rest-idle : (t g a : List ℕ) (m : ℕ) → 0 < m → m < 2 ^ 64 → Idle t g a m → processOk t g a (firstIn m) ≡ false → Idle t g a (restOf m)
 unfolding Idle
 rest-idle t g a m p lm h f z hz o = by-eq z (firstIn m) (λ e. rw e f) (λ n. h z hz (rest-out m p lm z o n))
-
-pub next-shut : (t g a : List ℕ) (c : ℕ) → Shut t g a c → handOk t g a (c / 64) c ≡ false → Shut t g a (c + 1)
-unfolding Shut
-next-shut t g a c h f d k = by-eq d c (λ e. rw e f) (λ n. h d (omega arith))
 
 pub none-shut : (t g a : List ℕ) → Shut t g a 0
 unfolding Shut
@@ -255,14 +325,27 @@ module _ (R : Run) (t l g a₀ : List ℕ) (S : Started R t l g a₀) (most : �
       pub run-idle-still : lowW b ≡ lowW a → Idle t g b (withIn m (peerW t (curW a (firstIn m))))
       run-idle-still h = rw eb (run-idle t l g a bound m (firstIn m) z-lt (first-in m p lm) (rw eb at h) idle)
 
-      pub run-shut-still : lowW b ≡ lowW a → (n : ℕ) → n ≤ 4096 → Shut t g a n → Shut t g b n
+      -- the state that the step leads to
+      after : (u : State) × Rel R (processW t l a (firstIn m)) u × Inv R u × Did R (v .0) (process (firstIn m)) u
       unfolding Next
-      run-shut-still h n ln k =
+      after =
           let z = firstIn m in
-          let w = is-allowed R t l g a₀ S a (v .0) (v .1) (v .2) z z-allowed in
-          let d : Did R (v .0) (process z) (w .0) = view R (v .0) (w .0) (process z) (sym (choose-of R (v .0) z (process z) (is-process z z-lt)) ∙ w .1 .2) in
-          let r : Rel R (processW t l a z) (w .0) = rw (run-applied t l g a z z-lt) at (w .1 .0) in
-          rw eb (run-shut R t l g a₀ S a (v .0) (v .1) (v .2) z z-lt ok (w .0) r (w .1 .1) d bound (rw eb at h) n ln k)
+          let w = is-allowed R t l g a₀ S a (v .0) (v .1) (v .2) z z-allowed in (
+            w .0,
+            rw (run-applied t l g a z z-lt) at (w .1 .0),
+            w .1 .1,
+            view R (v .0) (w .0) (process z) (sym (choose-of R (v .0) z (process z) (is-process z z-lt)) ∙ w .1 .2),
+          )
+
+      pub run-shut-still : lowW b ≡ lowW a → (n : ℕ) → n ≤ 4096 → Shut t g a n → Shut t g b n
+      run-shut-still h n ln k =
+          let w = after in
+          rw eb (run-shut R t l g a₀ S a (v .0) (v .1) (v .2) (firstIn m) z-lt ok (w .0) (w .1) (w .2) (w .3) bound (rw eb at h) n ln k)
+
+      pub run-under-still : (ls : List ℕ) → Under t g a ls → Under t g b ls
+      run-under-still ls k =
+          let w = after in
+          rw eb (run-under R t l g a₀ S a (v .0) (v .1) (v .2) (firstIn m) z-lt ok (w .0) (w .1) (w .2) (w .3) bound ls k)
 
     module _ (c : ℕ) (hc : c < 4096) (idle : Idle t g a 0) (shut : Shut t g a c) (ok : handOk t g a (c / 64) c ≡ true) (eb : b ≡ putInW l a c) where
       pub hand-going : Going R t l g a₀ S most b (i + 1)
@@ -271,54 +354,59 @@ module _ (R : Run) (t l g a₀ : List ℕ) (S : Started R t l g a₀) (most : �
       pub hand-idle-still : Idle t g b (withIn (withIn 0 (c / 64)) (c % 64))
       hand-idle-still = rw eb (hand-idle t l g a bound c hc idle)
 
+      pub hand-under-still : (ls : List ℕ) → getD ls (c / 64) 0 ≡ 0 → Under t g a ls → Under t g b ls
+      hand-under-still ls z k = rw eb (hand-under t l g a bound c hc ls z k)
+
       pub hand-shut-still : Shut t g b c
       hand-shut-still = rw eb (hand-shut t l g a bound c hc shut)
 
--- what holds before each choice, i of them done: a set outside of which no process may run, a channel before which none is ready
+-- what holds before each choice, i of them done: a set outside of which no process may run, a sender before whom no message is ready, of each
+-- sender a phase that its messages' are not below
 module _ (t l g a₀ : List ℕ) (most : ℕ) where
-  abbrev pub Looking : List ℕ → ℕ → ℕ → ℕ → Type 0
-  Looking a may from i =
-      (length a ≡ length a₀) × (may < 2 ^ 64) × (from ≤ 4096) × Idle t g a may × Shut t g a from
-      × ((R : Run) (S : Started R t l g a₀) → Going R t l g a₀ S most a i)
+  abbrev pub Looking : List ℕ → List ℕ → ℕ → ℕ → ℕ → Type 0
+  Looking a ls may from i =
+      (length a ≡ length a₀) × (may < 2 ^ 64) × (from ≤ 64) × Idle t g a may × Shut t g a (64 * from)
+      × ((R : Run) (S : Started R t l g a₀) → Going R t l g a₀ S most a i) × (length ls ≡ 64) × Under t g a ls
 
-  pub looking-start : Looking a₀ everyone 0 0
-  looking-start = (refl, omega arith, omega arith, all-idle t g a₀, none-shut t g a₀, λ R S. going-start R t l g a₀ S most)
+  pub looking-start : (ls : List ℕ) → length ls ≡ 64 → ((p : ℕ) → p < 64 → getD ls p 0 ≡ 0) → Looking a₀ ls everyone 0 0
+  looking-start ls n z =
+      (refl, omega arith, omega arith, all-idle t g a₀, none-shut t g a₀, (λ R S. going-start R t l g a₀ S most), n, none-under t g a₀ ls z)
 
-  module _ (R : Run) (S : Started R t l g a₀) (a b : List ℕ) (i : ℕ) (lt : i < most) (la : length a ≡ length a₀) (lb : length b ≡ length a)
-      (v : (R : Run) (S : Started R t l g a₀) → Going R t l g a₀ S most a i) where
+  module _ (R : Run) (S : Started R t l g a₀) (a b ls : List ℕ) (i : ℕ) (lt : i < most) (la : length a ≡ length a₀) (lb : length b ≡ length a)
+      (v : (R : Run) (S : Started R t l g a₀) → Going R t l g a₀ S most a i) (n : length ls ≡ 64) (u : Under t g a ls) where
     -- the oldest kept message of channel c handed over
-    module _ (c : ℕ) (hc : c < 4096) (h : Idle t g a 0) (k : Shut t g a c) (ok : handOk t g a (c / 64) c ≡ true) (may from : ℕ) (eb : b ≡ putInW l a c)
-        (em : may ≡ withIn (withIn 0 (c / 64)) (c % 64)) (ef : from ≡ c) where
-      pub looking-hand : Looking b may from (i + 1)
+    module _ (c : ℕ) (hc : c < 4096) (h : Idle t g a 0) (k : Shut t g a c) (ok : handOk t g a (c / 64) c ≡ true) (z : getD ls (c / 64) 0 ≡ 0)
+        (may from : ℕ) (eb : b ≡ putInW l a c) (em : may ≡ withIn (withIn 0 (c / 64)) (c % 64)) (ef : from ≡ c / 64) where
+      pub looking-hand : Looking b ls may from (i + 1)
       looking-hand = rw (em, ef) (
         lb ∙ la,
         with-lt (withIn 0 (c / 64)) (c % 64) (with-lt 0 (c / 64) (omega arith) (omega arith)) (omega arith),
         omega arith,
         hand-idle-still R t l g a₀ S most a i (v R S) lt b c hc h k ok eb,
-        hand-shut-still R t l g a₀ S most a i (v R S) lt b c hc h k ok eb,
-        λ R S. hand-going R t l g a₀ S most a i (v R S) lt b c hc h k ok eb,
+        shut-before t g b c (64 * (c / 64)) (omega arith) (hand-shut-still R t l g a₀ S most a i (v R S) lt b c hc h k ok eb),
+        (λ R S. hand-going R t l g a₀ S most a i (v R S) lt b c hc h k ok eb),
+        n,
+        hand-under-still R t l g a₀ S most a i (v R S) lt b c hc h k ok eb ls z u,
       )
 
     -- the next event of the first process of m done
-    module _ (m n : ℕ) (p : 0 < m) (lm : m < 2 ^ 64) (ln : n ≤ 4096) (h : Idle t g a m) (k : Shut t g a n) (ok : processOk t g a (firstIn m) ≡ true)
+    module _ (m f : ℕ) (p : 0 < m) (lm : m < 2 ^ 64) (lf : f ≤ 64) (h : Idle t g a m) (k : Shut t g a (64 * f)) (ok : processOk t g a (firstIn m) ≡ true)
         (may from : ℕ) (eb : b ≡ processW t l a (firstIn m)) (em : may ≡ unlessLower a b (withIn m (peerW t (curW a (firstIn m)))) everyone)
-        (ef : from ≡ pick (eqb (lowW b) (lowW a)) n 0) (d : List ℕ) (ed : d ≡ b) where
-      pub looking-run : Looking d may from (i + 1)
+        (ef : from ≡ pick (eqb (lowW b) (lowW a)) f 0) (d ms : List ℕ) (ed : d ≡ b) (el : ms ≡ ls) where
+      pub looking-run : Looking d ms may from (i + 1)
       unfolding unlessLower
-      looking-run = by-eq (lowW b) (lowW a)
-          (λ e. rw (ed, em, ef, eq-eqb (lowW b) (lowW a) e) (
+      looking-run =
+          let w = run-under-still R t l g a₀ S most a i (v R S) lt b m p lm h ok eb ls u in
+          let go : (R : Run) (S : Started R t l g a₀) → Going R t l g a₀ S most b (i + 1) = λ R S. run-going R t l g a₀ S most a i (v R S) lt b m p lm h ok eb in
+          by-eq (lowW b) (lowW a)
+          (λ e. rw (ed, el, em, ef, eq-eqb (lowW b) (lowW a) e) (
             lb ∙ la,
             with-lt m (peerW t (curW a (firstIn m))) lm (omega arith),
-            ln,
+            lf,
             run-idle-still R t l g a₀ S most a i (v R S) lt b m p lm h ok eb e,
-            run-shut-still R t l g a₀ S most a i (v R S) lt b m p lm h ok eb e n ln k,
-            λ R S. run-going R t l g a₀ S most a i (v R S) lt b m p lm h ok eb,
+            run-shut-still R t l g a₀ S most a i (v R S) lt b m p lm h ok eb e (64 * f) (omega arith) k,
+            go,
+            n,
+            w,
           ))
-          (λ e. rw (ed, em, ef, ne-eqb (lowW b) (lowW a) e) (
-            lb ∙ la,
-            omega arith,
-            omega arith,
-            all-idle t g b,
-            none-shut t g b,
-            λ R S. run-going R t l g a₀ S most a i (v R S) lt b m p lm h ok eb,
-          ))
+          (λ e. rw (ed, el, em, ef, ne-eqb (lowW b) (lowW a) e) (lb ∙ la, omega arith, omega arith, all-idle t g b, none-shut t g b, go, n, w))

@@ -10,7 +10,8 @@ use lib.Seq.{getD-set-same, getD-set-other}
 use lib.Dec.{ltb, eqb}
 use borrow.Author.Tests.{lt-ltb, le-ltb, eq-eqb, ne-eqb, ltb-true}
 use Rattle.words.proofs.Cases.{by-bool, by-eq, clash}
-use Rattle.simulation.specs.Words.{currentBase, lowPlace, kindW, peerW, phaseW, curW, orpW, takeW, putW, lowW, sendOk, eventOk, processOk, handOk, allowedW, lowerW, lowOf, movedW, dropW, putInW, takeOutW, eventW, processW, applyW, Bounded, Small, noneFrom}
+use Rattle.replay.specs.Lowest.{keptPhase}
+use Rattle.simulation.specs.Words.{currentBase, lowPlace, noPhase, kindW, peerW, phaseW, curW, orpW, takeW, putW, lowW, sendOk, eventOk, processOk, handOk, allowedW, lowerW, lowOf, movedW, dropW, putInW, takeOutW, eventW, processW, applyW, Bounded, Small, noneFrom}
 
 pub bound : (a : List ℕ) (k : ℕ) → Bounded a → currentBase ≤ k → k < lowPlace → getD a k 0 < 2049
 unfolding Bounded
@@ -43,13 +44,20 @@ module _ (t g a : List ℕ) (z e : ℕ) (ee : e ≡ curW a z) where
   process-open n h r er = rw (ne-eqb (curW a z) 0 (λ q. n (ee ∙ q)), lt-ltb (getD g z 0) (lowW a) h, ← ee) er
 
 module _ (t g a : List ℕ) (p c m : ℕ) (r : Bool) (em : m ≡ putW a c) (er : r ≡ sendOk (getD g (64 + p) 0) m) where
-  pub hand-none : r ≡ true → false ≡ handOk t g a p c
-  unfolding handOk
-  hand-none h = rw (← em, ← er, h)
+  pub kept-none : r ≡ true → noPhase ≡ keptPhase t g a p c
+  unfolding keptPhase
+  kept-none h = rw (← em, ← er, h)
 
-  pub hand-some : r ≡ false → ltb (phaseW t m) (lowW a) ≡ handOk t g a p c
-  unfolding handOk
-  hand-some h = rw (← em, ← er, h)
+  pub kept-some : r ≡ false → phaseW t m ≡ keptPhase t g a p c
+  unfolding keptPhase
+  kept-some h = rw (← em, ← er, h)
+
+-- a kept message is ready exactly where its phase is below the least of an orphan not sent again
+pub hand-kept : (t g a : List ℕ) (p c f : ℕ) → lowW a ≤ noPhase → f ≡ keptPhase t g a p c → ltb f (lowW a) ≡ handOk t g a p c
+unfolding keptPhase handOk
+hand-kept t g a p c f h e = by-bool (sendOk (getD g (64 + p) 0) (putW a c))
+    (λ k. let n : f ≡ noPhase = e ∙ rw k in rw (k, n, le-ltb noPhase (lowW a) h))
+    (λ k. let n : f ≡ phaseW t (putW a c) = e ∙ rw k in rw (k, n))
 
 module _ (t g a : List ℕ) (c : ℕ) where
   pub allowed-process : c < 64 → (r : Bool) → r ≡ processOk t g a c → r ≡ allowedW t g a c

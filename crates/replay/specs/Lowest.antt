@@ -1,9 +1,9 @@
 -- The search for the lowest allowed choice by words, and what carrying out the lowest choices leaves. No public contract cites these.
-use Prim.Native.Nat.{ℕ, _-_, _/_, _^_, _<_}
+use Prim.Native.Nat.{ℕ, _-_, _/_, _^_, _<_, _+_, _*_, _≤_}
 use mathlib.Core.Path.{_≡_}
 use mathlib.Core.Bool.{false}
 use mathlib.Core.List.{List}
-use lib.ListN.{length}
+use lib.ListN.{length, getD}
 use lib.Bits.{bitAnd, bitOr}
 use lib.Count.{trailingZeros}
 use lib.Dec.{eqb}
@@ -12,7 +12,7 @@ use Rattle.theory.specs.Line.{Run, inSet}
 use Rattle.theory.specs.Replay.{State, start}
 use Rattle.theory.specs.Order.{carriedOut, run, lowestFrom}
 use Rattle.theory.proofs.Flow.{Inv}
-use Rattle.simulation.specs.Words.{lowW, processOk, handOk, allowedW}
+use Rattle.simulation.specs.Words.{noPhase, phaseW, putW, lowW, sendOk, processOk, handOk, allowedW}
 use Rattle.simulation.specs.Related.{Rel}
 
 -- sets of processes, as numbers of 64 bits: all of them, the first member, the set without it, the set with process z
@@ -33,6 +33,14 @@ abbrev pub noChoice : ℕ
 noChoice = 4160
 
 module _ (t g a : List ℕ) where
+  -- the phase of the oldest kept message of channel c, of sender p; above all phases where none is left
+  unfoldable pub keptPhase : ℕ → ℕ → ℕ
+  keptPhase p c = pick (sendOk (getD g (64 + p) 0) (putW a c)) noPhase (phaseW t (putW a c))
+
+  -- of each sender a phase that those of its kept messages are not below
+  unfoldable pub Under : List ℕ → Type 0
+  Under ls = (p : ℕ) → p < 64 → (getD ls p 0 ≤ noPhase) × ((q : ℕ) → q < 64 → getD ls p 0 ≤ keptPhase p (64 * p + q))
+
   -- no process outside of the set may run
   unfoldable pub Idle : ℕ → Type 0
   Idle m = (z : ℕ) → z < 64 → inSet m z ≡ false → processOk t g a z ≡ false

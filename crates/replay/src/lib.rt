@@ -2,13 +2,13 @@
 // nothing. Every message is its send event, every queue the stretch between two pointers into events, so a choice costs the same
 // however long the run is. specs/Answer says what a replay answers and leaves, by the theory's machine. Assumes nothing.
 ghost use mathlib.Core.Path.{_≡_};
-ghost use mathlib.Core.Bool.{true};
+ghost use mathlib.Core.Bool.{true, false};
 ghost use Prim.Native.Nat.{ℕ, _+_, _-_, _*_, _/_, _%_, _≤_, _<_};
 ghost use lib.ListN.{length, getD};
 ghost use lib.Dec.{eqb};
 ghost use Rattle.theory.specs.Lists.{pick};
 ghost use Rattle.words.specs.Area.{areaWords};
-ghost use Rattle.simulation.specs.Words.{takenBase, currentBase, orphanBase, takeBase, putBase, lowPlace, peerW, numberW, valueW, curW, sendOk, eventOk, processOk, handOk, allowedW, lowerW, lowOf, movedW, dropW, putInW, takeOutW, eventW, processW, applyW, Bounded, Small, noneFrom};
+ghost use Rattle.simulation.specs.Words.{takenBase, currentBase, orphanBase, takeBase, putBase, lowPlace, peerW, numberW, valueW, curW, sendOk, eventOk, processOk, handOk, allowedW, lesser, lowerW, lowOf, dropW, putInW, takeOutW, eventW, processW, applyW, Bounded, Small, noneFrom};
 ghost use Rattle.simulation.specs.Linking.{pairW, backW, mineW, orphanW, goesW, earlyW, chainA, linkL, linkA, linkedL, linkedA, beginA};
 ghost use Rattle.theory.specs.Events.{size};
 ghost use Rattle.theory.specs.Line.{Run, recorded};
@@ -19,7 +19,7 @@ ghost use Rattle.trace.specs.Trace.{Trace};
 ghost use Rattle.theory.specs.Epochs.{past};
 ghost use Rattle.replay.specs.Left.{Left};
 ghost use Rattle.replay.specs.Given.{Given};
-ghost use Rattle.replay.specs.Lowest.{everyone, firstIn, restOf, withIn, Idle, Shut, unlessLower, Lowered};
+ghost use Rattle.replay.specs.Lowest.{everyone, firstIn, restOf, withIn, keptPhase, Idle, Shut, Under, unlessLower, Lowered};
 ghost use Rattle.replay.specs.Answer.{answerOf, wordsOf};
 use protocol::EPOCH_BASE;
 use protocol::MATCH_BASE;
@@ -118,16 +118,24 @@ fn process_ok(full: &[u32], gates: &[u32], area: &[u32], z: usize) -> bool
     event_ok(full, gates, area, z, e)
 }
 
+// The phase of the oldest kept message of channel c, of sender p; NO_PHASE where none is left.
+fn kept_phase(full: &[u32], gates: &[u32], area: &[u32], p: usize, c: usize) -> u32
+    requires { ⌜ (p < 64) × (c < 4096) × Readable (now full) (now gates) (now area) ⌝ }
+    ensures { λ r. ⌜ r ≡ keptPhase (now (full .entry)) (now (gates .entry)) (now (area .entry)) p c ⌝ }
+{
+    let m = pointer(area, PUT + c);
+    if send_ok(gates[RESTART + p], m) {
+        return NO_PHASE;
+    }
+    full[PHASE_BASE + m]
+}
+
 // May the oldest kept message of channel c, of sender p, be handed over: there is one, and its own phase is ready.
 fn hand_ok(full: &[u32], gates: &[u32], area: &[u32], p: usize, c: usize) -> bool
     requires { ⌜ (p < 64) × (c < 4096) × Readable (now full) (now gates) (now area) ⌝ }
     ensures { λ r. ⌜ r ≡ handOk (now (full .entry)) (now (gates .entry)) (now (area .entry)) p c ⌝ }
 {
-    let m = pointer(area, PUT + c);
-    if send_ok(gates[RESTART + p], m) {
-        return false;
-    }
-    full[PHASE_BASE + m] < area[LOW]
+    kept_phase(full, gates, area, p, c) < area[LOW]
 }
 
 // Is the choice allowed.
@@ -144,6 +152,15 @@ fn allowed(full: &[u32], gates: &[u32], area: &[u32], c: usize) -> bool
     false
 }
 
+fn lesser(a: u32, b: u32) -> u32
+    ensures { λ r. ⌜ r ≡ lesser a b ⌝ }
+{
+    if a < b {
+        return a;
+    }
+    b
+}
+
 // The lesser of a phase and that of the orphan sent by event o, if there is one.
 fn lower(full: &[u32], o: usize, low: u32) -> u32
     requires { ⌜ (o < 2049) × (length (now full) ≡ areaWords) ⌝ }
@@ -152,11 +169,7 @@ fn lower(full: &[u32], o: usize, low: u32) -> u32
     if o == 0 {
         return low;
     }
-    let f = full[PHASE_BASE + o];
-    if f < low {
-        return f;
-    }
-    low
+    lesser(full[PHASE_BASE + o], low)
 }
 
 // The least phase of an orphan that is not sent again: of each process the next one is looked at, since its phases never fall.
@@ -568,11 +581,14 @@ pub fn replay(full: &[u32], gates: &[u32], order: &[u16], area: &mut [u32], cut:
     replay_in(full, &links, gates, order, area)
 }
 
-// The lowest choice is looked for from where the last search ended: in a set outside of which no process may run, and from a channel
-// before which no kept message may be handed over. A step gives back to the set whom it may let run.
+// The lowest choice is looked for from where the last search ended: in a set outside of which no process may run, and from a sender
+// before whom no kept message may be handed over. A step gives back to the set whom it may let run. Of each sender a phase is known that
+// those of its kept messages are not below, so that its channels are looked at only where one may have become ready.
 const EVERYONE: u64 = 18446744073709551615;
 
 const CHANNELS: usize = 4096;
+
+const PROCESSES: usize = 64;
 
 // The first member of a set of processes.
 fn first(set: u64) -> usize
@@ -614,18 +630,47 @@ fn runnable(full: &[u32], gates: &[u32], area: &[u32], set: u64) -> u64
     0
 }
 
-// The first channel, from one on, whose oldest kept message may be handed over; CHANNELS where there is none.
-fn next_hand(full: &[u32], gates: &[u32], area: &[u32], from: usize) -> usize
-    requires { ⌜ Readable (now full) (now gates) (now area) × Shut (now full) (now gates) (now area) from × (from ≤ 4096) ⌝ }
-    ensures shut { λ r. ⌜ Shut (now (full .entry)) (now (gates .entry)) (now (area .entry)) r ⌝ }
-    ensures found { λ r. ⌜ ((r ≡ 4096 → ⊥) → (r < 4096) × (handOk (now (full .entry)) (now (gates .entry)) (now (area .entry)) (r / 64) r ≡ true)) ⌝ }
+// The first receiver to whom the oldest kept message of sender p may be handed over. Where there is none, PROCESSES, and the sender's phase
+// is the least of those that wait; where there is one, it is 0, since that message leaves its channel.
+fn next_receiver(full: &[u32], gates: &[u32], area: &[u32], p: usize, phases: &mut [u32]) -> usize
+    requires { ⌜ (p < 64) × (length (now phases) ≡ 64) × Readable (now full) (now gates) (now area) × Under (now full) (now gates) (now area) (now phases) ⌝ }
+    ensures shut { λ r. ⌜ ((q : ℕ) → q < r → handOk (now (full .entry)) (now (gates .entry)) (now (area .entry)) p (64 * p + q) ≡ false) ⌝ }
+    ensures found { λ r. ⌜ (r ≤ 64) × (r < 64 → (handOk (now (full .entry)) (now (gates .entry)) (now (area .entry)) p (64 * p + r) ≡ true) × (getD (now (phases .exit)) p 0 ≡ 0)) ⌝ }
+    ensures under { λ _. ⌜ Under (now (full .entry)) (now (gates .entry)) (now (area .entry)) (now (phases .exit)) ⌝ }
 {
-    let mut c = from;
-    while c < CHANNELS {
-        if hand_ok(full, gates, area, c / 64, c) {
-            return c;
+    let low = area[LOW];
+    if phases[p] >= low {
+        return PROCESSES;
+    }
+    let mut least: u32 = NO_PHASE;
+    let mut q: usize = 0;
+    while q < PROCESSES {
+        let phase = kept_phase(full, gates, area, p, 64 * p + q);
+        if phase < low {
+            phases[p] = 0;
+            return q;
         }
-        c += 1;
+        least = lesser(phase, least);
+        q += 1;
+    }
+    phases[p] = least;
+    q
+}
+
+// The first channel of a sender, from one on, whose oldest kept message may be handed over; CHANNELS where there is none.
+fn next_hand(full: &[u32], gates: &[u32], area: &[u32], from: usize, phases: &mut [u32]) -> usize
+    requires { ⌜ (from ≤ 64) × (length (now phases) ≡ 64) × Readable (now full) (now gates) (now area) × Shut (now full) (now gates) (now area) (64 * from) × Under (now full) (now gates) (now area) (now phases) ⌝ }
+    ensures shut { λ r. ⌜ Shut (now (full .entry)) (now (gates .entry)) (now (area .entry)) r ⌝ }
+    ensures found { λ r. ⌜ ((r ≡ 4096 → ⊥) → (r < 4096) × (handOk (now (full .entry)) (now (gates .entry)) (now (area .entry)) (r / 64) r ≡ true) × (getD (now (phases .exit)) (r / 64) 0 ≡ 0)) ⌝ }
+    ensures under { λ _. ⌜ Under (now (full .entry)) (now (gates .entry)) (now (area .entry)) (now (phases .exit)) ⌝ }
+{
+    let mut p = from;
+    while p < PROCESSES {
+        let q = next_receiver(full, gates, area, p, phases);
+        if q < PROCESSES {
+            return 64 * p + q;
+        }
+        p += 1;
     }
     CHANNELS
 }
@@ -639,7 +684,7 @@ fn peer_of_next(full: &[u32], area: &[u32], z: usize) -> usize
     (full[EVENT_BASE + e] / 64 % 64) as usize
 }
 
-// Where to look for a channel: from where the last search ended, unless the least phase is another than it was.
+// Which sender to look at first: where the last search ended, unless the least phase is another than it was.
 fn look_from(was: u32, is: u32, from: usize) -> usize
     ensures { λ r. ⌜ r ≡ pick (eqb is was) from 0 ⌝ }
 {
@@ -681,17 +726,19 @@ fn carry_lowest(full: &[u32], links: &[u32], gates: &[u32], area: &mut [u32], mo
     requires { ⌜ (length (now full) ≡ areaWords) × (128 ≤ length (now gates)) × (length (now area) ≡ areaWords) × Small (now links) × ((R : Run) × Started R (now full) (now links) (now gates) (now area)) ⌝ }
     ensures { λ r. ⌜ ((R : Run) → Started R (now (full .entry)) (now (links .entry)) (now (gates .entry)) (now (area .entry)) → Lowered R (now (area .exit)) most r) ⌝ }
 {
+    let mut phases = [0u32; PROCESSES];
     let mut may: u64 = EVERYONE;
     let mut from: usize = 0;
     let mut i: usize = 0;
     while i < most {
         may = runnable(full, gates, area, may);
         if may == 0 {
-            from = next_hand(full, gates, area, from);
-            if from == CHANNELS {
+            let c = next_hand(full, gates, area, from, &mut phases);
+            if c == CHANNELS {
                 return i;
             }
-            may = hand_over(links, area, from);
+            from = c / 64;
+            may = hand_over(links, area, c);
         } else {
             let low = area[LOW];
             may = run_first(full, links, area, may);

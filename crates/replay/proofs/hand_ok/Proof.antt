@@ -1,25 +1,15 @@
--- `replay::hand_ok` meets its contract: a case for each way out.
+-- `replay::hand_ok` meets its contract.
 use mathlib.Core.Path.{_≡_}
-use Rattle.replay.proofs.Steps.{hand-none, hand-some}
+use native.Mathlib.Omega.{arith}
+use Rattle.replay.proofs.Steps.{hand-kept}
 use borrow.Author.Needs.{needs}
 use Rattle.replay.proofs.hand_ok.Statement.{statement}
 use Rattle.replay.proofs.hand_ok.Tie as tie
 
 returns : tie.Need-returns
 returns c =
-    let pointer = c .before .before .before .pointer in
-    let send-ok = c .before .send-ok in
-    let if1 = c .if1 in
-    hand-none _ _ _ _ _ _ _ (pointer .ensures .0) (send-ok .ensures) (if1 .taken)
-
-returns-2 : tie.Need-returns-2
-returns-2 c =
-    let pointer = c .before .before .before .before .before .pointer in
-    let send-ok = c .before .before .before .send-ok in
-    let if1 = c .before .before .if1 in
-    hand-some _ _ _ _ _ _ _ (pointer .ensures .0) (send-ok .ensures) (if1 .left)
+    let kept-phase = c .before .kept-phase in
+    hand-kept _ _ _ _ _ _ (omega (arith, c .shared-slice-known4 .given 14467)) (kept-phase .ensures)
 
 pub hand-ok-spec : {M : Type 1} → statement M
-hand-ok-spec =
-    tie.close
-    (tie.spec (λ c. search needs) (λ c κs. search needs) (λ c. search needs) (λ c. search needs) (λ c. search needs) (λ c κs. search needs) returns (λ c. search needs) (λ c. search needs) (λ c. search needs) (λ c. search needs) returns-2)
+hand-ok-spec = tie.close (tie.spec (λ c κs. search needs) (λ c. search needs) returns)
