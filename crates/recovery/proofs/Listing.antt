@@ -3,11 +3,11 @@ use Prim.Native.Nat.{ℕ, _+_, _-_, _<_, _≤_}
 use mathlib.Core.Path.{_≡_, ap, _∙_}
 use mathlib.Core.List.{List, _++_}
 use native.Mathlib.Omega.{arith}
-use lib.ListN.{length, getD, take, drop, length-drop}
+use lib.ListN.{length, getD, take, drop, length-drop, List·getD-append}
 use lib.Seq.{getD-take, getD-drop, length-take-le}
 use borrow.Author.Tests.{ne-eqb}
 use Rattle.words.specs.Area.{areaWords, wordsFrom}
-use Rattle.words.proofs.Area.{getD-words}
+use Rattle.words.proofs.Area.{length-words, getD-words}
 use Rattle.trace.specs.Trace.{Trace}
 use Rattle.theory.specs.Epochs.{past}
 use Rattle.theory.specs.Line.{Run, recorded}
@@ -75,3 +75,17 @@ module _ (a area : List ℕ) (step set : ℕ) (l : Line) where
       → w ≡ wordsFrom (listWord (runOf a step l)) 0 areaWords → r .orphans + (r .kept + r .lost) ≤ 2048 → Listed r (w ++ drop areaWords area)
   unfolding messagesAnswer messagesArea
   lists n r w f z e q few = (e ∙ rw (← f, z), (ap (λ (x : List ℕ). x ++ drop 16384 area) q ∙ rw (← f, z), few))
+
+  -- what `messages` answers and leaves where nothing is wrong
+  module _ (ok : faultOf a (length area) step set l ≡ 0) where
+    pub counts-are : (c : Counted) → c ≡ messagesAnswer a area step set l → c ≡ countsOf (runOf a step l)
+    unfolding messagesAnswer
+    counts-are c e = e ∙ rw ok
+
+    pub listed-at : (w : List ℕ) → w ≡ messagesArea a area step set l → (k : ℕ) → k < 16384 → getD w k 0 ≡ listWord (runOf a step l) k
+    unfolding messagesArea
+    listed-at w e k h =
+        let g = listWord (runOf a step l) in
+        let q : w ≡ wordsFrom g 0 16384 ++ drop 16384 area = e ∙ rw ok in
+        ap (λ (x : List ℕ). getD x k 0) q ∙ List·getD-append (wordsFrom g 0 16384) (drop 16384 area) 0 k (rw (length-words g 0 16384) h)
+        ∙ getD-words g 0 16384 k h ∙ ap g (let z : 0 + k ≡ k = omega arith in z)

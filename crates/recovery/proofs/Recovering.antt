@@ -24,7 +24,7 @@ use Rattle.recovery.proofs.Given.{step-within}
 use Rattle.recovery.proofs.Preparing.{failure-first}
 use Rattle.recovery.proofs.Replaying.{refuses, completed}
 use Rattle.recovery.proofs.Listing.{refuses-messages, lists}
-use Rattle.recovery.proofs.Restarting.{Ready, not-refused}
+use Rattle.recovery.proofs.Restarting.{not-refused}
 
 -- where the run area is long enough, the restart is that of `restart`
 pub long-enough : (a : List ℕ) (room step set : ℕ) → areaWords ≤ room → restartWith a room step set ≡ restartAnswer a step set

@@ -13,7 +13,7 @@ use Rattle.table.specs.Held.{held, holdsTrace}
 use Rattle.theory.specs.Events.{size}
 use Rattle.theory.specs.Epochs.{past}
 use Rattle.theory.specs.Line.{Run}
-use Rattle.theory.specs.Order.{Outcome, carriedOut, refused, run, complete, lowestOrder}
+use Rattle.theory.specs.Order.{Outcome, carriedOut, refused, run, lowestOrder}
 use Rattle.theory.proofs.Epochs.{laws}
 use Rattle.theory.proofs.Orders.{complete-iff}
 use Rattle.theory.proofs.Lowest.{lowest-order}

@@ -2,10 +2,10 @@
 use Prim.Native.Nat.{ℕ, zero, suc, _+_, _<_, _≤_}
 use mathlib.Core.Path.{_≡_, refl, sym, ap, _∙_, fun-ext}
 use mathlib.Core.Bool.{not}
-use mathlib.Core.List.{List, [], _∷_, _++_}
+use mathlib.Core.List.{List, [], _∷_}
 use native.Mathlib.Omega.{arith}
 use lib.Dec.{eqb}
-use lib.ListN.{length, getD, take, drop, length-append, List·getD-append, List·getD-eq-default}
+use lib.ListN.{length, getD, take, length-append, List·getD-append, List·getD-eq-default}
 use lib.Seq.{getD-take, getD-at, length-take-le}
 use borrow.Author.Tests.{lt-ltb, le-ltb}
 use Rattle.words.specs.Area.{wordsFrom}
@@ -31,6 +31,7 @@ use Rattle.recovery.specs.Messages.{countsOf, messagesAnswer, messagesArea}
 use Rattle.recovery.specs.Recover.{Succeeds}
 use Rattle.recovery.specs.Answers.{faultOf, runOf as codeRun, Completed}
 use Rattle.recovery.specs.Restart.{ofEach, restartOf, engineLine as codeLine}
+use Rattle.recovery.proofs.Listing.{counts-are, listed-at}
 use Rattle.recovery.proofs.Restarting.{Ready, line-is, count-in}
 use Rattle.report.specs.Report.{given, Failure, runOf, Recovery, tabled, engineLine, recoveryBy, processLineOf, printedOf, reportBytes}
 use Rattle.report.specs.Rows.{processRow, recoveryRows}
@@ -154,18 +155,10 @@ module _ (a : List ℕ) (step set : ℕ) (r : Restarted) (G : Ready a step set r
   module _ (y : Replayed) (c : Counted) (run₀ run : List ℕ) (hc : c ≡ messagesAnswer a run₀ step set (r .line))
       (hw : run ≡ messagesArea a run₀ step set (r .line)) (S : Succeeds a (length run₀) step set (record { restarted = r; replayed = y; counted = c })) where
     counted : c ≡ countsOf R
-    unfolding messagesAnswer
-    counted = hc ∙ rw (S .taken, run-same)
-
-    listed : run ≡ wordsFrom (listWord R) 0 16384 ++ drop 16384 run₀
-    unfolding messagesArea
-    listed = hw ∙ rw (S .taken, run-same)
+    counted = counts-are a run₀ step set (r .line) (S .taken) c hc ∙ ap countsOf run-same
 
     words : (k : ℕ) → k < 16384 → getD run k 0 ≡ listWord R k
-    words k h =
-        ap (λ (w : List ℕ). getD w k 0) listed
-        ∙ List·getD-append (wordsFrom (listWord R) 0 16384) (drop 16384 run₀) 0 k (rw (length-words (listWord R) 0 16384) h)
-        ∙ getD-words (listWord R) 0 16384 k h ∙ ap (listWord R) (let q : 0 + k ≡ k = omega arith in q)
+    words k h = listed-at a run₀ step set (r .line) (S .taken) run hw k h ∙ ap (λ (Q : Run). listWord Q k) run-same
 
     few-rows : length (orphans R) + (length (keptOnes R) + length (lostOnes R)) ≤ 2048
     few-rows = rw counted at (S .few)

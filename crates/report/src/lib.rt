@@ -1,8 +1,8 @@
 // The report on a text that ends with a failure line: read, recovered and printed into a lent buffer, byte for byte by specs/Report. Assumes
 // nothing.
 ghost use mathlib.Core.Path.{_≡_};
-ghost use Prim.Native.Nat.{ℕ, _+_, _/_, _%_, _≤_};
-ghost use lib.ListN.{length, getD};
+ghost use Prim.Native.Nat.{_+_, _≤_};
+ghost use lib.ListN.{length};
 ghost use Rattle.words.specs.Area.{areaWords};
 ghost use Rattle.theory.specs.Answers.{gather};
 ghost use Rattle.writer.specs.Buffer.{Puts, room, written};

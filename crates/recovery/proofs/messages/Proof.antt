@@ -5,7 +5,6 @@ use Rattle.words.specs.Area.{areaWords}
 use Rattle.table.specs.Held.{held}
 use Rattle.line.specs.Given.{lineIn}
 use Rattle.recovery.proofs.Listing.{refuses-messages, lists}
-use native.Mathlib.Omega.{arith}
 use borrow.Author.Needs.{needs}
 use Rattle.recovery.proofs.messages.Statement.{statement}
 use Rattle.recovery.proofs.messages.Tie as tie

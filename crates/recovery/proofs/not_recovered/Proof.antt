@@ -1,5 +1,4 @@
 -- `recovery::not_recovered` meets its contract: each answer is refused.
-use native.Mathlib.Omega.{arith}
 use borrow.Author.Needs.{needs}
 use Rattle.recovery.proofs.not_recovered.Statement.{statement}
 use Rattle.recovery.proofs.not_recovered.Tie as tie

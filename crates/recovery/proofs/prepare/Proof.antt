@@ -5,7 +5,6 @@ use Rattle.theory.proofs.Refusals.{line-fit}
 use Rattle.line.specs.Given.{lineIn}
 use Rattle.recovery.proofs.Given.{given}
 use Rattle.recovery.proofs.Preparing.{failure-first, line-number}
-use native.Mathlib.Omega.{arith}
 use borrow.Author.Needs.{needs}
 use Rattle.recovery.proofs.prepare.Statement.{statement}
 use Rattle.recovery.proofs.prepare.Tie as tie

@@ -5,7 +5,6 @@ use Rattle.table.specs.Held.{held}
 use Rattle.recovery.proofs.Given.{step-within}
 use Rattle.recovery.proofs.Recovering.{refuses-recovery, recovers}
 use mathlib.Core.Path.{sym}
-use native.Mathlib.Omega.{arith}
 use borrow.Author.Needs.{needs}
 use Rattle.recovery.proofs.recover.Statement.{statement}
 use Rattle.recovery.proofs.recover.Tie as tie

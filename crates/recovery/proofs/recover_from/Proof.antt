@@ -2,7 +2,6 @@
 use Rattle.line.specs.Given.{lineIn}
 use Rattle.recovery.proofs.Given.{given}
 use Rattle.recovery.proofs.Restarting.{count-in}
-use native.Mathlib.Omega.{arith}
 use borrow.Author.Needs.{needs}
 use Rattle.recovery.proofs.recover_from.Statement.{statement}
 use Rattle.recovery.proofs.recover_from.Tie as tie

@@ -2,7 +2,6 @@
 use Rattle.table.specs.Held.{held}
 use Rattle.recovery.proofs.Given.{step-within}
 use Rattle.recovery.proofs.Restarting.{refuses-restart, answers-restart}
-use native.Mathlib.Omega.{arith}
 use borrow.Author.Needs.{needs}
 use Rattle.recovery.proofs.restart.Statement.{statement}
 use Rattle.recovery.proofs.restart.Tie as tie

@@ -6,7 +6,6 @@ use Rattle.words.specs.Area.{areaWords}
 use Rattle.report.proofs.Lengths.{refusal-few}
 use Rattle.report.proofs.Found.{puttable, rows-are, rows-few}
 use Rattle.report.proofs.Ways.{answered, too-long, text-refused, failure-refused, ready, found-printed}
-use native.Mathlib.Omega.{arith}
 use borrow.Author.Needs.{needs}
 use Rattle.report.proofs.report.Statement.{statement}
 use Rattle.report.proofs.report.Tie as tie
