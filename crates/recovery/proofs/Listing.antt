@@ -1,46 +1,66 @@
--- Each way out of `messages`: the counts and the list by the definitions.
-use Prim.Native.Nat.{ℕ, _+_, _<_, _≤_}
+-- Each way out of `list_from` and `messages`: the counts and the list by the definitions.
+use Prim.Native.Nat.{ℕ, _+_, _-_, _<_, _≤_}
 use mathlib.Core.Path.{_≡_, ap, _∙_}
 use mathlib.Core.List.{List, _++_}
 use native.Mathlib.Omega.{arith}
-use lib.ListN.{length, getD, take, drop, length-append, length-drop, List·getD-append}
+use lib.ListN.{length, getD, take, drop, length-drop, List·getD-append}
 use lib.Seq.{getD-take, getD-drop, length-take-le}
 use borrow.Author.Tests.{ne-eqb}
 use Rattle.words.specs.Area.{areaWords, wordsFrom}
 use Rattle.words.proofs.Area.{length-words, getD-words}
-use Rattle.table.specs.Held.{held}
-use Rattle.theory.specs.Answers.{orphans, keptOnes, lostOnes}
+use Rattle.trace.specs.Trace.{Trace}
+use Rattle.theory.specs.Epochs.{past}
+use Rattle.theory.specs.Line.{Run, recorded}
 use Rattle.theory.proofs.WellFormed.{valid}
-use Rattle.protocol.proofs.Passes.{held-few}
-use Rattle.classes.specs.Listing.{listWord, Given}
+use Rattle.protocol.proofs.Passes.{well-few}
+use Rattle.classes.specs.Listing.{listWord}
+use Rattle.classes.specs.Listing.{Given as Listable}
 use Rattle.classes.proofs.Whole.{rows-few}
 use Rattle.line.specs.declared.Line.{Line}
-use Rattle.line.specs.Given.{lineIn}
+use Rattle.replay.specs.Given.{Given}
 use Rattle.recovery.specs.declared.Counted.{Counted}
 use Rattle.recovery.specs.Answers.{runOf, faultOf}
-use Rattle.recovery.specs.Messages.{messagesRefusal, messagesAnswer, messagesArea}
-use Rattle.recovery.specs.Prepared.{Prepared}
+use Rattle.recovery.specs.Messages.{countsOf, messagesRefusal, messagesAnswer, messagesArea}
 
-module _ (a : List ℕ) (step set : ℕ) (l : Line) (full gates : List ℕ) (P : Prepared a step set l full gates) where
-  pub step-fits : step ≤ 2048
-  step-fits = omega (arith, P .given .cut-le, held-few a (P .holds))
+module _ (t : Trace) (line : ℕ → ℕ) (cut : ℕ) (full gates : List ℕ) (G : Given t line cut full gates) where
+  pub cut-fits : cut ≤ 2048
+  cut-fits = omega (arith, G .cut-le, well-few t (G .formed))
 
-  pub listed : length gates ≡ 192 → Given (held a) (lineIn l) full (take 128 (drop 64 gates)) step
-  listed n =
-      let d : length (drop 64 gates) ≡ 128 = length-drop 64 gates ∙ omega arith in
-      record {
-        fit = P .given .formed;
-        columns = P .given .columns;
-        within = P .given .cut-le;
-        places = rw (length-take-le 128 (drop 64 gates) (omega arith)) (omega arith);
-        restart = λ z h. getD-take 128 (drop 64 gates) z 0 (few z h) ∙ getD-drop 64 gates z 0 ∙ P .given .gated .places z h;
-      }
-    where
-      few : (z : ℕ) → z < held a .procs → z < 128
-      few z h = omega (arith, h, valid (held a) (P .given .formed) .few)
+  abbrev R : Run
+  R = recorded t past cut line
 
-  pub few-listed : length gates ≡ 192 → length (orphans (runOf a step l)) + (length (keptOnes (runOf a step l)) + length (lostOnes (runOf a step l))) ≤ 2048
-  few-listed n = rows-few (held a) (lineIn l) full (take 128 (drop 64 gates)) step (listed n)
+  module _ (n : length gates ≡ 192) where
+    -- the part of the gates from word 64 on
+    abbrev places : List ℕ
+    places = take (length gates - 64) (drop 64 gates)
+
+    pub listable : Listable t line full places cut
+    listable =
+        let m = length gates - 64 in
+        let d : length (drop 64 gates) ≡ m = length-drop 64 gates in
+        record {
+          fit = G .formed;
+          columns = G .columns;
+          within = G .cut-le;
+          places = rw (length-take-le m (drop 64 gates) (omega arith)) (omega arith);
+          restart = λ z h. getD-take m (drop 64 gates) z 0 (few z h) ∙ getD-drop 64 gates z 0 ∙ G .gated .places z h;
+        }
+      where
+        few : (z : ℕ) → z < t .procs → z < length gates - 64
+        few z h = omega (arith, h, valid t (G .formed) .few)
+
+    -- the counts, as they stand in the list
+    module _ (w : List ℕ) (e : w ≡ wordsFrom (listWord R) 0 areaWords) where
+      word-is : (k : ℕ) → k < 16384 → getD w k 0 ≡ listWord R k
+      word-is k h = ap (λ (x : List ℕ). getD x k 0) e ∙ getD-words (listWord R) 0 16384 k h ∙ ap (listWord R) (let q : 0 + k ≡ k = omega arith in q)
+
+      pub counted : record { number = 0; place = 0; orphans = getD w 0 0; kept = getD w 1 0; lost = getD w 2 0 } ≡ countsOf R
+      unfolding listWord
+      counted = rw (word-is 0 (omega arith), word-is 1 (omega arith), word-is 2 (omega arith))
+
+      pub few-counted : getD w 0 0 + (getD w 1 0 + getD w 2 0) ≤ 2048
+      unfolding listWord
+      few-counted = rw (word-is 0 (omega arith), word-is 1 (omega arith), word-is 2 (omega arith)) (rows-few t line full places cut listable)
 
 module _ (a area : List ℕ) (step set : ℕ) (l : Line) where
   abbrev pub Listed : Counted → List ℕ → Type 0
@@ -51,25 +71,21 @@ module _ (a area : List ℕ) (step set : ℕ) (l : Line) where
   unfolding messagesAnswer messagesArea
   refuses-messages n r f z e = (e ∙ rw (← f, ne-eqb n 0 z), (rw (← f, ne-eqb n 0 z), rw e (omega arith)))
 
-  -- a word of the list, behind which the rest of the area stands
-  front : (w d : List ℕ) → w ≡ wordsFrom (listWord (runOf a step l)) 0 areaWords → (k : ℕ) → k < 16384 → getD (w ++ d) k 0 ≡ listWord (runOf a step l) k
-  front w d e k h =
-      let n : length w ≡ 16384 = ap length e ∙ length-words (listWord (runOf a step l)) 0 16384 in
-      List·getD-append w d 0 k (omega arith) ∙ ap (λ (x : List ℕ). getD x k 0) e ∙ getD-words (listWord (runOf a step l)) 0 16384 k h
-      ∙ ap (listWord (runOf a step l)) (let q : 0 + k ≡ k = omega arith in q)
+  pub lists : (n : ℕ) (r : Counted) (w : List ℕ) → n ≡ faultOf a (length area) step set l → n ≡ 0 → r ≡ countsOf (runOf a step l)
+      → w ≡ wordsFrom (listWord (runOf a step l)) 0 areaWords → r .orphans + (r .kept + r .lost) ≤ 2048 → Listed r (w ++ drop areaWords area)
+  unfolding messagesAnswer messagesArea
+  lists n r w f z e q few = (e ∙ rw (← f, z), (ap (λ (x : List ℕ). x ++ drop 16384 area) q ∙ rw (← f, z), few))
 
-  pub lists : (n : ℕ) (w : List ℕ) → n ≡ faultOf a (length area) step set l → n ≡ 0
-      → length (orphans (runOf a step l)) + (length (keptOnes (runOf a step l)) + length (lostOnes (runOf a step l))) ≤ 2048 → w ≡ wordsFrom (listWord (runOf a step l)) 0 areaWords
-      → let v = w ++ drop areaWords area in
-      Listed (record { number = 0; place = 0; orphans = getD v 0 0; kept = getD v 1 0; lost = getD v 2 0 }) v
-  unfolding messagesAnswer messagesArea listWord
-  lists n w f z few e =
-      let d = drop 16384 area in
-      let h₀ = front w d e 0 (omega arith) in
-      let h₁ = front w d e 1 (omega arith) in
-      let h₂ = front w d e 2 (omega arith) in
-      (rw (← f, z, h₀, h₁, h₂), (ap (λ (x : List ℕ). x ++ d) e ∙ rw (← f, z), rw (h₀, h₁, h₂) few))
+  -- what `messages` answers and leaves where nothing is wrong
+  module _ (ok : faultOf a (length area) step set l ≡ 0) where
+    pub counts-are : (c : Counted) → c ≡ messagesAnswer a area step set l → c ≡ countsOf (runOf a step l)
+    unfolding messagesAnswer
+    counts-are c e = e ∙ rw ok
 
--- the words of the list are there to be read
-pub within : (f : ℕ → ℕ) (w d : List ℕ) → w ≡ wordsFrom f 0 areaWords → (k : ℕ) → k < 16384 → k < length (w ++ d)
-within f w d e k h = rw (length-append w d) (omega (arith, ap length e, length-words f 0 16384))
+    pub listed-at : (w : List ℕ) → w ≡ messagesArea a area step set l → (k : ℕ) → k < 16384 → getD w k 0 ≡ listWord (runOf a step l) k
+    unfolding messagesArea
+    listed-at w e k h =
+        let g = listWord (runOf a step l) in
+        let q : w ≡ wordsFrom g 0 16384 ++ drop 16384 area = e ∙ rw ok in
+        ap (λ (x : List ℕ). getD x k 0) q ∙ List·getD-append (wordsFrom g 0 16384) (drop 16384 area) 0 k (rw (length-words g 0 16384) h)
+        ∙ getD-words g 0 16384 k h ∙ ap g (let z : 0 + k ≡ k = omega arith in z)

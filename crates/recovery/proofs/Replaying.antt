@@ -1,22 +1,19 @@
--- Each way out of `prepare`, `replay` and `lowest`: answer and run area by the definitions, and demand 3 for a complete order.
-use Prim.Native.Nat.{ℕ, _<_, _≤_}
+-- Each way out of `replay` and `lowest`: answer and run area by the definitions, and demand 3 for a complete order.
+use Prim.Native.Nat.{ℕ, _≤_}
 use mathlib.Core.Path.{_≡_, refl, sym, ap, _∙_}
-use mathlib.Core.Bool.{Bool, true, false}
+use mathlib.Core.Bool.{true}
 use mathlib.Core.List.{List, _++_}
 use native.Mathlib.Omega.{arith}
-use lib.Dec.{ltb}
 use lib.ListN.{length, take, drop}
 use lib.Seq.{take-at}
-use borrow.Author.Tests.{lt-ltb, le-ltb, ne-eqb}
+use borrow.Author.Tests.{ne-eqb}
 use Rattle.words.specs.Area.{areaWords, wordsFrom}
 use Rattle.words.proofs.Area.{length-words}
-use Rattle.words.proofs.Cases.{by-lt}
-use Rattle.trace.specs.Fit.{orElse}
 use Rattle.table.specs.Held.{held, holdsTrace}
+use Rattle.theory.specs.Events.{size}
 use Rattle.theory.specs.Epochs.{past}
 use Rattle.theory.specs.Line.{Run}
-use Rattle.theory.specs.Order.{Outcome, carriedOut, refused, run, complete, lowestOrder}
-use Rattle.theory.specs.Refusals.{lineFault}
+use Rattle.theory.specs.Order.{Outcome, carriedOut, refused, run, lowestOrder}
 use Rattle.theory.proofs.Epochs.{laws}
 use Rattle.theory.proofs.Orders.{complete-iff}
 use Rattle.theory.proofs.Lowest.{lowest-order}
@@ -28,37 +25,6 @@ use Rattle.simulation.proofs.Records.{complete-record}
 use Rattle.replay.specs.declared.Replayed.{Replayed}
 use Rattle.replay.specs.Answer.{answerOf, wordsOf}
 use Rattle.recovery.specs.Answers.{runOf, faultOf, refusal, replayAnswer, replayArea, Equal, Completed}
-use Rattle.recovery.specs.Prepared.{Prepared}
-
-module _ (a : List ℕ) (room step set : ℕ) (l : Line) where
-  pub short-table : length a < areaWords → 12 ≡ faultOf a room step set l
-  unfolding faultOf
-  short-table h = rw (lt-ltb (length a) 16384 h)
-
-  pub short-area : areaWords ≤ length a → room < areaWords → 12 ≡ faultOf a room step set l
-  unfolding faultOf
-  short-area g h = rw (le-ltb (length a) 16384 g, lt-ltb room 16384 h)
-
-  module _ (la : areaWords ≤ length a) (lr : areaWords ≤ room) where
-    pub no-trace : holdsTrace a ≡ false → 13 ≡ faultOf a room step set l
-    unfolding faultOf
-    no-trace h = rw (le-ltb (length a) 16384 la, le-ltb room 16384 lr, h)
-
-    pub line-number : (f : ℕ) → holdsTrace a ≡ true → f ≡ lineFault (held a) step set (l .count) (lineIn l) → f ≡ faultOf a room step set l
-    unfolding faultOf
-    line-number f h q = q ∙ rw (le-ltb (length a) 16384 la, le-ltb room 16384 lr, h)
-
-  -- where nothing is wrong, the run area is long enough
-  pub room-enough : 0 ≡ faultOf a room step set l → areaWords ≤ room
-  unfolding faultOf
-  room-enough e =
-      by-lt room 16384
-      (λ h. absurd (let y : ⊥ = omega (arith, either (ltb (length a) 16384) (e ∙ rw (lt-ltb room 16384 h))) in y))
-      (λ h. h)
-    where
-      either : (b : Bool) → 0 ≡ orElse b 12 12 → _≡_ {A = ℕ} 0 12
-      either true q = q
-      either false q = q
 
 module _ (a area : List ℕ) (step set : ℕ) (l : Line) (order : List ℕ) where
   abbrev pub Answered : Replayed → List ℕ → Type 0
@@ -73,15 +39,15 @@ module _ (a area : List ℕ) (step set : ℕ) (l : Line) (order : List ℕ) wher
   pub not-completed : (n : ℕ) (r : Replayed) → n ≡ faultOf a (length area) step set l → (n ≡ 0 → ⊥) → Completed a (length area) step set l r
   not-completed n r f z h = absurd (z (f ∙ h))
 
-  module _ (full gates : List ℕ) (P : Prepared a step set l full gates) where
+  module _ (holds : holdsTrace a ≡ true) (cl : step ≤ size (held a)) where
     abbrev R : Run
     R = runOf a step l
 
     equal : (o : Outcome) → run R order ≡ o → (w : List ℕ) → w ≡ wordsOf R o → Equal a step l (answerOf R o (length order)) (w ++ drop areaWords area)
     unfolding answerOf wordsOf
     equal (carriedOut s) e w q n c =
-        let L = laws (held a) past (held-valid a (P .holds)) step (lineIn l) (P .given .cut-le) in
-        let d = complete-record R L (held-few a (P .holds)) order s e c in
+        let L = laws (held a) past (held-valid a holds) step (lineIn l) cl in
+        let d = complete-record R L (held-few a holds) order s e c in
         let front : take 16384 (w ++ drop 16384 area) ≡ wordsFrom (recordAt R s) 0 16384 =
         take-at w (drop 16384 area) 16384 (ap length q ∙ length-words (recordAt R s) 0 16384) ∙ q in
         rw front d
@@ -91,7 +57,7 @@ module _ (a area : List ℕ) (step set : ℕ) (l : Line) (order : List ℕ) wher
     pub completed : (r : Replayed) → r ≡ answerOf R (run R (lowestOrder R)) (length (lowestOrder R)) → Completed a (length area) step set l r
     unfolding answerOf
     completed r e h =
-        let L = laws (held a) past (held-valid a (P .holds)) step (lineIn l) (P .given .cut-le) in
+        let L = laws (held a) past (held-valid a holds) step (lineIn l) cl in
         let (s, c, d) = lowest-order R L in
         rw (e, c) (refl, complete-iff R s .1 d, refl)
 

@@ -1,4 +1,4 @@
--- Each way out of `restart`: the answer by its definition, and demand 2.
+-- Each way out of `restart_from` and `restart`: the answer by its definition, and demand 2.
 use Prim.Native.Nat.{ℕ, _+_, _<_, _≤_}
 use mathlib.Core.Path.{_≡_, sym, ap, _∙_}
 use mathlib.Core.Bool.{true, false, _&&_, not}
@@ -17,11 +17,14 @@ use Rattle.theory.specs.Epochs.{past, phaseAt}
 use Rattle.theory.specs.Line.{inSet, staysIn, restartIn, current, reached, Greatest, greatestLine}
 use Rattle.theory.specs.Refusals.{failureFault}
 use Rattle.theory.proofs.Claims.{floor-failed}
+use Rattle.theory.proofs.Refusals.{failure-fit, line-fit}
 use Rattle.theory.proofs.WellFormed.{valid}
 use Rattle.line.specs.declared.Line.{Line}
 use Rattle.line.specs.Given.{Tabled, each, lineIn, lineTo, restartWord, numbersOf, backOf, backOnes}
 use Rattle.recovery.specs.declared.Restarted.{Restarted}
+use Rattle.recovery.specs.Answers.{faultOf}
 use Rattle.recovery.specs.Restart.{failureFaultOf, engineLine, ofEach, restartBy, restartOf, restartRefusal, restartAnswer, Restarts}
+use Rattle.recovery.proofs.Preparing.{line-number}
 
 -- ---- From the full table
 
@@ -83,6 +86,31 @@ module _ (a : List ℕ) (step set : ℕ) where
   refuses-restart n r f z e =
       (e ∙ rw (← f, ne-eqb n 0 z), λ h. absurd (z (sym (ap (λ (x : Restarted). x .number) e) ∙ h)))
 
-  pub answers-restart : (r : Restarted) → 0 ≡ failureFaultOf a step set → r ≡ restartOf (held a) step set → Restarts (held a) step set r → Answered r
+  pub answers-restart : (n : ℕ) (r : Restarted) → n ≡ failureFaultOf a step set → n ≡ 0 → r ≡ restartOf (held a) step set → Restarts (held a) step set r → Answered r
   unfolding restartAnswer
-  answers-restart r f e m = (e ∙ rw (← f), λ _. m)
+  answers-restart n r f z e m = (e ∙ rw (← f, z), λ _. m)
+
+-- ---- A failure that is not refused
+
+-- a table area that holds a trace, a failure that is fit, and the answer to it
+pub record Ready (a : List ℕ) (step set : ℕ) (r : Restarted) : Type 0 where
+  pub holds : holdsTrace a ≡ true
+  pub fit : failureFault (held a) step set ≡ 0
+  pub answer : r ≡ restartOf (held a) step set
+  pub means : Restarts (held a) step set r
+
+module _ (t : Trace) (step set : ℕ) (r : Restarted) (e : r ≡ restartOf t step set) where
+  pub line-is : r .line ≡ lineTo t (greatestLine t past step (reached t past step) (inSet set))
+  unfolding restartOf engineLine
+  line-is = ap (λ (x : Restarted). x .line) e
+
+  pub count-in : r .line .count ≡ t .procs
+  count-in = ap (λ (l : Line). l .count) line-is
+
+module _ (a : List ℕ) (step set : ℕ) (r : Restarted) (G : Ready a step set r) where
+  -- nothing is wrong with the engine's line, so that neither `messages` nor `lowest` refuses it
+  pub not-refused : (room : ℕ) → areaWords ≤ room → faultOf a room step set (r .line) ≡ 0
+  not-refused room h =
+      line-number a room step set (r .line) h (G .holds)
+      ∙ line-fit (held a) step set (r .line .count) (lineIn (r .line)) .1
+      (record { failure = failure-fit (held a) step set .0 (G .fit); count-is = count-in (held a) step set r (G .answer); permitted = G .means .greatest .permitted })

@@ -1,4 +1,5 @@
 pub mod Answers
 pub mod Messages
 pub mod Prepared
+pub mod Recover
 pub mod Restart

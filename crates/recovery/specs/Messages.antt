@@ -5,6 +5,7 @@ use lib.ListN.{length, drop}
 use lib.Dec.{eqb}
 use Rattle.words.specs.Area.{areaWords, wordsFrom}
 use Rattle.theory.specs.Lists.{pick}
+use Rattle.theory.specs.Line.{Run}
 use Rattle.theory.specs.Answers.{orphans, keptOnes, lostOnes}
 use Rattle.classes.specs.Listing.{listWord}
 use Rattle.line.specs.declared.Line.{Line}
@@ -14,17 +15,13 @@ use Rattle.recovery.specs.Answers.{runOf, faultOf}
 abbrev pub messagesRefusal : ℕ → Counted
 messagesRefusal n = record { number = n; place = 0; orphans = 0; kept = 0; lost = 0 }
 
+-- how many orphans, kept and lost messages a run has
+abbrev pub countsOf : Run → Counted
+countsOf R = record { number = 0; place = 0; orphans = length (orphans R); kept = length (keptOnes R); lost = length (lostOnes R) }
+
 unfoldable pub messagesAnswer : List ℕ → List ℕ → ℕ → ℕ → Line → Counted
 messagesAnswer a area step set l =
-    pick (eqb (faultOf a (length area) step set l) 0)
-    (record {
-      number = 0;
-      place = 0;
-      orphans = length (orphans (runOf a step l));
-      kept = length (keptOnes (runOf a step l));
-      lost = length (lostOnes (runOf a step l));
-    })
-    (messagesRefusal (faultOf a (length area) step set l))
+    pick (eqb (faultOf a (length area) step set l) 0) (countsOf (runOf a step l)) (messagesRefusal (faultOf a (length area) step set l))
 
 unfoldable pub messagesArea : List ℕ → List ℕ → ℕ → ℕ → Line → List ℕ
 messagesArea a area step set l =

@@ -1,15 +1,53 @@
--- What a call has once nothing is wrong with what it was given: the full table and the gates. No public contract cites this.
-use Prim.Native.Nat.{ℕ}
+-- What a call has once nothing is wrong with what it was given, and what it makes of it. No public contract cites these.
+use Prim.Native.Nat.{ℕ, _+_, _≤_}
 use mathlib.Core.Path.{_≡_}
 use mathlib.Core.Bool.{true}
 use mathlib.Core.List.{List}
+use lib.ListN.{length}
+use lib.Dec.{ltb}
+use Rattle.words.specs.Area.{areaWords, wordsFrom}
+use Rattle.trace.specs.Trace.{Trace}
+use Rattle.trace.specs.Fit.{orElse}
 use Rattle.table.specs.Held.{held, holdsTrace}
-use Rattle.theory.specs.Refusals.{lineFault}
+use Rattle.theory.specs.Epochs.{past}
+use Rattle.theory.specs.Line.{Run, recorded}
+use Rattle.theory.specs.Order.{run, lowestOrder}
+use Rattle.theory.specs.Refusals.{failureFault}
+use Rattle.classes.specs.Listing.{listWord}
 use Rattle.line.specs.declared.Line.{Line}
-use Rattle.line.specs.Given.{lineIn}
+use Rattle.line.specs.Given.{Tabled, lineIn}
+use Rattle.replay.specs.Answer.{answerOf}
 use Rattle.replay.specs.Given.{Given}
+use Rattle.recovery.specs.declared.Recovered.{Recovered}
+use Rattle.recovery.specs.Messages.{countsOf}
+use Rattle.recovery.specs.Restart.{failureFaultOf, restartOf, Restarts}
 
-pub record Prepared (a : List ℕ) (step set : ℕ) (l : Line) (full gates : List ℕ) : Type 0 where
+-- what is wrong with the areas (`room` is how many words the run area has) and the failure: 12, 13, 8, 9, or 0
+abbrev pub failureFaultIn : List ℕ → ℕ → ℕ → ℕ → ℕ
+failureFaultIn a room step set = orElse (ltb room areaWords) 12 (failureFaultOf a step set)
+
+-- the full table
+pub record Filled (a : List ℕ) (room step set : ℕ) (full : List ℕ) : Type 0 where
+  pub enough : areaWords ≤ room
   pub holds : holdsTrace a ≡ true
-  pub fit : lineFault (held a) step set (l .count) (lineIn l) ≡ 0
+  pub fit : failureFault (held a) step set ≡ 0
+  pub tabled : Tabled (held a) full
+
+-- the full table and the gates of a line
+pub record Prepared (a : List ℕ) (room step set : ℕ) (l : Line) (full gates : List ℕ) : Type 0 where
+  pub enough : areaWords ≤ room
+  pub holds : holdsTrace a ≡ true
   pub given : Given (held a) (lineIn l) step full gates
+
+-- the run of a trace with the line that was found
+abbrev pub foundRun : Trace → ℕ → Recovered → Run
+foundRun t cut r = recorded t past cut (lineIn (r .restarted .line))
+
+-- the answers from a full table, and the words left in the run area
+pub record Recovering (t : Trace) (cut set : ℕ) (r : Recovered) (w : List ℕ) : Type 0 where
+  pub restarted : r .restarted ≡ restartOf t cut set
+  pub restarts : Restarts t cut set (r .restarted)
+  pub replayed : let R = foundRun t cut r in r .replayed ≡ answerOf R (run R (lowestOrder R)) (length (lowestOrder R))
+  pub counted : r .counted ≡ countsOf (foundRun t cut r)
+  pub words : w ≡ wordsFrom (listWord (foundRun t cut r)) 0 areaWords
+  pub few : r .counted .orphans + (r .counted .kept + r .counted .lost) ≤ 2048

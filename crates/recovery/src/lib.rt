@@ -1,17 +1,22 @@
-// Recovery: a table area, a failure, a recovery line and an order of choices, answered and carried out. specs/Restart, Messages
-// and Answers say what each function answers and leaves, for every input; no public function has a `requires`. Assumes nothing.
+// Recovery: a table area, a failure, a recovery line and an order of choices, answered and carried out. specs/Restart, Messages,
+// Answers and Recover say what each function answers and leaves, for every input; no public function has a `requires`. Assumes nothing.
 ghost use mathlib.Core.Path.{_≡_};
 ghost use Prim.Native.Nat.{ℕ, _+_, _<_, _≤_};
 ghost use lib.ListN.{length, getD};
-ghost use Rattle.words.specs.Area.{areaWords};
+ghost use Rattle.words.specs.Area.{areaWords, wordsFrom};
 ghost use Rattle.trace.specs.Trace.{Trace};
 ghost use Rattle.table.specs.Held.{held};
 ghost use Rattle.theory.specs.Events.{size};
+ghost use Rattle.theory.specs.Epochs.{past};
+ghost use Rattle.theory.specs.Line.{recorded};
 ghost use Rattle.theory.specs.Order.{lowestOrder};
+ghost use Rattle.classes.specs.Listing.{listWord};
 ghost use Rattle.line.specs.Given.{Tabled};
+ghost use Rattle.replay.specs.Given.{Given};
 ghost use Rattle.recovery.specs.Answers.{runOf, faultOf, refusal, replayAnswer, replayArea, Equal, Completed};
-ghost use Rattle.recovery.specs.Prepared.{Prepared};
-ghost use Rattle.recovery.specs.Messages.{messagesRefusal, messagesAnswer, messagesArea};
+ghost use Rattle.recovery.specs.Prepared.{failureFaultIn, Filled, Prepared, Recovering};
+ghost use Rattle.recovery.specs.Messages.{countsOf, messagesRefusal, messagesAnswer, messagesArea};
+ghost use Rattle.recovery.specs.Recover.{restartWith, recoverRefusal, Succeeds};
 ghost use Rattle.recovery.specs.Restart.{restartRefusal, restartOf, restartAnswer, Restarts};
 use line::Line;
 use replay::Replayed;
@@ -28,7 +33,26 @@ fn refused(number: u32) -> Replayed
     }
 }
 
-// Checks what a call is given: 12, 13, 8, 9, 10, or 0. Where nothing is wrong, fills the full table of the trace and the gates of the line.
+// Checks the areas and the failure that a call is given: 12, 13, 8, 9, or 0. Where nothing is wrong, fills the full table of the trace.
+fn fill_table(table: &[u32], room: usize, step: u64, set: u64, full: &mut [u32]) -> u32
+    requires { ⌜ length (now full) ≡ areaWords ⌝ }
+    ensures fault { λ r. ⌜ r ≡ failureFaultIn (now (table .entry)) room step set ⌝ }
+    ensures given { λ r. ⌜ (r ≡ 0 → Filled (now (table .entry)) room step set (now (full .exit))) ⌝ }
+{
+    if room < AREA_WORDS {
+        return 12;
+    }
+    if table.len() < AREA_WORDS {
+        return 12;
+    }
+    if protocol::tabulate(table, full) {
+        line::failure_fault(full, step, set)
+    } else {
+        13
+    }
+}
+
+// The same with a line, where 10 is left. Where nothing is wrong, fills the gates of the line as well.
 fn prepare(
     table: &[u32],
     room: usize,
@@ -40,24 +64,17 @@ fn prepare(
 ) -> u32
     requires { ⌜ (length (now full) ≡ areaWords) × (length (now gates) ≡ 192) ⌝ }
     ensures fault { λ r. ⌜ r ≡ faultOf (now (table .entry)) room step set line ⌝ }
-    ensures given { λ r. ⌜ (r ≡ 0 → Prepared (now (table .entry)) step set line (now (full .exit)) (now (gates .exit))) ⌝ }
+    ensures given { λ r. ⌜ (r ≡ 0 → Prepared (now (table .entry)) room step set line (now (full .exit)) (now (gates .exit))) ⌝ }
 {
-    if table.len() < AREA_WORDS {
-        return 12;
+    let failure = fill_table(table, room, step, set, full);
+    if failure != 0 {
+        return failure;
     }
-    if room < AREA_WORDS {
-        return 12;
-    }
-    if protocol::tabulate(table, full) {
-        let fault = line::line_fault(full, step, set, line);
-        if fault != 0 {
-            return fault;
-        }
+    let fault = line::line_fault(full, step, set, line);
+    if fault == 0 {
         line::gates(full, line, step as usize, gates);
-        0
-    } else {
-        13
     }
+    fault
 }
 
 // Carries out an order of choices from a line: the answer, and in the run area the delivery record of exactly this order.
@@ -122,6 +139,23 @@ fn no_messages(number: u32) -> Counted
 // Where the restarts of the processes begin in the gates.
 const RESTARTS: usize = 64;
 
+// The orphans, kept and lost messages listed in a run area, from the full table and the gates of a line: how many there are.
+fn list_from(full: &[u32], gates: &[u32], cut: usize, area: &mut [u32]) -> Counted
+    requires { ⌜ (length (now area) ≡ areaWords) × (length (now gates) ≡ 192) × ((t : Trace) × (line : (ℕ → ℕ)) × Given t line cut (now full) (now gates)) ⌝ }
+    ensures answer { λ r. ⌜ ((t : Trace) (line : ℕ → ℕ) → Given t line cut (now (full .entry)) (now (gates .entry)) → r ≡ countsOf (recorded t past cut line)) ⌝ }
+    ensures words { λ _. ⌜ ((t : Trace) (line : ℕ → ℕ) → Given t line cut (now (full .entry)) (now (gates .entry)) → now (area .exit) ≡ wordsFrom (listWord (recorded t past cut line)) 0 areaWords) ⌝ }
+    ensures few { λ r. ⌜ r .orphans + (r .kept + r .lost) ≤ 2048 ⌝ }
+{
+    classes::list(full, &gates[RESTARTS..], cut as u32, area);
+    Counted {
+        number: 0,
+        place: 0,
+        orphans: area[0],
+        kept: area[1],
+        lost: area[2],
+    }
+}
+
 // The orphans, kept and lost messages of a line: how many there are, and their list in the run area.
 pub fn messages(table: &[u32], step: u64, set: u64, line: Line, area: &mut [u32]) -> Counted
     ensures answer { λ r. ⌜ r ≡ messagesAnswer (now (table .entry)) (now (area .entry)) step set line ⌝ }
@@ -134,19 +168,7 @@ pub fn messages(table: &[u32], step: u64, set: u64, line: Line, area: &mut [u32]
     if fault != 0 {
         return no_messages(fault);
     }
-    classes::list(
-        &full,
-        &gates[RESTARTS..],
-        step as u32,
-        &mut area[..AREA_WORDS],
-    );
-    Counted {
-        number: 0,
-        place: 0,
-        orphans: area[0],
-        kept: area[1],
-        lost: area[2],
-    }
+    list_from(&full, &gates, step as usize, &mut area[..AREA_WORDS])
 }
 
 // What a failure asks for: the engine's line, the set of the processes that go back and its size, and of each process its epoch at the cut
@@ -219,17 +241,60 @@ pub fn restart(table: &[u32], step: u64, set: u64) -> Restarted
     ensures answer { λ r. ⌜ r ≡ restartAnswer (now (table .entry)) step set ⌝ }
     ensures means { λ r. ⌜ (r .number ≡ 0 → Restarts (held (now (table .entry))) step set r) ⌝ }
 {
-    if table.len() < AREA_WORDS {
-        return no_restart(12);
-    }
     let mut full = [0u32; AREA_WORDS];
-    if protocol::tabulate(table, &mut full) {
-        let fault = line::failure_fault(&full, step, set);
-        if fault != 0 {
-            return no_restart(fault);
-        }
-        restart_from(&full, step as usize, set)
-    } else {
-        no_restart(13)
+    let fault = fill_table(table, AREA_WORDS, step, set, &mut full);
+    if fault != 0 {
+        return no_restart(fault);
     }
+    restart_from(&full, step as usize, set)
+}
+
+// What `restart` answers, and with its line `lowest` and `messages`.
+pub struct Recovered {
+    pub restarted: Restarted,
+    pub replayed: Replayed,
+    pub counted: Counted,
+}
+
+fn not_recovered(number: u32) -> Recovered
+    ensures { λ r. ⌜ r ≡ recoverRefusal number ⌝ }
+{
+    Recovered {
+        restarted: no_restart(number),
+        replayed: refused(number),
+        counted: no_messages(number),
+    }
+}
+
+// The answers for a failure that is not refused, from the full table. The list of the messages takes the place of the replay's record.
+fn recover_from(full: &[u32], cut: usize, set: u64, area: &mut [u32]) -> Recovered
+    requires { ⌜ (length (now area) ≡ areaWords) × ((t : Trace) × Tabled t (now full) × (cut ≤ size t)) ⌝ }
+    ensures { λ r. ⌜ ((t : Trace) → Tabled t (now (full .entry)) → cut ≤ size t → Recovering t cut set r (now (area .exit))) ⌝ }
+{
+    let restarted = restart_from(full, cut, set);
+    let mut gates = [0u32; line::GATE_WORDS];
+    line::gates(full, restarted.line, cut, &mut gates);
+    let replayed = replay::lowest(full, &gates, area, cut);
+    let counted = list_from(full, &gates, cut, area);
+    Recovered {
+        restarted: restarted,
+        replayed: replayed,
+        counted: counted,
+    }
+}
+
+// All that a failure asks for, from one table: the restart, the replay of its line in the lowest order, and the list of the line's messages.
+pub fn recover(table: &[u32], step: u64, set: u64, area: &mut [u32]) -> Recovered
+    ensures restart { λ r. ⌜ r .restarted ≡ restartWith (now (table .entry)) (length (now (area .entry))) step set ⌝ }
+    ensures replay { λ r. ⌜ r .replayed ≡ replayAnswer (now (table .entry)) (now (area .entry)) step set (r .restarted .line) (lowestOrder (runOf (now (table .entry)) step (r .restarted .line))) ⌝ }
+    ensures messages { λ r. ⌜ r .counted ≡ messagesAnswer (now (table .entry)) (now (area .entry)) step set (r .restarted .line) ⌝ }
+    ensures words { λ r. ⌜ now (area .exit) ≡ messagesArea (now (table .entry)) (now (area .entry)) step set (r .restarted .line) ⌝ }
+    ensures means { λ r. ⌜ (r .restarted .number ≡ 0 → Succeeds (now (table .entry)) (length (now (area .entry))) step set r) ⌝ }
+{
+    let mut full = [0u32; AREA_WORDS];
+    let fault = fill_table(table, area.len(), step, set, &mut full);
+    if fault != 0 {
+        return not_recovered(fault);
+    }
+    recover_from(&full, step as usize, set, &mut area[..AREA_WORDS])
 }

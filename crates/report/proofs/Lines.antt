@@ -1,4 +1,4 @@
--- Lines written one after another: what a loop has after each, and what the keys of a line are.
+-- Lines written one after another: what a loop has after each, what the keys of a line are, and a whole report.
 use Prim.Native.Nat.{ℕ, _+_, _/_, _%_}
 use mathlib.Core.Path.{_≡_}
 use mathlib.Core.List.{List, [], _∷_, _++_}
@@ -7,11 +7,12 @@ use native.Mathlib.Numerals.{add-one}
 use lib.ListN.{getD}
 use Rattle.text.specs.Number.{decimal}
 use Rattle.theory.specs.Answers.{gather}
+use Rattle.recovery.specs.declared.Recovered.{Recovered}
 use Rattle.writer.specs.Buffer.{Puts}
 use Rattle.writer.proofs.Buffers.{none, then}
 use Rattle.report.specs.Bytes.{bytesOf}
-use Rattle.report.specs.Report.{processLine, refusalLine, totalLine}
-use Rattle.report.specs.Rows.{rowBytes, wordsRow, messageRow}
+use Rattle.report.specs.Report.{processLine, refusalLine, totalLine, keyOrphan, keyKept}
+use Rattle.report.specs.Rows.{rowBytes, processRow, wordsRow, messageRow, recoveryRows}
 
 -- four keys with their numbers, and the end of the line
 pub row-put : (k l m n o₀ o₁ o₂ o₃ o₄ o₅ : List ℕ) (a b c d p₀ p₁ p₂ p₃ p₄ p₅ : ℕ)
@@ -67,3 +68,17 @@ refusal-put k l o₀ o₁ o₂ o₃ a b p₀ p₁ p₂ p₃ hk hl ha hb he =
     let lf : List ℕ = 10 ∷ [] in
     let tb = then (l ++ decimal b) lf o₁ o₂ o₃ p₁ p₂ p₃ hb he in
     rw (← hk, ← hl) (then (k ++ decimal a) (l ++ decimal b ++ lf) o₀ o₁ o₃ p₀ p₁ p₃ ha tb)
+
+-- ---- The whole report of a recovery
+
+pub recovery-put : (r : Recovered) (run k₁ k₂ out o₁ o₂ o₃ o₄ : List ℕ) (p₁ p₂ p₃ p₄ : ℕ) → k₁ ≡ bytesOf keyOrphan → k₂ ≡ bytesOf keyKept
+    → Puts (gather (processRow (r .restarted)) (r .restarted .line .count)) out 0 o₁ p₁
+    → Puts (gather (messageRow k₁ run 0) (r .counted .orphans)) o₁ p₁ o₂ p₂
+    → Puts (gather (messageRow k₂ run (r .counted .orphans)) (r .counted .kept)) o₂ p₂ o₃ p₃
+    → Puts (totalLine (r .restarted .back) (r .counted .orphans) (r .counted .kept) (r .replayed .steps)) o₃ p₃ o₄ p₄
+    → Puts (recoveryRows r run) out 0 o₄ p₄
+unfolding recoveryRows
+recovery-put r run k₁ k₂ out o₁ o₂ o₃ o₄ p₁ p₂ p₃ p₄ e₁ e₂ h₁ h₂ h₃ h₄ =
+    let t₂ = then _ _ out o₁ o₂ 0 p₁ p₂ h₁ h₂ in
+    let t₃ = then _ _ out o₂ o₃ 0 p₂ p₃ t₂ h₃ in
+    rw (← e₁, ← e₂) (then _ _ out o₃ o₄ 0 p₃ p₄ t₃ h₄)

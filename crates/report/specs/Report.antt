@@ -2,7 +2,7 @@
 -- it, or a refusal's number and place.
 use mathlib.Core.List.{List, [], _∷_, _++_}
 use mathlib.Core.Bool.{not}
-use Prim.Native.Nat.{ℕ, zero, suc, _+_}
+use Prim.Native.Nat.{ℕ, zero, suc}
 use Prim.Native.String.{String}
 use lib.ListN.{length, getD}
 use lib.Dec.{ltb, eqb}
@@ -12,7 +12,7 @@ use Rattle.reader.specs.Failure.{Failing, failureOf as lastFailure}
 use Rattle.theory.specs.Lists.{pick, keep}
 use Rattle.theory.specs.Epochs.{past}
 use Rattle.theory.specs.Line.{inSet, Run, recorded, current, reached, greatestLine}
-use Rattle.theory.specs.Order.{run, steps, lowestOrder}
+use Rattle.theory.specs.Order.{steps, lowestOrder}
 use Rattle.theory.specs.Answers.{lineOf, Listed, gather, orphans, keptOnes}
 use Rattle.theory.specs.Refusals.{failureFault}
 use Rattle.report.specs.Bytes.{bytesOf}

@@ -1,17 +1,13 @@
 -- The lines of the report from the words that the code has. No public contract cites these.
 use mathlib.Core.List.{List, [], _∷_, _++_}
-use Prim.Native.Nat.{ℕ, _+_, _/_, _%_, _≤_}
-use mathlib.Core.Path.{_≡_}
-use mathlib.Core.Bool.{true}
-use lib.ListN.{length, getD}
+use Prim.Native.Nat.{ℕ, _+_, _/_, _%_}
+use lib.ListN.{getD}
 use Rattle.text.specs.Number.{decimal}
-use Rattle.words.specs.Area.{areaWords}
-use Rattle.table.specs.Held.{held, holdsTrace}
-use Rattle.theory.specs.Refusals.{failureFault}
-use Rattle.recovery.specs.Restart.{restartOf, Restarts}
+use Rattle.theory.specs.Answers.{gather}
 use Rattle.recovery.specs.declared.Restarted.{Restarted}
+use Rattle.recovery.specs.declared.Recovered.{Recovered}
 use Rattle.report.specs.Bytes.{bytesOf}
-use Rattle.report.specs.Report.{processLine}
+use Rattle.report.specs.Report.{processLine, totalLine, keyOrphan, keyKept}
 
 -- four keys with their numbers
 unfoldable pub rowBytes : List ℕ → ℕ → List ℕ → ℕ → List ℕ → ℕ → List ℕ → ℕ → List ℕ
@@ -29,10 +25,10 @@ wordsRow key w number phase = rowBytes key (w % 64) (bytesOf " to=") (w / 64 % 6
 abbrev pub messageRow : List ℕ → List ℕ → ℕ → ℕ → List ℕ
 messageRow key run before i = wordsRow key (getD run (17 + (before + i)) 0) (getD run (2066 + (before + i)) 0) (getD run (4115 + (before + i)) 0)
 
--- what the report of a recovery is given: a table area that holds a trace, a failure that is fit, and the answer to it
-pub record Ready (a : List ℕ) (step set : ℕ) (r : Restarted) : Type 0 where
-  pub whole : areaWords ≤ length a
-  pub holds : holdsTrace a ≡ true
-  pub fit : failureFault (held a) step set ≡ 0
-  pub answer : r ≡ restartOf (held a) step set
-  pub means : Restarts (held a) step set r
+-- the whole report of a recovery
+unfoldable pub recoveryRows : Recovered → List ℕ → List ℕ
+recoveryRows r run =
+    let orphans = r .counted .orphans in
+    let kept = r .counted .kept in
+    gather (processRow (r .restarted)) (r .restarted .line .count) ++ gather (messageRow (bytesOf keyOrphan) run 0) orphans
+    ++ gather (messageRow (bytesOf keyKept) run orphans) kept ++ totalLine (r .restarted .back) orphans kept (r .replayed .steps)

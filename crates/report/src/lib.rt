@@ -1,14 +1,14 @@
 // The report on a text that ends with a failure line: read, recovered and printed into a lent buffer, byte for byte by specs/Report. Assumes
 // nothing.
 ghost use mathlib.Core.Path.{_≡_};
-ghost use Prim.Native.Nat.{ℕ, _+_, _/_, _%_, _≤_};
-ghost use lib.ListN.{length, getD};
+ghost use Prim.Native.Nat.{_+_, _≤_};
+ghost use lib.ListN.{length};
 ghost use Rattle.words.specs.Area.{areaWords};
-ghost use Rattle.table.specs.Held.{held};
 ghost use Rattle.theory.specs.Answers.{gather};
 ghost use Rattle.writer.specs.Buffer.{Puts, room, written};
-ghost use Rattle.report.specs.Report.{given, recoveryFor, refusalLine, printedOf, printed, reportBytes};
-ghost use Rattle.report.specs.Rows.{rowBytes, processRow, messageRow, Ready};
+ghost use Rattle.report.specs.Report.{refusalLine, printed, reportBytes};
+ghost use Rattle.report.specs.Rows.{rowBytes, processRow, messageRow, recoveryRows};
+use recovery::Recovered;
 use recovery::Restarted;
 use words::AREA_WORDS;
 
@@ -126,31 +126,27 @@ fn put_refusal(out: &mut [u8], number: u32, place: usize) -> usize
     writer::put_bytes(out, end, b"\n")
 }
 
-// The report of a failure that is not refused.
-fn put_recovery(table: &[u32], step: u64, set: u64, r: Restarted, out: &mut [u8]) -> usize
-    requires { ⌜ Ready (now table) step set r ⌝ }
-    ensures bytes { λ n. ⌜ Puts (printedOf (given (recoveryFor (held (now (table .entry))) step set))) (now (out .entry)) 0 (now (out .exit)) n ⌝ }
-    ensures few { λ _. ⌜ length (printedOf (given (recoveryFor (held (now (table .entry))) step set))) ≤ reportBytes ⌝ }
+// The report of a failure that is not refused, from the answers and the list in the run area.
+fn put_recovery(out: &mut [u8], r: Recovered, run: &[u32]) -> usize
+    requires { ⌜ (length (now run) ≡ areaWords) × (r .restarted .line .count ≤ 64) × (r .counted .orphans + r .counted .kept ≤ 2048) ⌝ }
+    ensures { λ n. ⌜ Puts (recoveryRows r (now (run .entry))) (now (out .entry)) 0 (now (out .exit)) n ⌝ }
 {
-    let mut run = [0u32; AREA_WORDS];
-    let replayed = recovery::lowest(table, step, set, r.line, &mut run);
-    let listed = recovery::messages(table, step, set, r.line, &mut run);
-    let orphans = listed.orphans as usize;
-    let kept = listed.kept as usize;
-    let to_orphans = put_processes(out, r);
-    let to_kept = put_messages(out, to_orphans, b"out=orphan from=", &run, 0, orphans);
-    let to_total = put_messages(out, to_kept, b"out=kept from=", &run, orphans, kept);
+    let orphans = r.counted.orphans as usize;
+    let kept = r.counted.kept as usize;
+    let to_orphans = put_processes(out, r.restarted);
+    let to_kept = put_messages(out, to_orphans, b"out=orphan from=", run, 0, orphans);
+    let to_total = put_messages(out, to_kept, b"out=kept from=", run, orphans, kept);
     put_row(
         out,
         to_total,
         b"out=total back=",
-        wide(r.back),
+        wide(r.restarted.back),
         b" orphans=",
         orphans as u64,
         b" kept=",
         kept as u64,
         b" steps=",
-        replayed.steps as u64,
+        r.replayed.steps as u64,
     )
 }
 
@@ -168,9 +164,10 @@ pub fn report(text: &[u8], out: &mut [u8]) -> usize
     if read.number != 0 {
         return put_refusal(out, read.number, read.place);
     }
-    let r = recovery::restart(&table, read.step, read.set);
-    if r.number != 0 {
-        return put_refusal(out, r.number, 0);
+    let mut run = [0u32; AREA_WORDS];
+    let r = recovery::recover(&table, read.step, read.set, &mut run);
+    if r.restarted.number != 0 {
+        return put_refusal(out, r.restarted.number, 0);
     }
-    put_recovery(&table, read.step, read.set, r, out)
+    put_recovery(out, r, &run)
 }

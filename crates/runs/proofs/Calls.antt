@@ -6,7 +6,7 @@ use mathlib.Core.Bool.{true, false}
 use mathlib.Core.List.{List, [], _∷_, _++_, map, append-nil}
 use mathlib.Core.Option.{some}
 use native.Mathlib.Omega.{arith}
-use lib.ListN.{length, getD, take, drop, replicate, length-replicate, getD-replicate, List·getD-append, List·getD-eq-default}
+use lib.ListN.{length, getD, take, drop, replicate, length-replicate, getD-replicate, List·getD-eq-default}
 use lib.Seq.{ext-getD, getD-take, length-take-le}
 use borrow.Author.Tests.{lt-ltb, le-ltb, ne-eqb}
 use Rattle.words.specs.Area.{areaWords, wordsFrom, ruled}
@@ -42,14 +42,13 @@ use Rattle.recovery.specs.declared.Counted.{Counted}
 use Rattle.recovery.specs.declared.Restarted.{Restarted}
 use Rattle.recovery.specs.Answers.{faultOf, replayAnswer, replayArea, Completed}
 use Rattle.recovery.specs.Answers.{runOf as codeRun}
-use Rattle.recovery.specs.Messages.{messagesAnswer, messagesArea}
+use Rattle.recovery.specs.Messages.{countsOf}
 use Rattle.recovery.specs.Restart.{failureFaultOf, restartOf, restartRefusal, restartAnswer}
-use Rattle.recovery.proofs.Listing.{Listed as Messages}
+use Rattle.recovery.proofs.Listing.{Listed as Messages, counts-are, listed-at}
 use Rattle.recovery.proofs.Replaying.{Answered as Replay}
-use Rattle.recovery.proofs.Restarting.{Answered as Restart}
+use Rattle.recovery.proofs.Restarting.{Answered as Restart, Ready, not-refused}
 use Rattle.report.specs.Report.{Answer, refused, given, unless, then, Failure, runOf, Recovery, recoveryBy, engineLine, recoveryOf, recovery, failureOf}
-use Rattle.report.specs.Rows.{Ready}
-use Rattle.report.proofs.Found.{tabled-length, run-same, not-refused, steps-are, epochs-at, phases-at, numbers-are, back-is}
+use Rattle.report.proofs.Found.{tabled-length, run-same, steps-are, epochs-at, phases-at, numbers-are, back-is}
 use Rattle.report.proofs.Messages.{blank, At, front-row, later-row, word-in, number-in, phase-in, orphan-row, kept-row}
 use Rattle.runs.proofs.Table.{completed}
 use Rattle.runs.specs.Answers.{losses, Replayed as Told, fault, replayOf, replay}
@@ -166,25 +165,13 @@ unfolding names
 none-named [] h = refl
 none-named (m ∷ ms) h = clash {b = true} refl (rw (eqb-self (m .from), eqb-self (m .to), eqb-self (m .number)) at (h (m .from) (m .to) (m .number)))
 
--- how many there are
-abbrev countsOf : Run → Counted
-countsOf R = record { number = 0; place = 0; orphans = length (orphans R); kept = length (keptOnes R); lost = length (lostOnes R) }
-
 module _ (a run : List ℕ) (step set : ℕ) (l : Line) (R : Run) (same : codeRun a step l ≡ R) (few : R .trace .procs ≤ 64)
     (ok : faultOf a (length run) step set l ≡ 0) (c : Counted) (w : List ℕ) (M : Messages a run step set l c w) where
   counts : c ≡ countsOf R
-  unfolding messagesAnswer
-  counts = M .0 ∙ rw ok (ap countsOf same)
-
-  area-is : w ≡ wordsFrom (listWord R) 0 16384 ++ drop 16384 run
-  unfolding messagesArea
-  area-is = M .1 .0 ∙ rw (ok, same)
+  counts = counts-are a run step set l ok c (M .0) ∙ ap countsOf same
 
   words : (k : ℕ) → k < 16384 → getD w k 0 ≡ listWord R k
-  words k h =
-      ap (λ (x : List ℕ). getD x k 0) area-is
-      ∙ List·getD-append (wordsFrom (listWord R) 0 16384) (drop 16384 run) 0 k (rw (length-words (listWord R) 0 16384) h)
-      ∙ getD-words (listWord R) 0 16384 k h ∙ ap (listWord R) (let q : 0 + k ≡ k = omega arith in q)
+  words k h = listed-at a run step set l ok w (M .1 .0) k h ∙ ap (λ (Q : Run). listWord Q k) same
 
   room : length (orphans R) + (length (keptOnes R) + length (lostOnes R)) ≤ 2048
   room = rw counts at (M .1 .1)
@@ -273,7 +260,7 @@ module _ (text a : List ℕ) (step set : ℕ) (holds : holdsTrace a ≡ true) (e
     number-is = ap (λ (s : Restarted). s .number) answer-is
 
     ready : Ready a step set r
-    ready = record { whole = held-long a holds; holds = holds; fit = taken .0; answer = answer-is; means = A .1 number-is }
+    ready = record { holds = holds; fit = taken .0; answer = answer-is; means = A .1 number-is }
 
     epochs-are : take (t .procs) (r .epochs) ≡ recoveryOf f .epochs
     unfolding restartOf recoveryBy
@@ -327,7 +314,7 @@ module _ (text a : List ℕ) (step set : ℕ) (holds : holdsTrace a ≡ true) (e
         lowest-done =
             let T = codeRun a step (r .line) in
             let q = carried-out (run T (lowestOrder T)) (length (lowestOrder T)) (P .0 ∙ rw ok) in
-            let n = sym (ap (λ (z : Replayed). z .steps) q) ∙ steps-are a step set r ready (length run₀) long y C ∙ ap (λ (z : Recovery). z .steps) found in
+            let n = sym (ap (λ (z : Replayed). z .steps) q) ∙ steps-are a step set r ready (length run₀) y ok C ∙ ap (λ (z : Recovery). z .steps) found in
             (q ∙ rw n, P .1 .1 (C ok .0) (C ok .1) .1 (ready .means .greatest .loss-free))
 
   -- ---- `messages` and `replay` with a line of numbers

@@ -1,13 +1,12 @@
 -- `recovery::lowest` meets its contract: a refusal changes nothing; otherwise the first 16,384 words are lent on.
-use mathlib.Core.Path.{sym, _∙_}
-use lib.ListN.{length}
+use mathlib.Core.Path.{sym}
 use lib.Seq.{length-take-le}
 use Rattle.words.specs.Area.{areaWords}
 use Rattle.table.specs.Held.{held}
 use Rattle.theory.specs.Order.{lowestOrder}
 use Rattle.line.specs.Given.{lineIn}
 use Rattle.recovery.specs.Answers.{runOf}
-use Rattle.recovery.proofs.Replaying.{refuses, not-completed, carried, completed, room-enough}
+use Rattle.recovery.proofs.Replaying.{refuses, not-completed, carried, completed}
 use borrow.Author.Needs.{needs}
 use Rattle.recovery.proofs.lowest.Statement.{statement}
 use Rattle.recovery.proofs.lowest.Tie as tie
@@ -27,21 +26,21 @@ slice-relend-prefix-lowest c =
     let args = c .before .before .before .before .before .before .before .before .before .before .args in
     let if1 = c .before .before .if1 in
     let prepare = c .before .before .before .before .before .prepare in
-    room-enough (args .table .now) (length (args .area .now)) (args .step) (args .set) (args .line) (sym (if1 .left) ∙ (prepare .ensures .0))
+    ((prepare .ensures .1) (if1 .left)) .enough
 
 slice-aggregate-lowest-3 : tie.Need-slice-aggregate-lowest-3
 slice-aggregate-lowest-3 c =
     let args = c .before .before .before .before .before .before .before .before .before .before .before .args in
     let if1 = c .before .before .before .if1 in
     let prepare = c .before .before .before .before .before .before .prepare in
-    sym (length-take-le areaWords (args .area .now) (room-enough (args .table .now) (length (args .area .now)) (args .step) (args .set) (args .line) (sym (if1 .left) ∙ (prepare .ensures .0))))
+    sym (length-take-le areaWords (args .area .now) (((prepare .ensures .1) (if1 .left)) .enough))
 
 lowest-requires : tie.Need-lowest-requires
 lowest-requires c κs =
     let args = c .before .before .before .before .before .before .before .before .before .before .before .args in
     let if1 = c .before .before .before .if1 in
     let prepare = c .before .before .before .before .before .before .prepare in
-    (length-take-le areaWords (args .area .now) (room-enough (args .table .now) (length (args .area .now)) (args .step) (args .set) (args .line) (sym (if1 .left) ∙ (prepare .ensures .0))), search needs, (held (args .table .now), lineIn (args .line), ((prepare .ensures .1) (if1 .left)) .given))
+    (length-take-le areaWords (args .area .now) (((prepare .ensures .1) (if1 .left)) .enough), search needs, (held (args .table .now), lineIn (args .line), ((prepare .ensures .1) (if1 .left)) .given))
 
 returns-2 : tie.Need-returns-2
 returns-2 c =
@@ -53,8 +52,8 @@ returns-2 c =
     let P = (prepare .ensures .1) (if1 .left) in
     let answer = (lowest .ensures .0) (held (args .table .now)) (lineIn (args .line)) (P .given) in
     let words = (lowest .ensures .1) (held (args .table .now)) (lineIn (args .line)) (P .given) in
-    let x = carried (args .table .now) (args .area .now) (args .step) (args .set) (args .line) order _ _ P _ _ _ (prepare .ensures .0) (if1 .left) answer words in
-    (x .0, (x .1 .0, (x .1 .1, completed (args .table .now) (args .area .now) (args .step) (args .set) (args .line) order _ _ P _ answer)))
+    let x = carried (args .table .now) (args .area .now) (args .step) (args .set) (args .line) order (P .holds) (P .given .cut-le) _ _ _ (prepare .ensures .0) (if1 .left) answer words in
+    (x .0, (x .1 .0, (x .1 .1, completed (args .table .now) (args .area .now) (args .step) (args .set) (args .line) order (P .holds) (P .given .cut-le) _ answer)))
 
 pub lowest-spec : {M : Type 1} → statement M
 lowest-spec =

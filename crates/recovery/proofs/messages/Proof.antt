@@ -1,13 +1,10 @@
 -- `recovery::messages` meets its contract: a refusal changes nothing; otherwise the list is laid down in the first 16,384 words.
-use mathlib.Core.Path.{sym, _∙_}
-use lib.ListN.{length}
+use mathlib.Core.Path.{sym}
 use lib.Seq.{length-take-le}
 use Rattle.words.specs.Area.{areaWords}
 use Rattle.table.specs.Held.{held}
 use Rattle.line.specs.Given.{lineIn}
-use Rattle.recovery.proofs.Replaying.{room-enough}
-use Rattle.recovery.proofs.Listing.{step-fits, listed, few-listed, refuses-messages, lists, within}
-use native.Mathlib.Omega.{arith}
+use Rattle.recovery.proofs.Listing.{refuses-messages, lists}
 use borrow.Author.Needs.{needs}
 use Rattle.recovery.proofs.messages.Statement.{statement}
 use Rattle.recovery.proofs.messages.Tie as tie
@@ -20,67 +17,37 @@ returns c =
     let no-messages = c .no-messages in
     refuses-messages (args .table .now) (args .area .now) (args .step) (args .set) (args .line) _ _ (prepare .ensures .0) (if1 .taken) (no-messages .ensures)
 
-cast-list : tie.Need-cast-list
-cast-list c =
-    let args = c .before .before .before .before .before .before .before .before .before .before .before .args in
+slice-relend-prefix-list-from : tie.Need-slice-relend-prefix-list-from
+slice-relend-prefix-list-from c =
+    let prepare = c .before .before .before .before .before .prepare in
+    let if1 = c .before .before .if1 in
+    let P = (prepare .ensures .1) (if1 .left) in P .enough
+
+slice-aggregate-list-from-3 : tie.Need-slice-aggregate-list-from-3
+slice-aggregate-list-from-3 c =
     let prepare = c .before .before .before .before .before .before .prepare in
     let if1 = c .before .before .before .if1 in
-    omega (arith, step-fits (args .table .now) (args .step) (args .set) (args .line) _ _ ((prepare .ensures .1) (if1 .left)))
-
-slice-relend-prefix-list : tie.Need-slice-relend-prefix-list
-slice-relend-prefix-list c =
     let args = c .before .before .before .before .before .before .before .before .before .before .before .args in
-    let if1 = c .before .before .before .if1 in
+    let P = (prepare .ensures .1) (if1 .left) in sym (length-take-le areaWords (args .area .now) (P .enough))
+
+list-from-requires : tie.Need-list-from-requires
+list-from-requires c κs =
     let prepare = c .before .before .before .before .before .before .prepare in
-    (room-enough (args .table .now) (length (args .area .now)) (args .step) (args .set) (args .line) (sym (if1 .left) ∙ (prepare .ensures .0)))
-
-slice-aggregate-list-2 : tie.Need-slice-aggregate-list-2
-slice-aggregate-list-2 c =
-    let args = c .before .before .before .before .before .before .before .before .before .before .before .before .args in
-    let if1 = c .before .before .before .before .if1 in
-    let prepare = c .before .before .before .before .before .before .before .prepare in
-    sym (length-take-le areaWords (args .area .now) (room-enough (args .table .now) (length (args .area .now)) (args .step) (args .set) (args .line) (sym (if1 .left) ∙ (prepare .ensures .0))))
-
-list-requires : tie.Need-list-requires
-list-requires c κs =
-    let args = c .before .before .before .before .before .before .before .before .before .before .before .before .args in
-    let if1 = c .before .before .before .before .if1 in
-    let prepare = c .before .before .before .before .before .before .before .prepare in
-    (length-take-le areaWords (args .area .now) (room-enough (args .table .now) (length (args .area .now)) (args .step) (args .set) (args .line) (sym (if1 .left) ∙ (prepare .ensures .0))), (held (args .table .now), lineIn (args .line), (listed (args .table .now) (args .step) (args .set) (args .line) _ _ ((prepare .ensures .1) (if1 .left)) (search needs))))
-
-slice-read-t22 : tie.Need-slice-read-t22
-slice-read-t22 c =
-    let list = c .before .before .before .list in
-    let args = c .before .before .before .before .before .before .before .before .before .before .before .before .before .before .before .before .args in
-    let prepare = c .before .before .before .before .before .before .before .before .before .before .before .prepare in
-    let if1 = c .before .before .before .before .before .before .before .before .if1 in
-    within _ _ _ ((list .ensures) (held (args .table .now)) (lineIn (args .line)) (listed (args .table .now) (args .step) (args .set) (args .line) _ _ ((prepare .ensures .1) (if1 .left)) (search needs))) 0 (omega arith)
-
-slice-read-t27 : tie.Need-slice-read-t27
-slice-read-t27 c =
-    let list = c .before .before .before .before .list in
-    let args = c .before .before .before .before .before .before .before .before .before .before .before .before .before .before .before .before .before .args in
-    let prepare = c .before .before .before .before .before .before .before .before .before .before .before .before .prepare in
-    let if1 = c .before .before .before .before .before .before .before .before .before .if1 in
-    within _ _ _ ((list .ensures) (held (args .table .now)) (lineIn (args .line)) (listed (args .table .now) (args .step) (args .set) (args .line) _ _ ((prepare .ensures .1) (if1 .left)) (search needs))) 1 (omega arith)
-
-slice-read-t29 : tie.Need-slice-read-t29
-slice-read-t29 c =
-    let list = c .before .before .before .before .before .list in
-    let args = c .before .before .before .before .before .before .before .before .before .before .before .before .before .before .before .before .before .before .args in
-    let prepare = c .before .before .before .before .before .before .before .before .before .before .before .before .before .prepare in
-    let if1 = c .before .before .before .before .before .before .before .before .before .before .if1 in
-    within _ _ _ ((list .ensures) (held (args .table .now)) (lineIn (args .line)) (listed (args .table .now) (args .step) (args .set) (args .line) _ _ ((prepare .ensures .1) (if1 .left)) (search needs))) 2 (omega arith)
+    let if1 = c .before .before .before .if1 in
+    let args = c .before .before .before .before .before .before .before .before .before .before .before .args in
+    let P = (prepare .ensures .1) (if1 .left) in
+    (length-take-le areaWords (args .area .now) (P .enough), search needs, (held (args .table .now), lineIn (args .line), P .given))
 
 returns-2 : tie.Need-returns-2
 returns-2 c =
-    let args = c .before .before .before .before .before .before .before .before .before .before .before .before .before .before .before .before .before .before .args in
-    let prepare = c .before .before .before .before .before .before .before .before .before .before .before .before .before .prepare in
-    let if1 = c .before .before .before .before .before .before .before .before .before .before .if1 in
-    let list = c .before .before .before .before .before .list in
-    lists (args .table .now) (args .area .now) (args .step) (args .set) (args .line) _ _ (prepare .ensures .0) (if1 .left) (few-listed (args .table .now) (args .step) (args .set) (args .line) _ _ ((prepare .ensures .1) (if1 .left)) (search needs)) ((list .ensures) (held (args .table .now)) (lineIn (args .line)) (listed (args .table .now) (args .step) (args .set) (args .line) _ _ ((prepare .ensures .1) (if1 .left)) (search needs)))
+    let prepare = c .before .before .before .before .before .before .before .before .before .prepare in
+    let if1 = c .before .before .before .before .before .before .if1 in
+    let args = c .before .before .before .before .before .before .before .before .before .before .before .before .before .before .args in
+    let list-from = c .before .before .list-from in
+    let P = (prepare .ensures .1) (if1 .left) in
+    lists (args .table .now) (args .area .now) (args .step) (args .set) (args .line) _ _ _ (prepare .ensures .0) (if1 .left) ((list-from .ensures .0) (held (args .table .now)) (lineIn (args .line)) (P .given)) ((list-from .ensures .1 .0) (held (args .table .now)) (lineIn (args .line)) (P .given)) (list-from .ensures .1 .1)
 
 pub messages-spec : {M : Type 1} → statement M
 messages-spec =
     tie.close
-    (tie.spec (λ c. search needs) (λ c. search needs) (λ c κs. search needs) (λ c κs. search needs) returns (λ c. search needs) (λ c. search needs) (λ c. search needs) (λ c. search needs) cast-list slice-relend-prefix-list slice-aggregate-list-2 list-requires slice-read-t22 slice-read-t27 slice-read-t29 (λ c. search needs) returns-2)
+    (tie.spec (λ c. search needs) (λ c. search needs) (λ c κs. search needs) (λ c κs. search needs) returns (λ c. search needs) (λ c. search needs) slice-relend-prefix-list-from slice-aggregate-list-from-3 list-from-requires (λ c. search needs) returns-2)

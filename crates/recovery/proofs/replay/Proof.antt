@@ -1,11 +1,10 @@
 -- `recovery::replay` meets its contract: a refusal changes nothing; otherwise the first 16,384 words are lent on.
-use mathlib.Core.Path.{sym, _∙_}
-use lib.ListN.{length}
+use mathlib.Core.Path.{sym}
 use lib.Seq.{length-take-le}
 use Rattle.words.specs.Area.{areaWords}
 use Rattle.table.specs.Held.{held}
 use Rattle.line.specs.Given.{lineIn}
-use Rattle.recovery.proofs.Replaying.{refuses, carried, room-enough}
+use Rattle.recovery.proofs.Replaying.{refuses, carried}
 use borrow.Author.Needs.{needs}
 use Rattle.recovery.proofs.replay.Statement.{statement}
 use Rattle.recovery.proofs.replay.Tie as tie
@@ -23,21 +22,21 @@ slice-relend-prefix-replay c =
     let args = c .before .before .before .before .before .before .before .before .before .before .before .args in
     let if1 = c .before .before .if1 in
     let prepare = c .before .before .before .before .before .prepare in
-    room-enough (args .table .now) (length (args .area .now)) (args .step) (args .set) (args .line) (sym (if1 .left) ∙ (prepare .ensures .0))
+    ((prepare .ensures .1) (if1 .left)) .enough
 
 slice-aggregate-replay-3 : tie.Need-slice-aggregate-replay-3
 slice-aggregate-replay-3 c =
     let args = c .before .before .before .before .before .before .before .before .before .before .before .before .args in
     let if1 = c .before .before .before .if1 in
     let prepare = c .before .before .before .before .before .before .prepare in
-    sym (length-take-le areaWords (args .area .now) (room-enough (args .table .now) (length (args .area .now)) (args .step) (args .set) (args .line) (sym (if1 .left) ∙ (prepare .ensures .0))))
+    sym (length-take-le areaWords (args .area .now) (((prepare .ensures .1) (if1 .left)) .enough))
 
 replay-requires : tie.Need-replay-requires
 replay-requires c κs =
     let args = c .before .before .before .before .before .before .before .before .before .before .before .before .args in
     let if1 = c .before .before .before .if1 in
     let prepare = c .before .before .before .before .before .before .prepare in
-    (length-take-le areaWords (args .area .now) (room-enough (args .table .now) (length (args .area .now)) (args .step) (args .set) (args .line) (sym (if1 .left) ∙ (prepare .ensures .0))), search needs, (held (args .table .now), lineIn (args .line), ((prepare .ensures .1) (if1 .left)) .given))
+    (length-take-le areaWords (args .area .now) (((prepare .ensures .1) (if1 .left)) .enough), search needs, (held (args .table .now), lineIn (args .line), ((prepare .ensures .1) (if1 .left)) .given))
 
 returns-2 : tie.Need-returns-2
 returns-2 c =
@@ -45,7 +44,7 @@ returns-2 c =
     let prepare = c .before .before .before .before .before .before .before .before .before .prepare in
     let if1 = c .before .before .before .before .before .before .if1 in
     let replay = c .before .before .replay in
-    carried (args .table .now) (args .area .now) (args .step) (args .set) (args .line) (args .order .now) _ _ ((prepare .ensures .1) (if1 .left)) _ _ _ (prepare .ensures .0) (if1 .left) ((replay .ensures .0) (held (args .table .now)) (lineIn (args .line)) (((prepare .ensures .1) (if1 .left)) .given)) ((replay .ensures .1) (held (args .table .now)) (lineIn (args .line)) (((prepare .ensures .1) (if1 .left)) .given))
+    carried (args .table .now) (args .area .now) (args .step) (args .set) (args .line) (args .order .now) (((prepare .ensures .1) (if1 .left)) .holds) (((prepare .ensures .1) (if1 .left)) .given .cut-le) _ _ _ (prepare .ensures .0) (if1 .left) ((replay .ensures .0) (held (args .table .now)) (lineIn (args .line)) (((prepare .ensures .1) (if1 .left)) .given)) ((replay .ensures .1) (held (args .table .now)) (lineIn (args .line)) (((prepare .ensures .1) (if1 .left)) .given))
 
 pub replay-spec : {M : Type 1} → statement M
 replay-spec =

@@ -1,8 +1,10 @@
 -- `report::report` meets its contract, one law for each way out.
+use mathlib.Core.Path.{_∙_}
 use Prim.Native.Nat.{ℕ}
 use lib.ListN.{replicate, length-replicate}
 use Rattle.words.specs.Area.{areaWords}
 use Rattle.report.proofs.Lengths.{refusal-few}
+use Rattle.report.proofs.Found.{puttable, rows-are, rows-few}
 use Rattle.report.proofs.Ways.{answered, too-long, text-refused, failure-refused, ready, found-printed}
 use borrow.Author.Needs.{needs}
 use Rattle.report.proofs.report.Statement.{statement}
@@ -13,7 +15,7 @@ returns c =
     let args = c .before .before .before .before .before .before .before .args in
     let if1 = c .before .before .before .before .if1 in
     let put-refusal = c .before .before .put-refusal in
-    answered _ ((args .text) .now) _ _ _ (too-long ((args .text) .now) (if1 .taken)) (refusal-few _ _) (put-refusal .ensures)
+    answered _ (args .text .now) _ _ _ (too-long (args .text .now) (if1 .taken)) (refusal-few _ _) (put-refusal .ensures)
 
 returns-2 : tie.Need-returns-2
 returns-2 c =
@@ -22,41 +24,46 @@ returns-2 c =
     let read-failure = c .before .before .before .before .before .before .before .read-failure in
     let if2 = c .before .before .before .before .if2 in
     let put-refusal2 = c .before .before .put-refusal2 in
-    answered _ ((args .text) .now) _ _ _ (text-refused ((args .text) .now) (if1 .left) (replicate areaWords 0) (length-replicate {A = ℕ} areaWords 0) (read-failure .result) (read-failure .ensures .0) (if2 .taken)) (refusal-few _ _) (put-refusal2 .ensures)
+    answered _ (args .text .now) _ _ _ (text-refused (args .text .now) (if1 .left) (replicate areaWords 0) (length-replicate {A = ℕ} areaWords 0) (read-failure .result) (read-failure .ensures .0) (if2 .taken)) (refusal-few _ _) (put-refusal2 .ensures)
 
 returns-3 : tie.Need-returns-3
 returns-3 c =
+    let args = c .before .before .before .before .before .before .before .before .before .before .before .before .before .before .before .before .before .before .args in
+    let if1 = c .before .before .before .before .before .before .before .before .before .before .before .before .before .before .before .if1 in
+    let read-failure = c .before .before .before .before .before .before .before .before .before .before .before .before .before .read-failure in
+    let if2 = c .before .before .before .before .before .before .before .before .before .before .if2 in
+    let recover = c .before .before .before .before .before .before .before .recover in
+    let if3 = c .before .before .before .before .if3 in
+    let put-refusal3 = c .before .before .put-refusal3 in
+    answered _ (args .text .now) _ _ _ (failure-refused (args .text .now) (if1 .left) (replicate areaWords 0) (length-replicate {A = ℕ} areaWords 0) (read-failure .result) (read-failure .ensures .0) (if2 .left) _ (read-failure .ensures .1) (replicate areaWords 0) (length-replicate {A = ℕ} areaWords 0) (recover .result .restarted) (recover .ensures .0) (if3 .taken)) (refusal-few _ _) (put-refusal3 .ensures)
+
+put-recovery-requires : tie.Need-put-recovery-requires
+put-recovery-requires c κs =
+    let recover = c .before .before .before .before .before .recover in
+    let if3 = c .before .before .if3 in
     let args = c .before .before .before .before .before .before .before .before .before .before .before .before .before .before .before .before .args in
     let if1 = c .before .before .before .before .before .before .before .before .before .before .before .before .before .if1 in
     let read-failure = c .before .before .before .before .before .before .before .before .before .before .before .read-failure in
     let if2 = c .before .before .before .before .before .before .before .before .if2 in
-    let restart = c .before .before .before .before .before .before .restart in
-    let if3 = c .before .before .before .before .if3 in
-    let put-refusal3 = c .before .before .put-refusal3 in
-    answered _ ((args .text) .now) _ _ _ (failure-refused ((args .text) .now) (if1 .left) (replicate areaWords 0) (length-replicate {A = ℕ} areaWords 0) (read-failure .result) (read-failure .ensures .0) (if2 .left) _ (read-failure .ensures .1) (restart .result) (restart .ensures .0) (if3 .taken)) (refusal-few _ _) (put-refusal3 .ensures)
-
-put-recovery-requires : tie.Need-put-recovery-requires
-put-recovery-requires c κs =
-    let args = c .before .before .before .before .before .before .before .before .before .before .before .before .before .before .args in
-    let if1 = c .before .before .before .before .before .before .before .before .before .before .before .if1 in
-    let read-failure = c .before .before .before .before .before .before .before .before .before .read-failure in
-    let if2 = c .before .before .before .before .before .before .if2 in
-    let restart = c .before .before .before .before .restart in
-    let if3 = c .before .before .if3 in
-    ready ((args .text) .now) (if1 .left) (replicate areaWords 0) (length-replicate {A = ℕ} areaWords 0) (read-failure .result) (read-failure .ensures .0) (if2 .left) _ (read-failure .ensures .1) (restart .result) (restart .ensures .0) (if3 .left) ((restart .ensures .1) (if3 .left))
+    let S = (recover .ensures .1 .1 .1 .1) (if3 .left) in
+    let G = ready (args .text .now) (if1 .left) (replicate areaWords 0) (length-replicate {A = ℕ} areaWords 0) (read-failure .result) (read-failure .ensures .0) (if2 .left) _ (read-failure .ensures .1) (replicate areaWords 0) (length-replicate {A = ℕ} areaWords 0) (recover .result .restarted) (recover .ensures .0) (if3 .left) (S .restarts) in
+    let p = puttable _ _ _ (recover .result .restarted) G (recover .result .replayed) (recover .result .counted) _ _ (recover .ensures .1 .1 .0) (recover .ensures .1 .1 .1 .0) S in
+    (search needs, p .0, p .1)
 
 returns-4 : tie.Need-returns-4
 returns-4 c =
-    let args = c .before .before .before .before .before .before .before .before .before .before .before .before .before .before .before .before .before .args in
-    let if1 = c .before .before .before .before .before .before .before .before .before .before .before .before .before .before .if1 in
-    let read-failure = c .before .before .before .before .before .before .before .before .before .before .before .before .read-failure in
-    let if2 = c .before .before .before .before .before .before .before .before .before .if2 in
-    let restart = c .before .before .before .before .before .before .before .restart in
+    let recover = c .before .before .before .before .before .before .before .before .recover in
     let if3 = c .before .before .before .before .before .if3 in
+    let args = c .before .before .before .before .before .before .before .before .before .before .before .before .before .before .before .before .before .before .before .args in
+    let if1 = c .before .before .before .before .before .before .before .before .before .before .before .before .before .before .before .before .if1 in
+    let read-failure = c .before .before .before .before .before .before .before .before .before .before .before .before .before .before .read-failure in
+    let if2 = c .before .before .before .before .before .before .before .before .before .before .before .if2 in
     let put-recovery = c .before .before .put-recovery in
-    answered _ ((args .text) .now) _ _ _ (found-printed ((args .text) .now) (if1 .left) (replicate areaWords 0) (length-replicate {A = ℕ} areaWords 0) (read-failure .result) (read-failure .ensures .0) (if2 .left) _ (read-failure .ensures .1) (restart .result) (restart .ensures .0) (if3 .left)) (put-recovery .ensures .1) (put-recovery .ensures .0)
+    let S = (recover .ensures .1 .1 .1 .1) (if3 .left) in
+    let G = ready (args .text .now) (if1 .left) (replicate areaWords 0) (length-replicate {A = ℕ} areaWords 0) (read-failure .result) (read-failure .ensures .0) (if2 .left) _ (read-failure .ensures .1) (replicate areaWords 0) (length-replicate {A = ℕ} areaWords 0) (recover .result .restarted) (recover .ensures .0) (if3 .left) (S .restarts) in
+    answered _ (args .text .now) _ _ _ (rows-are _ _ _ (recover .result .restarted) G (recover .result .replayed) (recover .result .counted) _ _ (recover .ensures .1 .1 .0) (recover .ensures .1 .1 .1 .0) S ∙ found-printed (args .text .now) (if1 .left) (replicate areaWords 0) (length-replicate {A = ℕ} areaWords 0) (read-failure .result) (read-failure .ensures .0) (if2 .left) _ (read-failure .ensures .1) (replicate areaWords 0) (length-replicate {A = ℕ} areaWords 0) (recover .result .restarted) (recover .ensures .0) (if3 .left)) (rows-few _ _ _ (recover .result .restarted) G (recover .result .replayed) (recover .result .counted) _ _ (recover .ensures .1 .1 .0) (recover .ensures .1 .1 .1 .0) S) (put-recovery .ensures)
 
 pub report-spec : {M : Type 1} → statement M
 report-spec =
     tie.close
-    (tie.spec (λ c κs. search needs) (λ c. search needs) returns (λ c. search needs) (λ c κs. search needs) (λ c κs. search needs) (λ c. search needs) returns-2 (λ c. search needs) (λ c κs. search needs) (λ c κs. search needs) (λ c. search needs) returns-3 (λ c. search needs) put-recovery-requires (λ c. search needs) returns-4)
+    (tie.spec (λ c κs. search needs) (λ c. search needs) returns (λ c. search needs) (λ c κs. search needs) (λ c κs. search needs) (λ c. search needs) returns-2 (λ c. search needs) (λ c. search needs) (λ c κs. search needs) (λ c κs. search needs) (λ c. search needs) returns-3 (λ c. search needs) put-recovery-requires (λ c. search needs) returns-4)

@@ -1,0 +1,60 @@
+-- `recovery::recover_from` meets its contract: the line that was found goes through the replay and the list.
+use Rattle.line.specs.Given.{lineIn}
+use Rattle.recovery.proofs.Given.{given}
+use Rattle.recovery.proofs.Restarting.{count-in}
+use borrow.Author.Needs.{needs}
+use Rattle.recovery.proofs.recover_from.Statement.{statement}
+use Rattle.recovery.proofs.recover_from.Tie as tie
+
+gates-requires : tie.Need-gates-requires
+gates-requires c κs =
+    let pre = c .before .before .before .before .pre in
+    let args = c .before .before .before .before .args in
+    let restart-from = c .before .restart-from in
+    let t = (pre .1 .0) in
+    let G = (pre .1 .1) in
+    let h = (pre .1 .2) in
+    let n = count-in t (args .cut) (args .set) _ ((restart-from .ensures .0) t G h) in
+    (search needs, (t, G, h, n))
+
+lowest-requires : tie.Need-lowest-requires
+lowest-requires c κs =
+    let pre = c .before .before .before .before .before .before .before .before .pre in
+    let args = c .before .before .before .before .before .before .before .before .args in
+    let restart-from = c .before .before .before .before .before .restart-from in
+    let gates2 = c .before .before .before .gates2 in
+    let t = (pre .1 .0) in
+    let G = (pre .1 .1) in
+    let h = (pre .1 .2) in
+    let n = count-in t (args .cut) (args .set) _ ((restart-from .ensures .0) t G h) in
+    (search needs, search needs, (t, lineIn (restart-from .result .line), given t _ G (args .cut) h (lineIn (restart-from .result .line)) _ ((gates2 .ensures) t G h n)))
+
+list-from-requires : tie.Need-list-from-requires
+list-from-requires c κs =
+    let pre = c .before .before .before .before .before .before .before .before .before .before .before .before .before .pre in
+    let args = c .before .before .before .before .before .before .before .before .before .before .before .before .before .args in
+    let restart-from = c .before .before .before .before .before .before .before .before .before .before .restart-from in
+    let gates2 = c .before .before .before .before .before .before .before .before .gates2 in
+    let t = (pre .1 .0) in
+    let G = (pre .1 .1) in
+    let h = (pre .1 .2) in
+    let n = count-in t (args .cut) (args .set) _ ((restart-from .ensures .0) t G h) in
+    (search needs, search needs, (t, lineIn (restart-from .result .line), given t _ G (args .cut) h (lineIn (restart-from .result .line)) _ ((gates2 .ensures) t G h n)))
+
+returns : tie.Need-returns
+returns c =
+    let restart-from = c .before .before .before .before .before .before .before .before .before .before .before .before .before .restart-from in
+    let args = c .before .before .before .before .before .before .before .before .before .before .before .before .before .before .before .before .args in
+    let gates2 = c .before .before .before .before .before .before .before .before .before .before .before .gates2 in
+    let lowest = c .before .before .before .before .before .before .before .lowest in
+    let list-from = c .before .before .list-from in
+    λ t G h.
+    let e = (restart-from .ensures .0) t G h in
+    let n = count-in t (args .cut) (args .set) _ e in
+    let g = given t _ G (args .cut) h (lineIn (restart-from .result .line)) _ ((gates2 .ensures) t G h n) in
+    record { restarted = e; restarts = (restart-from .ensures .1) t G h; replayed = (lowest .ensures .0) t (lineIn (restart-from .result .line)) g; counted = (list-from .ensures .0) t (lineIn (restart-from .result .line)) g; words = (list-from .ensures .1 .0) t (lineIn (restart-from .result .line)) g; few = (list-from .ensures .1 .1) }
+
+pub recover-from-spec : {M : Type 1} → statement M
+recover-from-spec =
+    tie.close
+    (tie.spec (λ c κs. search needs) (λ c. search needs) gates-requires (λ c. search needs) lowest-requires (λ c. search needs) list-from-requires (λ c. search needs) returns)
