@@ -2,6 +2,10 @@
 //!
 //! `bench [repeats]` prints the median time of each call, in microseconds, for each shape and size.
 //!
+//! `bench worst [rounds]` makes random traces of full size, of all shapes with other habits, with
+//! random failures and the engine's line or that of all 1, and prints the slowest call of each kind:
+//! the median of 31 times of the engine, what it was given, and the reference's there.
+//!
 //! `bench once engine|reference CALL SHAPE EVENTS` does one call once, inside the function
 //! `bench_engine_once` or `bench_reference_once`, so that its instructions can be counted:
 //!
@@ -26,18 +30,23 @@ fn main() {
     let done = match words[..] {
         [] => bench::all(101),
         ["once", who, call, shape, events] => bench::once(who, call, shape, events),
+        ["worst"] => bench::worst(200),
+        ["worst", rounds] => rounds.parse().ok().and_then(bench::worst),
         [repeats] => repeats.parse().ok().and_then(bench::all),
         _ => None,
     };
     if done.is_none() {
-        eprintln!("usage: bench [repeats] | bench once engine|reference CALL SHAPE EVENTS");
+        eprintln!(
+            "usage: bench [repeats] | bench worst [rounds] | \
+             bench once engine|reference CALL SHAPE EVENTS"
+        );
         std::process::exit(2);
     }
 }
 
 #[cfg(hallback_archive)]
 mod bench {
-    use hallback::shapes::{Random, Shape};
+    use hallback::shapes::{Habits, Random, Shape, Trace};
     use hallback::{raw, reference};
     use hallback::{Failure, Refusal, Replayed, AREA_WORDS, MAX_PROCS, REPORT_BYTES};
     use std::hint::black_box;
@@ -111,17 +120,28 @@ mod bench {
                 step: events as u64 * 3 / 4,
                 set,
             };
+            Input::of(&trace, failure, false)
+        }
+
+        /// The calls' input for a failure of a trace: its greatest line, or that of all 1, and the
+        /// lowest order from there.
+        fn of(trace: &Trace, failure: Failure, from_start: bool) -> Input {
             let text = trace.text();
             let mut table = vec![0; AREA_WORDS];
             reference::read(&text, &mut table).expect("the trace is fit");
-            let restart = reference::restart(&table, failure).expect("the failure is fit");
-            let order = lowest_order(&table, failure, restart.line()).expect("the line is fit");
+            let line = if from_start {
+                vec![1; trace.procs]
+            } else {
+                let restart = reference::restart(&table, failure).expect("the failure is fit");
+                restart.line().to_vec()
+            };
+            let order = lowest_order(&table, failure, &line).expect("the line is fit");
             Input {
                 text,
                 text_with_failure: trace.text_with(failure),
                 table,
                 failure,
-                line: restart.line().to_vec(),
+                line,
                 order,
                 read_table: vec![0; AREA_WORDS],
                 run: vec![0; AREA_WORDS],
@@ -248,6 +268,50 @@ mod bench {
                     );
                 }
             }
+        }
+        Some(())
+    }
+
+    /// How often a call is timed that may be the slowest.
+    const SURE: usize = 31;
+
+    pub fn worst(rounds: u64) -> Option<()> {
+        let (events, procs) = SIZES[2];
+        let mut slowest = Call::ALL.map(|call| (0.0, 0.0, call, String::new()));
+        for round in 0..rounds {
+            let mut random = Random::new(round);
+            let shape = random.pick(&Shape::ALL);
+            let habits = Habits {
+                saves: random.pick(&[0, 1, 3, 10, 40]),
+                receives: random.pick(&[30, 45, 60, 100]),
+                in_transit: random.pick(&[0, 8, 32, 128, 512]),
+            };
+            let trace = shape.trace_with(habits, procs, events, &mut random);
+            let failure = shape.failure(&trace, &mut random);
+            let from_start = random.percent(25);
+            let mut input = Input::of(&trace, failure, from_start);
+            for (most, reference, call, what) in &mut slowest {
+                // a single slow call says little on a shared machine
+                if median(bench_engine_once, *call, &mut input, 3) <= *most {
+                    continue;
+                }
+                let time = median(bench_engine_once, *call, &mut input, SURE);
+                if time > *most {
+                    *most = time;
+                    *reference = median(bench_reference_once, *call, &mut input, SURE);
+                    *what = format!(
+                        "round {round}, {} {habits:?}, fail={} set={}, {} steps",
+                        shape.name(),
+                        failure.step,
+                        failure.set,
+                        input.order.len()
+                    );
+                }
+            }
+        }
+        println!("of {rounds} traces the slowest, in microseconds: engine, reference");
+        for (most, reference, call, what) in &slowest {
+            println!("{:9} {most:10.1} {reference:10.1}  {what}", call.name());
         }
         Some(())
     }
