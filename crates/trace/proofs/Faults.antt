@@ -1,7 +1,7 @@
--- Laws of `faultOf`: what a fit event has, and one law for each way out of the functions that judge an event.
+-- What a fit event has, one law for each way out of the functions that judge an event by counters, and that these judge by the events counted.
 use Prim.Native.Nat.{ℕ, _+_, _*_, _<_, _≤_}
 use mathlib.Core.Path.{_≡_, refl, _∙_}
-use mathlib.Core.List.{List}
+use mathlib.Core.List.{List, []}
 use mathlib.Core.Bool.{Bool, true, false}
 use native.Mathlib.Omega.{arith}
 use lib.Dec.{leb, eqb}
@@ -11,7 +11,8 @@ use Rattle.trace.specs.declared.Event.{Event}
 use Rattle.trace.specs.declared.Event.the-variants.{Send, Recv, Save}
 use Rattle.trace.specs.Trace.{sends, recvs, saves}
 use Rattle.trace.specs.Fit.{orElse, faultOf}
-use Rattle.trace.specs.Tally.{Tally}
+use Rattle.trace.specs.Tally.{Tally, faultBy}
+use Rattle.words.proofs.Cases.{by-lt, by-eq}
 
 -- no test said yes
 pub or-zero : (b : Bool) (k rest : ℕ) → 0 < k → orElse b k rest ≡ 0 → (b ≡ false) × (rest ≡ 0)
@@ -37,51 +38,6 @@ module _ (n : ℕ) (es : List Event) (a b : ℕ) where
       let u = or-zero (leb (sends b a es) (recvs b a es)) 5 0 (omega arith) (z .1) in
       (leb-false n a (x .0), leb-false n b (y .0), eqb-false a b (z .0), leb-false (sends b a es) (recvs b a es) (u .0))
 
-  -- each way out of `pair_fault`
-  module _ (v : ℕ) where
-    pub pair-1 : n ≤ a → 3 ≡ faultOf n es (Send a b v)
-    unfolding faultOf
-    pair-1 h = rw (le-leb n a h)
-
-    pub pair-2 : a < n → n ≤ b → 3 ≡ faultOf n es (Send a b v)
-    unfolding faultOf
-    pair-2 l h = rw (lt-leb n a l, le-leb n b h)
-
-    pub pair-3 : a < n → b < n → a ≡ b → 4 ≡ faultOf n es (Send a b v)
-    unfolding faultOf
-    pair-3 l m h = rw (lt-leb n a l, lt-leb n b m, eq-eqb a b h)
-
-    pub pair-4 : a < n → b < n → (a ≡ b → ⊥) → 0 ≡ faultOf n es (Send a b v)
-    unfolding faultOf
-    pair-4 l m h = rw (lt-leb n a l, lt-leb n b m, ne-eqb a b h)
-
-  -- each way out of `recv_fault`: f is what is wrong with the pair, c the channel's counter
-  pub recv-1 : (f : ℕ) → f ≡ faultOf n es (Send a b 0) → (f ≡ 0 → ⊥) → f ≡ faultOf n es (Recv a b)
-  unfolding faultOf
-  recv-1 f e h = e ∙ pick (leb n a) (leb n b) (eqb a b) (λ q. h (e ∙ q))
-    where
-      pick : (x y z : Bool) → (orElse x 3 (orElse y 3 (orElse z 4 0)) ≡ 0 → ⊥)
-          → orElse x 3 (orElse y 3 (orElse z 4 0)) ≡ orElse x 3 (orElse y 3 (orElse z 4 (orElse (leb (sends b a es) (recvs b a es)) 5 0)))
-      pick true y z k = refl
-      pick false true z k = refl
-      pick false false true k = refl
-      pick false false false k = absurd (k refl)
-
-  module _ (counts : List ℕ) (t : Tally counts es) (small : n ≤ 64) (f : faultOf n es (Send a b 0) ≡ 0) where
-    pub recv-2 : getD counts (64 * b + a) 0 ≡ 0 → 5 ≡ faultOf n es (Recv a b)
-    unfolding faultOf
-    recv-2 z =
-        let p = send-fit 0 f in
-        let q : sends b a es ≤ recvs b a es = omega (arith, t .transit b a (omega arith) (omega arith)) in
-        rw (lt-leb n a (p .0), lt-leb n b (p .1), ne-eqb a b (p .2), le-leb (sends b a es) (recvs b a es) q)
-
-    pub recv-3 : (getD counts (64 * b + a) 0 ≡ 0 → ⊥) → 0 ≡ faultOf n es (Recv a b)
-    unfolding faultOf
-    recv-3 z =
-        let p = send-fit 0 f in
-        let q : recvs b a es < sends b a es = omega (arith, t .transit b a (omega arith) (omega arith)) in
-        rw (lt-leb n a (p .0), lt-leb n b (p .1), ne-eqb a b (p .2), lt-leb (sends b a es) (recvs b a es) q)
-
 module _ (n : ℕ) (es : List Event) (a : ℕ) where
   pub save-fit : faultOf n es (Save a) ≡ 0 → (a < n) × (saves a es < 30)
   unfolding faultOf
@@ -90,16 +46,80 @@ module _ (n : ℕ) (es : List Event) (a : ℕ) where
       let y = or-zero (leb 30 (saves a es)) 6 0 (omega arith) (x .1) in
       (leb-false n a (x .0), leb-false 30 (saves a es) (y .0))
 
-  -- each way out of `save_fault`
-  pub save-1 : n ≤ a → 3 ≡ faultOf n es (Save a)
-  unfolding faultOf
+-- ---- The ways out of the functions that judge an event by counters
+
+module _ (n : ℕ) (counts : List ℕ) (a b : ℕ) where
+  -- `pair_fault`
+  module _ (v : ℕ) where
+    pub pair-1 : n ≤ a → 3 ≡ faultBy n counts (Send a b v)
+    unfolding faultBy
+    pair-1 h = rw (le-leb n a h)
+
+    pub pair-2 : a < n → n ≤ b → 3 ≡ faultBy n counts (Send a b v)
+    unfolding faultBy
+    pair-2 l h = rw (lt-leb n a l, le-leb n b h)
+
+    pub pair-3 : a < n → b < n → a ≡ b → 4 ≡ faultBy n counts (Send a b v)
+    unfolding faultBy
+    pair-3 l m h = rw (lt-leb n a l, lt-leb n b m, eq-eqb a b h)
+
+    pub pair-4 : a < n → b < n → (a ≡ b → ⊥) → 0 ≡ faultBy n counts (Send a b v)
+    unfolding faultBy
+    pair-4 l m h = rw (lt-leb n a l, lt-leb n b m, ne-eqb a b h)
+
+  -- `recv_fault`: f is what is wrong with the pair
+  pub recv-1 : (f : ℕ) → f ≡ faultBy n counts (Send a b 0) → (f ≡ 0 → ⊥) → f ≡ faultBy n counts (Recv a b)
+  unfolding faultBy
+  recv-1 f e h = e ∙ pick (leb n a) (leb n b) (eqb a b) (λ q. h (e ∙ q))
+    where
+      pick : (x y z : Bool) → (orElse x 3 (orElse y 3 (orElse z 4 0)) ≡ 0 → ⊥)
+          → orElse x 3 (orElse y 3 (orElse z 4 0)) ≡ orElse x 3 (orElse y 3 (orElse z 4 (orElse (eqb (getD counts (64 * b + a) 0) 0) 5 0)))
+      pick true y z k = refl
+      pick false true z k = refl
+      pick false false true k = refl
+      pick false false false k = absurd (k refl)
+
+  pub pair-fit : faultBy n counts (Send a b 0) ≡ 0 → (a < n) × (b < n) × (a ≡ b → ⊥)
+  pair-fit f = send-fit n [] a b 0 (f-same ∙ f)
+    where
+      f-same : faultOf n [] (Send a b 0) ≡ faultBy n counts (Send a b 0)
+      f-same = unfold faultOf in unfold faultBy in refl
+
+  module _ (f : faultBy n counts (Send a b 0) ≡ 0) where
+    pub recv-2 : getD counts (64 * b + a) 0 ≡ 0 → 5 ≡ faultBy n counts (Recv a b)
+    unfolding faultBy
+    recv-2 z = let p = pair-fit f in rw (lt-leb n a (p .0), lt-leb n b (p .1), ne-eqb a b (p .2), eq-eqb (getD counts (64 * b + a) 0) 0 z)
+
+    pub recv-3 : (getD counts (64 * b + a) 0 ≡ 0 → ⊥) → 0 ≡ faultBy n counts (Recv a b)
+    unfolding faultBy
+    recv-3 z = let p = pair-fit f in rw (lt-leb n a (p .0), lt-leb n b (p .1), ne-eqb a b (p .2), ne-eqb (getD counts (64 * b + a) 0) 0 z)
+
+-- `save_fault`
+module _ (n : ℕ) (counts : List ℕ) (a : ℕ) where
+  pub save-1 : n ≤ a → 3 ≡ faultBy n counts (Save a)
+  unfolding faultBy
   save-1 h = rw (le-leb n a h)
 
-  module _ (counts : List ℕ) (t : Tally counts es) (small : n ≤ 64) (l : a < n) where
-    pub save-2 : 30 ≤ getD counts (4096 + a) 0 → 6 ≡ faultOf n es (Save a)
-    unfolding faultOf
-    save-2 h = rw (lt-leb n a l, le-leb 30 (saves a es) (rw (t .saved a (omega arith)) at h))
+  pub save-2 : a < n → 30 ≤ getD counts (4096 + a) 0 → 6 ≡ faultBy n counts (Save a)
+  unfolding faultBy
+  save-2 l h = rw (lt-leb n a l, le-leb 30 (getD counts (4096 + a) 0) h)
 
-    pub save-3 : getD counts (4096 + a) 0 < 30 → 0 ≡ faultOf n es (Save a)
-    unfolding faultOf
-    save-3 h = rw (lt-leb n a l, lt-leb 30 (saves a es) (rw (t .saved a (omega arith)) at h))
+  pub save-3 : a < n → getD counts (4096 + a) 0 < 30 → 0 ≡ faultBy n counts (Save a)
+  unfolding faultBy
+  save-3 l h = rw (lt-leb n a l, lt-leb 30 (getD counts (4096 + a) 0) h)
+
+-- ---- What the counters say is what the events that were counted say
+
+module _ (n : ℕ) (small : n ≤ 64) (counts : List ℕ) (es : List Event) (t : Tally counts es) where
+  pub fault-counted : (e : Event) → faultBy n counts e ≡ faultOf n es e
+  unfolding faultBy faultOf
+  fault-counted (Send a b v) = refl
+  fault-counted (Recv a b) = by-lt a n
+      (λ l. by-lt b n
+      (λ m. let q = t .transit b a (omega arith) (omega arith) in
+      by-eq (getD counts (64 * b + a) 0) 0
+      (λ z. rw (eq-eqb (getD counts (64 * b + a) 0) 0 z, le-leb (sends b a es) (recvs b a es) (omega (arith, q, z))))
+      (λ z. rw (ne-eqb (getD counts (64 * b + a) 0) 0 z, lt-leb (sends b a es) (recvs b a es) (omega (arith, q, z)))))
+      (λ m. rw (le-leb n b m)))
+      (λ l. rw (le-leb n a l))
+  fault-counted (Save a) = by-lt a n (λ l. rw (t .saved a (omega arith))) (λ l. rw (le-leb n a l))

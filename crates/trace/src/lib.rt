@@ -5,8 +5,7 @@ ghost use mathlib.Core.List.{List};
 ghost use Prim.Native.Nat.{ℕ, _+_, _-_, _*_, _≤_, _<_};
 ghost use lib.ListN.{length, getD, set};
 ghost use Rattle.trace.specs.declared.Event.the-variants.{Send, Recv, Save};
-ghost use Rattle.trace.specs.Fit.{faultOf};
-ghost use Rattle.trace.specs.Tally.{Tally, tallied, Next};
+ghost use Rattle.trace.specs.Tally.{faultBy, tallied, Next};
 ghost use mathlib.Core.Path.{_≡_};
 ghost use Rattle.trace.specs.Table.{wordOf, valueWord};
 
@@ -59,7 +58,7 @@ fn channel(from: u64, to: u64) -> usize
 
 // What is wrong with a message between two processes: 3 where one is none, 4 where they are one.
 fn pair_fault(procs: u64, at: u64, peer: u64) -> u32
-    ensures { λ r. ⌜ ((es : List Event) (val : ℕ) → r ≡ faultOf procs es (Send at peer val)) ⌝ }
+    ensures { λ r. ⌜ ((counts : List ℕ) (val : ℕ) → r ≡ faultBy procs counts (Send at peer val)) ⌝ }
 {
     if at >= procs {
         return 3;
@@ -76,7 +75,7 @@ fn pair_fault(procs: u64, at: u64, peer: u64) -> u32
 // What is wrong with a receive: 5 where nothing is in transit.
 fn recv_fault(counts: &[u32], procs: u64, at: u64, from: u64) -> u32
     requires { ⌜ (procs ≤ 64) × (length (now counts) ≡ 4160) ⌝ }
-    ensures { λ r. ⌜ ((es : List Event) → Tally (now (counts .entry)) es → r ≡ faultOf procs es (Recv at from)) ⌝ }
+    ensures { λ r. ⌜ r ≡ faultBy procs (now (counts .entry)) (Recv at from) ⌝ }
 {
     let f = pair_fault(procs, at, from);
     if f != 0 {
@@ -91,7 +90,7 @@ fn recv_fault(counts: &[u32], procs: u64, at: u64, from: u64) -> u32
 // What is wrong with a checkpoint: 6 where it is the process's 31st.
 fn save_fault(counts: &[u32], procs: u64, at: u64) -> u32
     requires { ⌜ (procs ≤ 64) × (length (now counts) ≡ 4160) ⌝ }
-    ensures { λ r. ⌜ ((es : List Event) → Tally (now (counts .entry)) es → r ≡ faultOf procs es (Save at)) ⌝ }
+    ensures { λ r. ⌜ r ≡ faultBy procs (now (counts .entry)) (Save at) ⌝ }
 {
     if at >= procs {
         return 3;
@@ -102,10 +101,10 @@ fn save_fault(counts: &[u32], procs: u64, at: u64) -> u32
     0
 }
 
-// What is wrong with an event after those that were counted: 3, 4, 5 or 6, or 0.
+// What is wrong with an event after those that were counted: 3, 4, 5 or 6, or 0 (proofs/Faults: `fault-counted`).
 pub fn fault(counts: &[u32], procs: u64, e: Event) -> u32
     requires { ⌜ (procs ≤ 64) × (length (now counts) ≡ 4160) ⌝ }
-    ensures { λ r. ⌜ ((es : List Event) → Tally (now (counts .entry)) es → r ≡ faultOf procs es e) ⌝ }
+    ensures { λ r. ⌜ r ≡ faultBy procs (now (counts .entry)) e ⌝ }
 {
     match e {
         Event::Send { at, to, val: _ } => pair_fault(procs, at, to),

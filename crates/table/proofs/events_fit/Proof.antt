@@ -10,6 +10,7 @@ use Rattle.table.specs.Tested.{fitFrom}
 use Rattle.trace.specs.declared.Event.{Event}
 use Rattle.trace.specs.Fit.{faultOf}
 use Rattle.trace.specs.Tally.{Tally}
+use Rattle.trace.proofs.Faults.{fault-counted}
 use Rattle.trace.proofs.Counting.{next-tally, none-tally}
 use borrow.Author.Needs.{needs}
 use Rattle.table.proofs.events_fit.Statement.{statement}
@@ -63,9 +64,11 @@ returns-3 c =
     let value = c .before .before .before .before .value in
     let if2 = c .before .before .before .if2 in
     let fault = c .before .fault in
+    let args = c .before .before .before .before .before .before .before .before .before .before .before .before .before .args in
+    let pre = c .before .before .before .before .before .before .before .before .before .before .before .before .before .pre in
     let loop = c .before .before .before .before .before .before .before .before .before .before .before .loop in
     let if3 = c .if3 in
-    sym (events-fault _ _ _ _ _ _ (loop-test .taken) (event .ensures) (omega (arith, (word .ensures), (if1 .left))) (omega (arith, (value .ensures), (if2 .left))) (λ q. omega (arith, (fault .ensures) (loop .inv .0) (loop .inv .3), (if3 .taken)))) ∙ (loop .inv .4)
+    sym (events-fault _ _ _ _ _ _ (loop-test .taken) (event .ensures) (omega (arith, (word .ensures), (if1 .left))) (omega (arith, (value .ensures), (if2 .left))) (λ q. omega (arith, (fault .ensures) ∙ fault-counted (args .procs) (pre .0) _ (loop .inv .0) (loop .inv .3) _, (if3 .taken)))) ∙ (loop .inv .4)
 
 slice-aggregate-tally : tie.Need-slice-aggregate-tally Inv-loop μ-loop
 slice-aggregate-tally c =
@@ -74,11 +77,11 @@ slice-aggregate-tally c =
 
 tally-requires : tie.Need-tally-requires Inv-loop μ-loop
 tally-requires c κs =
-    let args = c .before .before .before .before .before .before .before .before .before .before .before .before .before .before .args in
-    let loop = c .before .before .before .before .before .before .before .before .before .before .before .before .loop in
     let pre = c .before .before .before .before .before .before .before .before .before .before .before .before .before .before .pre in
+    let loop = c .before .before .before .before .before .before .before .before .before .before .before .before .loop in
     let loop-test = c .before .before .before .before .before .before .before .before .before .before .before .loop-test in
     let fault = c .before .before .fault in
+    let args = c .before .before .before .before .before .before .before .before .before .before .before .before .before .before .args in
     let if3 = c .before .if3 in
     record {
       procs = args .procs;
@@ -86,24 +89,24 @@ tally-requires c κs =
       procs-most = pre .0;
       events-few = omega (arith, pre, (loop .inv .1), (loop-test .taken));
       tally = loop .inv .3;
-      fit = omega (arith, (fault .ensures) (loop .inv .0) (loop .inv .3), (if3 .left));
+      fit = omega (arith, (fault .ensures) ∙ fault-counted (args .procs) (pre .0) _ (loop .inv .0) (loop .inv .3) _, (if3 .left));
     }
 
 loop-again : tie.Need-loop-again Inv-loop μ-loop
 loop-again c =
-    let fault = c .before .before .before .before .fault in
-    let loop = c .before .before .before .before .before .before .before .before .before .before .before .before .before .before .loop in
-    let if3 = c .before .before .before .if3 in
-    let event = c .before .before .before .before .before .before .before .before .before .before .event in
-    let tally = c .before .tally in
     let args = c .before .before .before .before .before .before .before .before .before .before .before .before .before .before .before .before .args in
+    let loop = c .before .before .before .before .before .before .before .before .before .before .before .before .before .before .loop in
+    let event = c .before .before .before .before .before .before .before .before .before .before .event in
+    let fault = c .before .before .before .before .fault in
     let pre = c .before .before .before .before .before .before .before .before .before .before .before .before .before .before .before .before .pre in
+    let if3 = c .before .before .before .if3 in
+    let tally = c .before .tally in
     let loop-test = c .before .before .before .before .before .before .before .before .before .before .before .before .before .loop-test in
     let word = c .before .before .before .before .before .before .before .before .before .word in
     let if1 = c .before .before .before .before .before .before .before .before .if1 in
     let value = c .before .before .before .before .before .before .before .value in
     let if2 = c .before .before .before .before .before .before .if2 in
-    let f : faultOf (args .procs) (loop .inv .0) (event .result) ≡ 0 = omega (arith, (fault .ensures) (loop .inv .0) (loop .inv .3), (if3 .left)) in (
+    let f : faultOf (args .procs) (loop .inv .0) (event .result) ≡ 0 = omega (arith, (fault .ensures) ∙ fault-counted (args .procs) (pre .0) _ (loop .inv .0) (loop .inv .3) _, (if3 .left)) in (
       (loop .inv .0) ++ (event .result) ∷ [],
       rw (length-append, (loop .inv .1)),
       omega arith,

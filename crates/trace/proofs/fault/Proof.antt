@@ -7,19 +7,19 @@ returns : tie.Need-returns
 returns c =
     let e = c .before .before .e in
     let pair-fault = c .pair-fault in
-    λ es t. rw (e .given .1) ((pair-fault .ensures) es _)
+    rw (e .given .1) ((pair-fault .ensures) _ _)
 
 returns-2 : tie.Need-returns-2
 returns-2 c =
     let e2 = c .before .before .e2 in
     let recv-fault = c .recv-fault in
-    λ es t. rw (e2 .given .1) ((recv-fault .ensures) es t)
+    rw (e2 .given .1) (recv-fault .ensures)
 
 returns-3 : tie.Need-returns-3
 returns-3 c =
     let e3 = c .before .before .e3 in
     let save-fault = c .save-fault in
-    λ es t. rw (e3 .given .1) ((save-fault .ensures) es t)
+    rw (e3 .given .1) (save-fault .ensures)
 
 pub fault-spec : {M : Type 1} → statement M
 fault-spec =

@@ -1,7 +1,7 @@
 -- `trace::recv_fault` meets its contract, one law for each way out.
 use mathlib.Core.Path.{sym, _∙_}
 use mathlib.Core.List.{[]}
-use Rattle.trace.proofs.Faults.{send-fit, recv-1, recv-2, recv-3}
+use Rattle.trace.proofs.Faults.{pair-fit, recv-1, recv-2, recv-3}
 use native.Mathlib.Omega.{arith}
 use borrow.Author.Needs.{needs}
 use Rattle.trace.proofs.recv_fault.Statement.{statement}
@@ -11,13 +11,13 @@ returns : tie.Need-returns
 returns c =
     let pair-fault = c .before .pair-fault in
     let if1 = c .if1 in
-    λ es t. recv-1 _ es _ _ _ ((pair-fault .ensures) es 0) (if1 .taken)
+    recv-1 _ _ _ _ _ ((pair-fault .ensures) _ 0) (if1 .taken)
 
 channel-requires : tie.Need-channel-requires
 channel-requires c κs =
     let pair-fault = c .before .pair-fault in
     let if1 = c .if1 in
-    let s = send-fit _ [] _ _ 0 (sym ((pair-fault .ensures) [] 0) ∙ (if1 .left)) in (omega (arith, s .1), omega (arith, s .0))
+    let s = pair-fit _ [] _ _ (sym ((pair-fault .ensures) [] 0) ∙ (if1 .left)) in (omega (arith, s .1), omega (arith, s .0))
 
 returns-2 : tie.Need-returns-2
 returns-2 c =
@@ -25,7 +25,7 @@ returns-2 c =
     let if1 = c .before .before .before .if1 in
     let channel = c .before .before .channel in
     let if2 = c .if2 in
-    λ es t. recv-2 _ es _ _ _ t (omega arith) (sym ((pair-fault .ensures) es 0) ∙ (if1 .left)) (rw (channel .ensures .0) at (if2 .taken))
+    recv-2 _ _ _ _ (sym ((pair-fault .ensures) _ 0) ∙ (if1 .left)) (rw (channel .ensures .0) at (if2 .taken))
 
 returns-3 : tie.Need-returns-3
 returns-3 c =
@@ -33,7 +33,7 @@ returns-3 c =
     let if1 = c .before .before .before .if1 in
     let channel = c .before .before .channel in
     let if2 = c .if2 in
-    λ es t. recv-3 _ es _ _ _ t (omega arith) (sym ((pair-fault .ensures) es 0) ∙ (if1 .left)) (rw (channel .ensures .0) at (if2 .left))
+    recv-3 _ _ _ _ (sym ((pair-fault .ensures) _ 0) ∙ (if1 .left)) (rw (channel .ensures .0) at (if2 .left))
 
 pub recv-fault-spec : {M : Type 1} → statement M
 recv-fault-spec =

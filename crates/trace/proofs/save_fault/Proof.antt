@@ -8,19 +8,19 @@ use Rattle.trace.proofs.save_fault.Tie as tie
 returns : tie.Need-returns
 returns c =
     let if1 = c .if1 in
-    λ es t. save-1 _ es _ (if1 .taken)
+    save-1 _ _ _ (if1 .taken)
 
 returns-2 : tie.Need-returns-2
 returns-2 c =
     let if1 = c .before .before .if1 in
     let if2 = c .if2 in
-    λ es t. save-2 _ es _ _ t (omega arith) (if1 .left) (if2 .taken)
+    save-2 _ _ _ (if1 .left) (if2 .taken)
 
 returns-3 : tie.Need-returns-3
 returns-3 c =
     let if1 = c .before .before .if1 in
     let if2 = c .if2 in
-    λ es t. save-3 _ es _ _ t (omega arith) (if1 .left) (if2 .left)
+    save-3 _ _ _ (if1 .left) (if2 .left)
 
 pub save-fault-spec : {M : Type 1} → statement M
 save-fault-spec =
