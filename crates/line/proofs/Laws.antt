@@ -109,9 +109,6 @@ module _ (f : ℕ → ℕ) (l : List ℕ) (i v : ℕ) (h : i < length l) (e : v 
       (λ x. rw x (getD-set-same l i v 0 h ∙ e))
       (λ n. getD-set-other l i k v 0 n ∙ below k (omega arith))
 
-  pub rule-rest : (d : List ℕ) → ((k : ℕ) → i ≤ k → getD l k 0 ≡ getD d k 0) → (k : ℕ) → i + 1 ≤ k → getD (set l i v) k 0 ≡ getD d k 0
-  rule-rest d rest k q = getD-set-other l i k v 0 (λ x. omega arith) ∙ rest k (omega arith)
-
 -- ---- `first_number`
 
 pub is-failed : (set z epoch : ℕ) → set / 2 ^ z % 2 ≡ 1 → epoch ≡ pick (inSet set z) epoch 32

@@ -10,7 +10,6 @@ ghost use Rattle.reader.specs.Line.{lineOf, procsOf, sendOf, recvOf, sav
 ghost use Rattle.reader.specs.Answer.{answerOf, ruleOf, readAnswer, readArea};
 ghost use Rattle.reader.specs.Failure.{failureOf, traceOf, failureAnswerOf, failureAnswer, failureArea};
 ghost use Rattle.words.specs.Area.{areaWords, wordsFrom};
-ghost use Rattle.trace.specs.Trace.{Trace};
 ghost use Rattle.trace.specs.Tally.{Tally};
 ghost use Rattle.trace.specs.declared.Event.{Event};
 ghost use Rattle.reader.specs.Verdict.{faultHere, judgeEvent, judge, linesFrom, pieces, scan, verdict};

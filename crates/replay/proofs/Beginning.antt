@@ -47,9 +47,6 @@ module _ (t : Trace) (line : ℕ → ℕ) (cut : ℕ) (full gates : List ℕ) (H
   abbrev R : Run
   R = recorded t past cut line
 
-  full-long : length full ≡ areaWords
-  full-long = H .columns .whole
-
   count : getD full 1 0 ≡ size t
   count = count-is t (H .formed) full (H .columns)
 

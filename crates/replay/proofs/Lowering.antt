@@ -1,22 +1,21 @@
--- The lowest allowed choice by words is the theory's, and the order of lowest choices is carried out step for step: one law for each way out of the
--- functions that do it, for every run that the words stand for.
+-- The lowest allowed choice by words is the theory's, where none before it is allowed, and the order of lowest choices is carried out step for step,
+-- for every run that the words stand for.
 use mathlib.Core.Path.{_≡_, refl, sym, _∙_, ap}
 use mathlib.Core.Bool.{true, false}
 use mathlib.Core.List.{List, [], _∷_}
-use mathlib.Core.Option.{Option, none, some, bind, Option·some-injective, Option·none-ne-some}
+use mathlib.Core.Option.{Option, none, some, Option·some-injective, Option·none-ne-some}
 use Prim.Native.Nat.{ℕ, zero, suc, _+_, _-_, _≤_, _<_}
 use native.Mathlib.Omega.{arith}
 use lib.ListN.{length, getD}
-use borrow.Author.Tests.{le-ltb}
 use Rattle.words.specs.Area.{areaWords}
 use Rattle.theory.specs.Events.{size}
 use Rattle.theory.specs.Line.{Run}
 use Rattle.theory.specs.Replay.{State, start}
-use Rattle.theory.specs.Order.{choiceOf, carriedOut, choose, carry, run, lowest, lowestFrom, lowestOrder}
+use Rattle.theory.specs.Order.{carriedOut, choose, carry, run, lowest, lowestFrom, lowestOrder}
 use Rattle.theory.proofs.Flow.{Inv}
 use Rattle.theory.proofs.Base.{on, le?, clash}
 use Rattle.theory.proofs.Loss.{inv-start}
-use Rattle.theory.proofs.Orders.{complete-iff}
+use Rattle.theory.proofs.Orders.{none-high, choose-none, complete-iff}
 use Rattle.theory.proofs.Lowest.{lowest-none, lowest-some, lowest-iff, lowest-order}
 use Rattle.simulation.specs.Words.{currentBase, allowedW, applyW, Bounded}
 use Rattle.simulation.specs.Related.{Rel, Started}
@@ -51,13 +50,9 @@ module _ (R : Run) (t l g a₀ : List ℕ) (S : Started R t l g a₀) where
         go none e (refuses y) = clash h y
         go (some u) e (allows v y r′ j) = (u, (r′, j, e))
 
-    beyond : (c : ℕ) → noChoice ≤ c → choose R s c ≡ none
-    unfolding choose choiceOf bind
-    beyond c k = rw (le-ltb c 64 (omega arith), le-ltb c 4160 k)
-
     pub none-lowest : NoneBefore t g a noChoice → lowest R s ≡ none
     unfolding NoneBefore
-    none-lowest h = lowest-iff R (S .laws) s i .1 (λ c. on (le? noChoice c) (λ k. beyond c k) (λ k. not-allowed c (h c k)))
+    none-lowest h = lowest-iff R (S .laws) s i .1 (λ c. on (le? noChoice c) (λ k. choose-none R s c (none-high c k)) (λ k. not-allowed c (h c k)))
 
     pub some-lowest : (c : ℕ) → NoneBefore t g a c → allowedW t g a c ≡ true
         → (u : State) × (lowest R s ≡ some (c, u)) × Rel R (applyW t l a c) u × Inv R u × (choose R s c ≡ some u)

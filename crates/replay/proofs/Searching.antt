@@ -4,7 +4,6 @@ use mathlib.Core.Path.{_≡_, refl, sym, _∙_, ap}
 use mathlib.Core.Logic.{_≢_}
 use mathlib.Core.Bool.{true, false}
 use mathlib.Core.List.{List, [], _∷_}
-use mathlib.Core.Option.{some}
 use Prim.Native.Nat.{ℕ, _+_, _-_, _*_, _/_, _%_, _^_, _≤_, _<_}
 use native.Mathlib.Omega.{arith}
 use lib.ListN.{length, getD, set}
@@ -12,17 +11,16 @@ use lib.Seq.{getD-set-same, getD-set-other}
 use lib.Dec.{ltb, eqb}
 use borrow.Author.Tests.{lt-ltb, le-ltb, eq-eqb, ne-eqb}
 use Rattle.words.proofs.Cases.{by-bool, by-lt, by-eq, clash}
-use Rattle.theory.specs.Lists.{pick}
 use Rattle.theory.specs.Line.{Run, inSet}
 use Rattle.theory.specs.Replay.{process, State}
-use Rattle.theory.specs.Order.{choiceOf}
 use Rattle.theory.proofs.Flow.{Inv, Did, did-other, did-send, did-recv, view}
-use Rattle.theory.proofs.Orders.{choose-of}
-use Rattle.simulation.specs.Words.{takenBase, currentBase, orphanBase, takeBase, putBase, lowPlace, noPhase, kindW, peerW, valueW, numberW, phaseW, curW, orpW, takeW, putW, lowW, sendOk, eventOk, processOk, handOk, allowedW, lowOf, movedW, dropW, putInW, takeOutW, eventW, processW, applyW, Bounded}
+use Rattle.theory.proofs.Orders.{choice-process, choose-of}
+use Rattle.simulation.specs.Words.{takenBase, currentBase, orphanBase, takeBase, putBase, lowPlace, noPhase, kindW, peerW, valueW, numberW, phaseW, curW, orpW, takeW, putW, lowW, sendOk, eventOk, processOk, handOk, allowedW, lowOf, lesser, movedW, dropW, putInW, takeOutW, eventW, processW, applyW, Bounded}
 use Rattle.simulation.specs.Related.{head0, Rel, Started}
 use Rattle.simulation.proofs.Facts.{left-none, left-some}
 use Rattle.simulation.proofs.Moves.{at-next}
-use Rattle.replay.specs.Lowest.{everyone, firstIn, restOf, withIn, keptPhase, Idle, Shut, Under, NoneBefore, unlessLower, Lowered}
+use Rattle.replay.specs.Lowest.{everyone, firstIn, restOf, withIn, keptPhase, Idle, Shut, Under, NoneBefore, unlessNew, Lowered}
+use Rattle.replay.proofs.Steps.{allowed-process, allowed-hand, apply-process, apply-hand}
 use Rattle.replay.proofs.Sets.{none-in, everyone-in, lower-out, first-lt, first-in, rest-out, with-out, with-lt}
 use Rattle.replay.proofs.Lowering.{Next, is-allowed, Going, going-start, going-bound, going-end, going-next}
 
@@ -123,7 +121,7 @@ module _ (t g a : List ℕ) where
     pub waits-none : Waits noPhase 0
     waits-none = (omega arith, (λ r h. absurd (omega arith)), λ r h. absurd (omega arith))
 
-    pub waits-next : (least q f m : ℕ) → Waits least q → f ≡ keptPhase t g a p (64 * p + q) → lowW a ≤ f → m ≡ pick (ltb f least) f least → Waits m (q + 1)
+    pub waits-next : (least q f m : ℕ) → Waits least q → f ≡ keptPhase t g a p (64 * p + q) → lowW a ≤ f → m ≡ lesser f least → Waits m (q + 1)
     waits-next least q f m w e h em = (
       omega (arith, w .0, less .0),
       (λ r k. by-eq r q (λ x. rw x (omega (arith, e, less .1))) (λ x. omega (arith, w .1 r (omega arith), less .0))),
@@ -197,12 +195,10 @@ module _ (t l g a : List ℕ) where
   run-none m k h d j = let v : d < 64 = omega arith in rw (lt-ltb d 64 v) (h d v (lower-out m d j))
 
   pub run-allowed : (z : ℕ) → z < 64 → processOk t g a z ≡ true → allowedW t g a z ≡ true
-  unfolding allowedW
-  run-allowed z v h = rw (lt-ltb z 64 v) h
+  run-allowed z v h = sym (allowed-process t g a z v true (sym h))
 
   pub run-applied : (z : ℕ) → z < 64 → applyW t l a z ≡ processW t l a z
-  unfolding applyW
-  run-applied z v = rw (lt-ltb z 64 v)
+  run-applied z v = sym (apply-process t l a (processW t l a z) z v refl)
 
   pub hand-none : (c : ℕ) → c ≤ 4096 → Idle t g a 0 → Shut t g a c → NoneBefore t g a (64 + c)
   unfolding Idle Shut NoneBefore allowedW
@@ -211,20 +207,14 @@ module _ (t l g a : List ℕ) where
       (λ v. let w : d < 4160 = omega arith in rw (le-ltb d 64 v, lt-ltb d 4160 w) (s (d - 64) (omega arith)))
 
   pub hand-allowed : (c : ℕ) → c < 4096 → handOk t g a (c / 64) c ≡ true → allowedW t g a (64 + c) ≡ true
-  unfolding allowedW
   hand-allowed c k h =
       let e : 64 + c - 64 ≡ c = omega arith in
-      rw (le-ltb (64 + c) 64 (omega arith), lt-ltb (64 + c) 4160 (omega arith), e) h
+      sym (allowed-hand t g a (64 + c) (omega arith) (omega arith) true (rw e (sym h)))
 
   pub hand-applied : (c : ℕ) → applyW t l a (64 + c) ≡ putInW l a c
-  unfolding applyW
-  hand-applied c = let e : 64 + c - 64 ≡ c = omega arith in rw (le-ltb (64 + c) 64 (omega arith), e)
+  hand-applied c = let e : 64 + c - 64 ≡ c = omega arith in sym (apply-hand t l a (putInW l a c) (64 + c) (omega arith) (rw e))
 
 -- ---- No kept message becomes ready by a process step: the channel of a send has none left
-
-is-process : (z : ℕ) → z < 64 → choiceOf z ≡ some (process z)
-unfolding choiceOf
-is-process z h = rw (lt-ltb z 64 h)
 
 module _ (R : Run) (t l g a₀ : List ℕ) (S : Started R t l g a₀) where
   left-same : (s u : State) (z p q : ℕ) → Did R s (process z) u → u .left p q ≡ s .left p q
@@ -290,7 +280,7 @@ module _ (R : Run) (t l g a₀ : List ℕ) (S : Started R t l g a₀) where
 
 -- ---- The loop over the lowest choices
 
-pub all-idle : (t g a : List ℕ) → Idle t g a 18446744073709551615
+pub all-idle : (t g a : List ℕ) → Idle t g a everyone
 unfolding Idle
 all-idle t g a z hz o = clash (everyone-in z hz) o
 
@@ -334,7 +324,7 @@ module _ (R : Run) (t l g a₀ : List ℕ) (S : Started R t l g a₀) (most : �
             w .0,
             rw (run-applied t l g a z z-lt) at (w .1 .0),
             w .1 .1,
-            view R (v .0) (w .0) (process z) (sym (choose-of R (v .0) z (process z) (is-process z z-lt)) ∙ w .1 .2),
+            view R (v .0) (w .0) (process z) (sym (choose-of R (v .0) z (process z) (choice-process z z-lt)) ∙ w .1 .2),
           )
 
       pub run-shut-still : lowW b ≡ lowW a → (n : ℕ) → n ≤ 4096 → Shut t g a n → Shut t g b n
@@ -391,10 +381,10 @@ module _ (t l g a₀ : List ℕ) (most : ℕ) where
 
     -- the next event of the first process of m done
     module _ (m f : ℕ) (p : 0 < m) (lm : m < 2 ^ 64) (lf : f ≤ 64) (h : Idle t g a m) (k : Shut t g a (64 * f)) (ok : processOk t g a (firstIn m) ≡ true)
-        (may from : ℕ) (eb : b ≡ processW t l a (firstIn m)) (em : may ≡ unlessLower a b (withIn m (peerW t (curW a (firstIn m)))) everyone)
-        (ef : from ≡ pick (eqb (lowW b) (lowW a)) f 0) (d ms : List ℕ) (ed : d ≡ b) (el : ms ≡ ls) where
+        (may from : ℕ) (eb : b ≡ processW t l a (firstIn m)) (em : may ≡ unlessNew (lowW a) (lowW b) (withIn m (peerW t (curW a (firstIn m)))) everyone)
+        (ef : from ≡ unlessNew (lowW a) (lowW b) f 0) (d ms : List ℕ) (ed : d ≡ b) (el : ms ≡ ls) where
       pub looking-run : Looking d ms may from (i + 1)
-      unfolding unlessLower
+      unfolding unlessNew
       looking-run =
           let w = run-under-still R t l g a₀ S most a i (v R S) lt b m p lm h ok eb ls u in
           let go : (R : Run) (S : Started R t l g a₀) → Going R t l g a₀ S most b (i + 1) = λ R S. run-going R t l g a₀ S most a i (v R S) lt b m p lm h ok eb in

@@ -11,7 +11,7 @@ use lib.Pow.{shr-shr, pow-pos, pow-lt}
 use borrow.Author.Tests.{eq-eqb, ne-eqb}
 use Rattle.words.proofs.Cases.{by-eq, clash}
 use Rattle.theory.specs.Line.{inSet}
-use Rattle.replay.specs.Lowest.{firstIn, restOf, withIn}
+use Rattle.replay.specs.Lowest.{everyone, firstIn, restOf, withIn}
 
 -- bit z of m
 abbrev bit : ℕ → ℕ → ℕ
@@ -101,8 +101,8 @@ bit-out m z h = ne-eqb (bit m z) 1 (λ e. omega arith)
 pub none-in : (z : ℕ) → inSet 0 z ≡ false
 none-in z = bit-out 0 z (rw (zero-div (2 ^ z)))
 
-pub everyone-in : (z : ℕ) → z < 64 → inSet 18446744073709551615 z ≡ true
-everyone-in z l = eq-eqb (bit 18446744073709551615 z) 1 (all-bits 64 z l)
+pub everyone-in : (z : ℕ) → z < 64 → inSet everyone z ≡ true
+everyone-in z l = eq-eqb (bit everyone z) 1 (all-bits 64 z l)
 
 pub lower-out : (m z : ℕ) → z < firstIn m → inSet m z ≡ false
 unfolding firstIn

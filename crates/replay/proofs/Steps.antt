@@ -1,6 +1,6 @@
 -- One law for each way out of the functions that test a choice or take it, over the values that the code has there.
 use mathlib.Core.Path.{_≡_, refl, sym, _∙_}
-use mathlib.Core.Bool.{Bool, true, false, _&&_, not}
+use mathlib.Core.Bool.{Bool, true, false, not, and-false}
 use mathlib.Core.List.{List}
 use Prim.Native.Nat.{ℕ, zero, suc, _+_, _-_, _*_, _/_, _≤_, _<_}
 use native.Mathlib.Omega.{arith}
@@ -114,10 +114,6 @@ module _ (t l a b : List ℕ) (c : ℕ) where
   unfolding applyW
   apply-hand h eb = rw (le-ltb c 64 h) eb
 
-and-false : (b : Bool) → false ≡ (b && false)
-and-false true = refl
-and-false false = refl
-
 module _ (t g a : List ℕ) (c : ℕ) (r : Bool) (er : r ≡ allowedW t g a c) where
   pub none-next : true ≡ noneFrom t g a c → r ≡ false → true ≡ noneFrom t g a (c + 1)
   unfolding noneFrom
@@ -125,7 +121,7 @@ module _ (t g a : List ℕ) (c : ℕ) (r : Bool) (er : r ≡ allowedW t g a c) w
 
   none-here : r ≡ true → false ≡ noneFrom t g a (suc c)
   unfolding noneFrom
-  none-here k = rw (← er, k) (and-false (noneFrom t g a c))
+  none-here k = rw (← er, k) (sym (and-false (noneFrom t g a c)))
 
   pub none-at : (m : ℕ) → c < m → r ≡ true → false ≡ noneFrom t g a m
   none-at m h k = let e : m ≡ suc c + (m - suc c) = omega arith in rw e (none-up (suc c) (m - suc c) (none-here k))

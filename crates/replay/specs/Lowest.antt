@@ -53,9 +53,9 @@ module _ (t g a : List ℕ) where
   unfoldable pub NoneBefore : ℕ → Type 0
   NoneBefore c = (d : ℕ) → d < c → allowedW t g a d ≡ false
 
--- one thing, unless the least phase of an orphan not sent again is another in area b than it was in a
-unfoldable pub unlessLower : List ℕ → List ℕ → ℕ → ℕ → ℕ
-unlessLower a b x y = pick (eqb (lowW b) (lowW a)) x y
+-- one thing where the least phase of an orphan not sent again is what it was, else another
+unfoldable pub unlessNew : ℕ → ℕ → ℕ → ℕ → ℕ
+unlessNew was is x y = pick (eqb is was) x y
 
 -- the order of the lowest choices, at most so many, is carried out in n steps, and the area stands for the state that it comes to
 abbrev pub Lowered : Run → List ℕ → ℕ → ℕ → Type 0

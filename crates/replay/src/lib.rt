@@ -1,14 +1,12 @@
 // The replay of an order of choices, in words: a test for each choice, that writes nothing, and a step for each choice, that tests
 // nothing. Every message is its send event, every queue the stretch between two pointers into events, so a choice costs the same
-// however long the run is. specs/Answer says what a replay answers and leaves, by the theory's machine. Assumes nothing.
+// however long the run is; the search for the lowest one goes on from where it ended (before EVERYONE). specs/Answer says what a replay answers and leaves, by the theory's machine. Assumes nothing.
 ghost use mathlib.Core.Path.{_≡_};
 ghost use mathlib.Core.Bool.{true, false};
 ghost use Prim.Native.Nat.{ℕ, _+_, _-_, _*_, _/_, _%_, _≤_, _<_};
 ghost use lib.ListN.{length, getD};
-ghost use lib.Dec.{eqb};
-ghost use Rattle.theory.specs.Lists.{pick};
 ghost use Rattle.words.specs.Area.{areaWords};
-ghost use Rattle.simulation.specs.Words.{takenBase, currentBase, orphanBase, takeBase, putBase, lowPlace, peerW, numberW, valueW, curW, sendOk, eventOk, processOk, handOk, allowedW, lesser, lowerW, lowOf, dropW, putInW, takeOutW, eventW, processW, applyW, Bounded, Small, noneFrom};
+ghost use Rattle.simulation.specs.Words.{takenBase, currentBase, orphanBase, takeBase, putBase, lowPlace, peerW, numberW, valueW, curW, lowW, sendOk, eventOk, processOk, handOk, allowedW, lesser, lowerW, lowOf, dropW, putInW, takeOutW, eventW, processW, applyW, Bounded, Small, noneFrom};
 ghost use Rattle.simulation.specs.Linking.{pairW, backW, mineW, orphanW, goesW, earlyW, chainA, linkL, linkA, linkedL, linkedA, beginA};
 ghost use Rattle.theory.specs.Events.{size};
 ghost use Rattle.theory.specs.Line.{Run, recorded};
@@ -19,7 +17,7 @@ ghost use Rattle.trace.specs.Trace.{Trace};
 ghost use Rattle.theory.specs.Epochs.{past};
 ghost use Rattle.replay.specs.Left.{Left};
 ghost use Rattle.replay.specs.Given.{Given};
-ghost use Rattle.replay.specs.Lowest.{everyone, firstIn, restOf, withIn, keptPhase, Idle, Shut, Under, unlessLower, Lowered};
+ghost use Rattle.replay.specs.Lowest.{everyone, firstIn, restOf, withIn, keptPhase, Idle, Shut, Under, unlessNew, Lowered};
 ghost use Rattle.replay.specs.Answer.{answerOf, wordsOf};
 use protocol::EPOCH_BASE;
 use protocol::MATCH_BASE;
@@ -631,7 +629,7 @@ fn runnable(full: &[u32], gates: &[u32], area: &[u32], set: u64) -> u64
 }
 
 // The first receiver to whom the oldest kept message of sender p may be handed over. Where there is none, PROCESSES, and the sender's phase
-// is the least of those that wait; where there is one, it is 0, since that message leaves its channel.
+// is not above those of its messages (the least of them, where they were looked at); where there is one, it is 0, since that message leaves.
 fn next_receiver(full: &[u32], gates: &[u32], area: &[u32], p: usize, phases: &mut [u32]) -> usize
     requires { ⌜ (p < 64) × (length (now phases) ≡ 64) × Readable (now full) (now gates) (now area) × Under (now full) (now gates) (now area) (now phases) ⌝ }
     ensures shut { λ r. ⌜ ((q : ℕ) → q < r → handOk (now (full .entry)) (now (gates .entry)) (now (area .entry)) p (64 * p + q) ≡ false) ⌝ }
@@ -686,7 +684,7 @@ fn peer_of_next(full: &[u32], area: &[u32], z: usize) -> usize
 
 // Which sender to look at first: where the last search ended, unless the least phase is another than it was.
 fn look_from(was: u32, is: u32, from: usize) -> usize
-    ensures { λ r. ⌜ r ≡ pick (eqb is was) from 0 ⌝ }
+    ensures { λ r. ⌜ r ≡ unlessNew was is from 0 ⌝ }
 {
     if is == was {
         return from;
@@ -708,7 +706,7 @@ fn hand_over(links: &[u32], area: &mut [u32], c: usize) -> u64
 fn run_first(full: &[u32], links: &[u32], area: &mut [u32], set: u64) -> u64
     requires { ⌜ (firstIn set < 64) × Movable (now full) (now links) (now area) ⌝ }
     ensures words { λ _. ⌜ now (area .exit) ≡ processW (now (full .entry)) (now (links .entry)) (now (area .entry)) (firstIn set) ⌝ }
-    ensures set { λ r. ⌜ r ≡ unlessLower (now (area .entry)) (now (area .exit)) (withIn set (peerW (now (full .entry)) (curW (now (area .entry)) (firstIn set)))) everyone ⌝ }
+    ensures set { λ r. ⌜ r ≡ unlessNew (lowW (now (area .entry))) (lowW (now (area .exit))) (withIn set (peerW (now (full .entry)) (curW (now (area .entry)) (firstIn set)))) everyone ⌝ }
 {
     let z = first(set);
     let low = area[LOW];

@@ -1,13 +1,13 @@
 -- The run of a trace with a failure and a line: its words are those of the full table. So the full table and its gates are a base of the run
 -- (`base`), and the tests of the pass mean what they should (`tested`). From the columns of the full table alone, by Matches.
 use mathlib.Core.Path.{_≡_, refl, sym, _∙_, ap}
-use mathlib.Core.Bool.{Bool, true, false, _&&_}
+use mathlib.Core.Bool.{true, false, _&&_, and-true, and-false}
 use mathlib.Core.List.{List, [], _∷_, _++_, map}
 use Prim.Native.Nat.{ℕ, zero, suc, _+_, _-_, _*_, _/_, _%_, _≤_, _<_}
 use native.Mathlib.Omega.{arith}
 use lib.ListN.{length, getD}
 use lib.Dec.{leb, ltb, eqb}
-use borrow.Author.Tests.{leb-true, eqb-true, eqb-false, lt-ltb, le-ltb, le-leb, eq-eqb, ne-eqb}
+use borrow.Author.Tests.{leb-true, eqb-true, eqb-false, lt-ltb, le-leb, eq-eqb, ne-eqb}
 use Rattle.trace.specs.declared.Event.{Event}
 use Rattle.trace.specs.declared.Event.the-variants.{Send, Recv, Save}
 use Rattle.trace.specs.Trace.{Trace, valueOf}
@@ -15,7 +15,7 @@ use Rattle.trace.specs.Fit.{faultOf, valueFits, allFit, wellFormed}
 use Rattle.trace.specs.Table.{eventBase, valueBase, wordOf, valueWord, tableWord}
 use Rattle.table.proofs.Places.{word-procs, word-count, word-event, word-value}
 use Rattle.theory.specs.Lists.{pick}
-use Rattle.theory.specs.Events.{Kind, send, recv, other, processOf, size, eventAt, at, kind, sends, recvs, sent, rcvd, sendOf, recvOf, value}
+use Rattle.theory.specs.Events.{send, recv, other, processOf, size, eventAt, at, kind, sends, recvs, sent, rcvd, sendOf, recvOf, value}
 use Rattle.theory.specs.Epochs.{past, epochAt}
 use Rattle.theory.specs.Line.{Run, recorded}
 use Rattle.theory.specs.Replay.{gate, start}
@@ -27,14 +27,11 @@ use Rattle.theory.proofs.Epochs.{logged-is, laws}
 use Rattle.protocol.specs.Columns.{Columns}
 use Rattle.protocol.proofs.Bounds.{phase-most}
 use Rattle.protocol.proofs.Passes.{well-few}
-use Rattle.simulation.specs.Words.{takenBase, noPhase, kindW, peerW, valueW, numberW, kindOf}
-use Rattle.simulation.specs.Related.{recordEnd, goes, drops, orph, numberAt, valueAt, Gated, Base}
-use Rattle.simulation.specs.Record.{receivedNumber, receivedValue, faultlessAt}
+use Rattle.simulation.specs.Words.{noPhase, kindW, peerW, valueW, numberW, kindOf}
+use Rattle.simulation.specs.Related.{goes, drops, orph, numberAt, valueAt, Gated, Base}
 use Rattle.simulation.specs.Linking.{atW, epochW, pairW, backW, doneW, mineW, orphanW, goesW, earlyW}
 use Rattle.simulation.specs.Linked.{mine}
-use Rattle.simulation.proofs.Linking.{and-true, and-false}
 use Rattle.simulation.proofs.Passes.{Tested}
-use Rattle.simulation.proofs.Records.{no-event}
 use Rattle.simulation.proofs.Matches.{upTo, goes-test, orphan-test, slot-start}
 
 -- ---- The words of an event
@@ -203,48 +200,6 @@ module _ (t : Trace) (wf : wellFormed t ≡ true) where
         let f = partner t ((valid t wf) .causal) p (at t e) e r h k in
         let m : pairW full e ≡ f .0 = C .match-recv p (at t e) e r h k ∙ ap (sendOf t p (at t e)) (sym (f .4)) ∙ sendOf-at t p (at t e) (f .0) (f .3) (f .1) (omega (arith, f .2)) in
         (omega (arith, m, f .1), omega (arith, m, f .2))
-
-    -- the record of the run without failure, by the columns
-    pub faultless-words : (e : ℕ) → 0 < e → e ≤ size t
-        → (faultlessAt t e ≡ pick (eqb (kindW full e) 2) (numberW full e) 0) × (faultlessAt t (takenBase + e) ≡ pick (eqb (kindW full e) 2) (valueW full (pairW full e)) 0)
-    unfolding faultlessAt
-    faultless-words e h k =
-        let a : ltb e takenBase ≡ true = lt-ltb e takenBase (omega (arith, few)) in
-        let b : ltb (takenBase + e) takenBase ≡ false = le-ltb (takenBase + e) takenBase (omega arith) in
-        let c : ltb (takenBase + e) recordEnd ≡ true = lt-ltb (takenBase + e) recordEnd (omega (arith, few)) in
-        let i : takenBase + e - takenBase ≡ e = omega arith in
-        rw (a, b, c, i) (go (kind t e) refl)
-      where
-        go : (v : Kind) → kind t e ≡ v
-            → (receivedNumber t e v ≡ pick (eqb (kindW full e) 2) (numberW full e) 0) × (receivedValue t e v ≡ pick (eqb (kindW full e) 2) (valueW full (pairW full e)) 0)
-        go v w = by (eqb (kindW full e) 2)
-            (λ d. let r = kind-recv e h k d in
-            let q : v ≡ recv (peerW full e) = sym w ∙ r in
-            let s = recvs-of t (peerW full e) (at t e) e refl r in
-            rw (d, q) (sym (C .number-recv (peerW full e) (at t e) e s h k), sym (recv-value (peerW full e) (at t e) e s h k ∙ (unfold value in refl))))
-            (λ d. rw d (none v w (kind-no-recv e h k d)))
-          where
-            none : (v : Kind) → kind t e ≡ v → ((p : ℕ) → kind t e ≡ recv p → ⊥) → (receivedNumber t e v ≡ 0) × (receivedValue t e v ≡ 0)
-            none (send q) w n = (refl, refl)
-            none (recv p) w n = absurd (n p w)
-            none other w n = (refl, refl)
-
-    -- every other word of it is 0
-    pub faultless-none : (e : ℕ) → (ltb 0 e && leb e (size t)) ≡ false → e ≤ 2048 → (faultlessAt t e ≡ 0) × (faultlessAt t (takenBase + e) ≡ 0)
-    unfolding faultlessAt
-    faultless-none e n l =
-        let a : ltb e takenBase ≡ true = lt-ltb e takenBase (omega arith) in
-        let b : ltb (takenBase + e) takenBase ≡ false = le-ltb (takenBase + e) takenBase (omega arith) in
-        let c : ltb (takenBase + e) recordEnd ≡ true = lt-ltb (takenBase + e) recordEnd (omega arith) in
-        let i : takenBase + e - takenBase ≡ e = omega arith in
-        rw (a, b, c, i, no-event t e n) (refl, refl)
-
-    pub faultless-rest : (k : ℕ) → recordEnd ≤ k → faultlessAt t k ≡ 0
-    unfolding faultlessAt
-    faultless-rest k h =
-        let b : ltb k takenBase ≡ false = le-ltb k takenBase (omega arith) in
-        let c : ltb k recordEnd ≡ false = le-ltb k recordEnd h in
-        rw (b, c)
 
     module _ (cut : ℕ) (line : ℕ → ℕ) (cl : cut ≤ size t) where
       abbrev R : Run

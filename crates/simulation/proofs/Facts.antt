@@ -1,7 +1,7 @@
 -- What the relation says of channels, of orphans and of gates: the two pointers of a channel tell whether a kept message is left and whether a
 -- message is in it; the least phase of an orphan tells which phases are ready. From the laws of the run and the invariants of the theory.
 use mathlib.Core.Path.{_≡_, refl, sym, _∙_, ap}
-use mathlib.Core.Bool.{Bool, true, false, _&&_}
+use mathlib.Core.Bool.{Bool, true, false, _&&_, and-false}
 use mathlib.Core.List.{List, [], _∷_, _++_, map}
 use Prim.Native.Nat.{ℕ, zero, suc, _+_, _-_, _≤_, _<_}
 use native.Mathlib.Omega.{arith}
@@ -276,10 +276,6 @@ module _ (R : Run) (L : Laws R) where
             least c d = by (ltb c d)
                 (λ y. rw y (by (ltb r c) (λ j. rw (j, lt-ltb r d (omega (arith, ltb-true r c j, ltb-true c d y)))) (λ j. rw j)))
                 (λ y. rw y (by (ltb r d) (λ j. rw (j, lt-ltb r c (omega (arith, ltb-true r d j, ltb-false c d y)))) (λ j. rw j (and-false (ltb r c)))))
-              where
-                and-false : (x : Bool) → (x && false) ≡ false
-                and-false true = refl
-                and-false false = refl
 
     all-low : (z : ℕ) → z ≤ 64 → all-below z (λ z. no-one (holds R r z) (u .todo z)) ≡ ltb r (lowOf t b z)
     unfolding all-below lowOf

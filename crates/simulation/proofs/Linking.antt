@@ -2,7 +2,7 @@
 -- pass mean at the event (`Tests`).
 use mathlib.Core.Path.{_≡_, refl, sym, _∙_, ap, subst}
 use mathlib.Core.Logic.{_≢_}
-use mathlib.Core.Bool.{Bool, true, false, _&&_}
+use mathlib.Core.Bool.{Bool, true, false, _&&_, and-true, and-false}
 use mathlib.Core.List.{List, [], _∷_}
 use Prim.Native.Nat.{ℕ, zero, suc, _+_, _-_, _*_, _≤_, _<_}
 use native.Mathlib.Omega.{arith}
@@ -19,14 +19,6 @@ use Rattle.simulation.specs.Words.{takenBase, currentBase, orphanBase, t
 use Rattle.simulation.specs.Related.{head0, recordEnd, goes, evs, orph, numberAt, valueAt}
 use Rattle.simulation.specs.Linking.{chainA}
 use Rattle.simulation.specs.Linked.{mine, rest, Chained}
-
-pub and-true : (b : Bool) → (b && true) ≡ b
-and-true true = refl
-and-true false = refl
-
-pub and-false : (b : Bool) → (b && false) ≡ false
-and-false true = refl
-and-false false = refl
 
 far-A : (b : Bool) (a : List ℕ) (k v j : ℕ) → j ≢ k → getD (chainA b a k v) j 0 ≡ getD a j 0
 unfolding chainA

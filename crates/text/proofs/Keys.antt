@@ -13,8 +13,7 @@ use borrow.Author.Tests.{eq-eqb, ne-eqb}
 use Rattle.words.proofs.Cases.{by-bool, and-right}
 use Rattle.text.specs.declared.Num.the-variants.{Value, Refused}
 use Rattle.text.specs.Number.{numberAt}
-use Rattle.text.specs.Key.{keyAt, startsWith, whenKey, fieldAt}
-use Rattle.text.proofs.Numbers.{number-within}
+use Rattle.text.specs.Key.{keyAt, startsWith, fieldAt}
 
 -- past the end of the text only the empty key stands
 pub key-past : (text : List ℕ) (at : ℕ) (key : List ℕ) → length text < at → eqb (length key) 0 ≡ startsWith (drop at text) key
@@ -52,15 +51,6 @@ key-short text at key h =
 
 pub key-within : (text : List ℕ) (at : ℕ) (key : List ℕ) → keyAt text at key ≡ true → at ≤ length text → at + length key ≤ length text
 key-within text at key e h = omega (arith, starts-within (drop at text) key e, length-drop at text)
-
-when-within : (text : List ℕ) (at v p : ℕ) (key : List ℕ) (bound : ℕ) → at ≤ length text → (b : Bool) → keyAt text at key ≡ b
-    → whenKey b (numberAt text (at + length key) bound) ≡ Value v p → p ≤ length text
-when-within text at v p key bound h true e q = number-within text (at + length key) bound v p q (key-within text at key e h)
-when-within text at v p key bound h false e q = let s : _≡_ {A = ℕ} 0 1 = cc in omega arith
-
-pub field-within : (text : List ℕ) (at : ℕ) (key : List ℕ) (bound v p : ℕ) → at ≤ length text → fieldAt text at key bound ≡ Value v p → p ≤ length text
-unfolding fieldAt
-field-within text at key bound v p h e = when-within text at v p key bound h (keyAt text at key) refl e
 
 -- each way out of `field`
 module _ (text : List ℕ) (at : ℕ) (key : List ℕ) (bound : ℕ) (b : Bool) (e : b ≡ keyAt text at key) where

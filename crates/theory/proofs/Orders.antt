@@ -31,7 +31,7 @@ unfoldable pub numberOf : Choice → ℕ
 numberOf (process z) = z
 numberOf (hand p q) = 64 + 64 * p + q
 
-choice-process : (z : ℕ) → z < 64 → choiceOf z ≡ some (process z)
+pub choice-process : (z : ℕ) → z < 64 → choiceOf z ≡ some (process z)
 unfolding choiceOf
 choice-process z h = let t : ltb z 64 ≡ true = lt-ltb z 64 h in rw t
 
@@ -52,7 +52,7 @@ choice-is c k h = by (ltb c 64)
     (λ u. let e : hand ((c - 64) / 64) ((c - 64) % 64) ≡ k = Option·some-injective _ _ (rw (t, u) at h) in rw (← e) (omega (arith, ltb-false c 64 t)))
     (λ u. absurd (Option·none-ne-some k (rw (t, u) at h))))
 
-none-high : (c : ℕ) → 4160 ≤ c → choiceOf c ≡ none
+pub none-high : (c : ℕ) → 4160 ≤ c → choiceOf c ≡ none
 unfolding choiceOf
 none-high c h =
     let t : ltb c 64 ≡ false = le-ltb c 64 (omega arith) in
@@ -76,7 +76,7 @@ module _ (R : Run) where
   unfolding choose bind
   choose-of s c k e = rw e
 
-  choose-none : (s : State) (c : ℕ) → choiceOf c ≡ none → choose R s c ≡ none
+  pub choose-none : (s : State) (c : ℕ) → choiceOf c ≡ none → choose R s c ≡ none
   unfolding choose bind
   choose-none s c e = rw e
 

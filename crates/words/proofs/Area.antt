@@ -1,11 +1,11 @@
 -- Laws of `wordsFrom` and `ruled`: an area is what its places say.
 use Prim.Native.Nat.{ℕ, suc, zero, _+_, _<_}
 use mathlib.Core.Path.{_≡_, refl, sym, ap, _∙_}
-use mathlib.Core.List.{List, _++_}
+use mathlib.Core.List.{List}
 use native.Mathlib.Omega.{arith}
-use lib.ListN.{length, getD, drop}
+use lib.ListN.{length, getD}
 use lib.Seq.{ext-getD}
-use Rattle.words.specs.Area.{wordsFrom, ruled}
+use Rattle.words.specs.Area.{wordsFrom}
 
 pub length-words : (f : ℕ → ℕ) (i n : ℕ) → length (wordsFrom f i n) ≡ n
 unfolding wordsFrom
@@ -23,8 +23,3 @@ pub words-ext : (f : ℕ → ℕ) (n : ℕ) (x : List ℕ) → length x ≡ n �
 words-ext f n x e h =
     ext-getD 0 x (wordsFrom f 0 n) (e ∙ sym (length-words f 0 n))
     (λ i l. h i (omega arith) ∙ sym (getD-words f 0 n i (omega arith) ∙ ap f (omega arith)))
-
--- the first n words, lent and come back as x, are by the rule
-pub ruled-ext : (f : ℕ → ℕ) (n : ℕ) (a x : List ℕ) → length x ≡ n → ((k : ℕ) → k < n → getD x k 0 ≡ f k) → x ++ drop n a ≡ ruled f n a
-unfolding ruled
-ruled-ext f n a x e h = ap (λ (l : List ℕ). l ++ drop n a) (words-ext f n x e h)

@@ -2,7 +2,7 @@
 use mathlib.Core.Path.{_≡_}
 use native.Mathlib.Omega.{arith}
 use borrow.Author.Tests.{eq-eqb, ne-eqb}
-use Rattle.replay.specs.Lowest.{unlessLower}
+use Rattle.replay.specs.Lowest.{unlessNew}
 use borrow.Author.Needs.{needs}
 use Rattle.replay.proofs.run_first.Statement.{statement}
 use Rattle.replay.proofs.run_first.Tie as tie
@@ -20,7 +20,7 @@ do-process-requires c κs =
     (omega (arith, (first .ensures), (pre .0)), (pre .1))
 
 returns : tie.Need-returns
-unfolding unlessLower
+unfolding unlessNew
 returns c =
     let first = c .before .before .before .before .before .before .before .before .before .first in
     let do-process = c .before .before .before .before .do-process in
@@ -33,7 +33,7 @@ with-requires c κs =
     omega (arith, (peer-of-next .ensures))
 
 returns-2 : tie.Need-returns-2
-unfolding unlessLower
+unfolding unlessNew
 returns-2 c =
     let first = c .before .before .before .before .before .before .before .before .before .before .first in
     let do-process = c .before .before .before .before .before .do-process in

@@ -1,6 +1,5 @@
 -- `trace::save_fault` meets its contract, one law for each way out.
 use Rattle.trace.proofs.Faults.{save-1, save-2, save-3}
-use native.Mathlib.Omega.{arith}
 use borrow.Author.Needs.{needs}
 use Rattle.trace.proofs.save_fault.Statement.{statement}
 use Rattle.trace.proofs.save_fault.Tie as tie
