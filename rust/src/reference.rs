@@ -183,3 +183,18 @@ pub fn with_machine<T>(
     let restarts = recorded.restarts(line, failure.set)?;
     Ok(visit(&mut Machine::new(&recorded, &restarts)))
 }
+
+/// The order that always picks the lowest allowed choice, found by looking at all choices each time.
+pub fn lowest_order(table: &[u32], failure: Failure, line: &[u32]) -> Result<Vec<u16>, Refusal> {
+    with_machine(table, failure, line, |machine| {
+        let mut order = Vec::new();
+        loop {
+            let lowest = machine.choices().next();
+            let Some(choice) = lowest else {
+                return order;
+            };
+            machine.carry_out(choice);
+            order.push(choice);
+        }
+    })
+}

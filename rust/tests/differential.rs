@@ -32,7 +32,7 @@ fn main() {
 mod compare {
     use hallback::shapes::{each_trace, Random, Shape, Trace};
     use hallback::{raw, reference};
-    use hallback::{Failure, Refusal, Restart, AREA_WORDS, MAX_EVENTS, MAX_PROCS, STAY};
+    use hallback::{Failure, Refusal, Replayed, Restart, AREA_WORDS, MAX_EVENTS, MAX_PROCS, STAY};
     use std::collections::BTreeMap;
     use std::ops::Range;
     use std::path::Path;
@@ -291,6 +291,23 @@ mod compare {
             self.note("restart", &wanted, differences, &|| describe(input));
         }
 
+        /// Compares a call that answers in so many words and writes to a run area.
+        fn in_run(
+            &mut self,
+            call: &'static str,
+            words: usize,
+            input: Input,
+            reference: impl FnOnce(&mut [u32]) -> Wanted,
+            engine: impl FnOnce(&mut [u32], &mut [u64]) -> u32,
+        ) {
+            let mut wanted_run = input.run.to_vec();
+            let wanted = reference(&mut wanted_run);
+            let mut run = input.run.to_vec();
+            let mut differences = self.answer(&wanted, words, |answer| engine(&mut run, answer));
+            differences.extend(words_differ("run", &run, &wanted_run));
+            self.note(call, &wanted, differences, &|| describe(input));
+        }
+
         fn messages(&mut self, input: Input) {
             let Input {
                 table,
@@ -298,35 +315,33 @@ mod compare {
                 line,
                 ..
             } = input;
-            let mut wanted_run = input.run.to_vec();
-            let wanted = reference::messages(table, failure, line, &mut wanted_run)
-                .map(|counts| vec![counts.orphans, counts.kept, counts.lost]);
-            let mut run = input.run.to_vec();
-            let mut differences = self.answer(&wanted, MESSAGES, |answer| {
-                raw::messages(table, failure.step, failure.set, line, &mut run, answer)
-            });
-            differences.extend(words_differ("run", &run, &wanted_run));
-            self.note("messages", &wanted, differences, &|| describe(input));
+            self.in_run(
+                "messages",
+                MESSAGES,
+                input,
+                |run| {
+                    reference::messages(table, failure, line, run)
+                        .map(|counts| vec![counts.orphans, counts.kept, counts.lost])
+                },
+                |run, answer| raw::messages(table, failure.step, failure.set, line, run, answer),
+            );
         }
 
         fn replay(&mut self, input: Input) {
             let Input {
                 table,
-                failure,
+                failure: Failure { step, set },
                 line,
                 order,
                 ..
             } = input;
-            let mut wanted_run = input.run.to_vec();
-            let wanted = reference::replay(table, failure, line, order, &mut wanted_run)
-                .map(|replayed| vec![replayed.steps, u64::from(replayed.complete)]);
-            let mut run = input.run.to_vec();
-            let (step, set) = (failure.step, failure.set);
-            let mut differences = self.answer(&wanted, REPLAY, |answer| {
-                raw::replay(table, step, set, line, order, &mut run, answer)
-            });
-            differences.extend(words_differ("run", &run, &wanted_run));
-            self.note("replay", &wanted, differences, &|| describe(input));
+            self.in_run(
+                "replay",
+                REPLAY,
+                input,
+                |run| reference::replay(table, input.failure, line, order, run).map(replayed_words),
+                |run, answer| raw::replay(table, step, set, line, order, run, answer),
+            );
         }
 
         fn lowest(&mut self, input: Input) {
@@ -336,15 +351,13 @@ mod compare {
                 line,
                 ..
             } = input;
-            let mut wanted_run = input.run.to_vec();
-            let wanted = reference::lowest(table, failure, line, &mut wanted_run)
-                .map(|replayed| vec![replayed.steps, u64::from(replayed.complete)]);
-            let mut run = input.run.to_vec();
-            let mut differences = self.answer(&wanted, REPLAY, |answer| {
-                raw::lowest(table, failure.step, failure.set, line, &mut run, answer)
-            });
-            differences.extend(words_differ("run", &run, &wanted_run));
-            self.note("lowest", &wanted, differences, &|| describe(input));
+            self.in_run(
+                "lowest",
+                REPLAY,
+                input,
+                |run| reference::lowest(table, failure, line, run).map(replayed_words),
+                |run, answer| raw::lowest(table, failure.step, failure.set, line, run, answer),
+            );
         }
 
         /// Texts at the limits, which random ones seldom reach.
@@ -665,20 +678,14 @@ mod compare {
         }
     }
 
+    /// The numbers of an answer after its place.
+    fn replayed_words(replayed: Replayed) -> Vec<u64> {
+        vec![replayed.steps, u64::from(replayed.complete)]
+    }
+
     /// The order of lowest choices, empty if the line is refused.
     fn lowest_order(table: &[u32], failure: Failure, line: &[u32]) -> Vec<u16> {
-        let order = reference::with_machine(table, failure, line, |machine| {
-            let mut order = Vec::new();
-            loop {
-                let lowest = machine.choices().next();
-                let Some(choice) = lowest else {
-                    return order;
-                };
-                machine.carry_out(choice);
-                order.push(choice);
-            }
-        });
-        order.unwrap_or_default()
+        reference::lowest_order(table, failure, line).unwrap_or_default()
     }
 
     /// A complete order of allowed choices at random, empty if the line is refused.

@@ -48,7 +48,7 @@ fn main() {
 mod bench {
     use hallback::shapes::{Habits, Random, Shape, Trace};
     use hallback::{raw, reference};
-    use hallback::{Failure, Refusal, Replayed, AREA_WORDS, MAX_PROCS, REPORT_BYTES};
+    use hallback::{Failure, Replayed, AREA_WORDS, MAX_PROCS, REPORT_BYTES};
     use std::hint::black_box;
     use std::time::Instant;
 
@@ -135,7 +135,7 @@ mod bench {
                 let restart = reference::restart(&table, failure).expect("the failure is fit");
                 restart.line().to_vec()
             };
-            let order = lowest_order(&table, failure, &line).expect("the line is fit");
+            let order = reference::lowest_order(&table, failure, &line).expect("the line is fit");
             Input {
                 text,
                 text_with_failure: trace.text_with(failure),
@@ -154,20 +154,6 @@ mod bench {
         fn left(&self) -> (Vec<u32>, Vec<u32>, Vec<u8>) {
             (self.read_table.clone(), self.run.clone(), self.out.clone())
         }
-    }
-
-    fn lowest_order(table: &[u32], failure: Failure, line: &[u32]) -> Result<Vec<u16>, Refusal> {
-        reference::with_machine(table, failure, line, |machine| {
-            let mut order = Vec::new();
-            loop {
-                let lowest = machine.choices().next();
-                let Some(choice) = lowest else {
-                    return order;
-                };
-                machine.carry_out(choice);
-                order.push(choice);
-            }
-        })
     }
 
     fn engine(call: Call, input: &mut Input) -> u64 {
