@@ -1,6 +1,7 @@
 pub mod Judging
 pub mod Cutting
 pub mod Storing
+pub mod First
 pub mod Turns
 pub mod Verdicts
 pub mod Decimal

@@ -21,7 +21,7 @@ use Rattle.reader.specs.declared.Scanned.{Scanned}
 use Rattle.reader.specs.declared.Scanned.the-variants.{Refused, Ended}
 use Rattle.reader.specs.Line.{lineOf}
 use Rattle.reader.specs.Verdict.{Scan, refused, ended, pieces, extended, judge, afterLine, atEnd, linesFrom, firstLine, scanPieces, scan}
-use Rattle.reader.specs.Reading.{Holds, stopOf, Outcome}
+use Rattle.reader.specs.Reading.{countOnly, Holds, stopOf, Outcome}
 use Rattle.reader.proofs.Pieces.{first-piece}
 use Rattle.reader.proofs.Cutting.{cut-none, line-cut, first-cut}
 
@@ -79,19 +79,33 @@ first-lf : (l bs : List ℕ) → scanPieces (l ∷ pieces bs) ≡ firstLine (lin
 unfolding scanPieces
 first-lf l bs = let p = first-piece bs in rw (p .2)
 
+-- of the first line only a process count matters
+first-count : (x : Line) (next : ℕ → Scan) → firstLine x next ≡ firstLine (countOnly x) next
+unfolding countOnly
+first-count (line.the-variants.Procs n) next = refl
+first-count (line.the-variants.Send a b v) next = refl
+first-count (line.the-variants.Recv a b) next = refl
+first-count (line.the-variants.Save a) next = refl
+first-count (line.the-variants.Failure k m) next = refl
+first-count line.the-variants.Malformed next = refl
+
 -- each way out of `scan_text`
 module _ (text : List ℕ) where
   pub scan-missing : lineEnd text 0 ≡ Missing → scan text ≡ refused 1 1
   unfolding scan scanPieces
   scan-missing e = rw (cut-none 0 text e)
 
-  module _ (i : ℕ) (e : lineEnd text 0 ≡ At i) (l : Line) (h : l ≡ lineOf (take i text)) where
+  module _ (i : ℕ) (e : lineEnd text 0 ≡ At i) (l : Line) (h : l ≡ countOnly (lineOf (take i text))) where
     abbrev rest : ℕ → Scan
     rest n = linesFrom (record { procs = n; events = [] }) 2 (pieces (drop (i + 1) text))
 
     scan-line : scan text ≡ firstLine l rest
     unfolding scan
-    scan-line = ap scanPieces ((first-cut text i e) .1) ∙ first-lf (take i text) (drop (i + 1) text) ∙ ap (λ (x : Line). firstLine x rest) (sym h)
+    scan-line =
+        ap scanPieces ((first-cut text i e) .1)
+        ∙ first-lf (take i text) (drop (i + 1) text)
+        ∙ first-count (lineOf (take i text)) rest
+        ∙ ap (λ (x : Line). firstLine x rest) (sym h)
 
     pub scan-other : OneOf (1 ∷ 2 ∷ 3 ∷ 4 ∷ 5 ∷ []) (tagOf lineType.the-type l) → scan text ≡ refused 1 1
     scan-other o = scan-line ∙ by-case l o

@@ -1,5 +1,5 @@
--- What the reader's loop holds between two lines: the words it has stored, and how its outcome stands for a `Scan`. No public
--- contract cites these.
+-- What the reader's loop holds between two lines: the words it has stored, and how its outcome stands for a `Scan`; and what it makes of the
+-- first line. No public contract cites these.
 use Prim.Native.Nat.{ℕ, _+_, _<_, _≤_}
 use mathlib.Core.Path.{_≡_}
 use mathlib.Core.List.{List}
@@ -8,11 +8,22 @@ use Rattle.words.specs.Area.{areaWords}
 use Rattle.trace.specs.declared.Event.{Event}
 use Rattle.trace.specs.Trace.{Trace}
 use Rattle.trace.specs.Table.{wordOf, valueWord, eventBase, valueBase, tableWord}
+use Rattle.reader.specs.declared.Line.{Line}
+use Rattle.reader.specs.declared.Line.the-variants.{Procs, Send, Recv, Save, Failure, Malformed}
 use Rattle.reader.specs.declared.Judged.{Judged}
 use Rattle.reader.specs.declared.Judged.the-variants.{Fit, Fails, Unfit}
 use Rattle.reader.specs.declared.Scanned.{Scanned}
 use Rattle.reader.specs.declared.Scanned.the-variants.{Refused, Ended, Stopped}
 use Rattle.reader.specs.Verdict.{Scan, refused, ended, stopped, pieces}
+
+-- a process count, or none
+unfoldable pub countOnly : Line → Line
+countOnly (Procs n) = Procs n
+countOnly (Send a b v) = Malformed
+countOnly (Recv a b) = Malformed
+countOnly (Save a) = Malformed
+countOnly (Failure k m) = Malformed
+countOnly Malformed = Malformed
 
 -- the table area's first words are those of a trace
 pub record Holds (table : List ℕ) (t : Trace) : Type 0 where

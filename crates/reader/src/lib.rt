@@ -13,7 +13,7 @@ ghost use Rattle.words.specs.Area.{areaWords, wordsFrom};
 ghost use Rattle.trace.specs.Tally.{Tally};
 ghost use Rattle.trace.specs.declared.Event.{Event};
 ghost use Rattle.reader.specs.Verdict.{faultHere, judgeEvent, judge, linesFrom, pieces, scan, verdict};
-ghost use Rattle.reader.specs.Reading.{Holds, appended, stopOf, Outcome};
+ghost use Rattle.reader.specs.Reading.{countOnly, Holds, appended, stopOf, Outcome};
 use text::LineEnd;
 use text::Num;
 use trace::Event;
@@ -81,10 +81,16 @@ fn send_line(line: &[u8]) -> Line
     let Num::Value(a, p) = text::number(line, 11, MOST) else {
         return Line::Malformed;
     };
-    let Num::Value(b, q) = text::field(line, p, b" to=", MOST) else {
+    if !text::key(line, p, b" to=") {
+        return Line::Malformed;
+    }
+    let Num::Value(b, q) = text::number(line, p + 4, MOST) else {
         return Line::Malformed;
     };
-    let Num::Value(v, r) = text::field(line, q, b" val=", MOST) else {
+    if !text::key(line, q, b" val=") {
+        return Line::Malformed;
+    }
+    let Num::Value(v, r) = text::number(line, q + 5, MOST) else {
         return Line::Malformed;
     };
     if r == line.len() {
@@ -100,7 +106,10 @@ fn recv_line(line: &[u8]) -> Line
     let Num::Value(a, p) = text::number(line, 11, MOST) else {
         return Line::Malformed;
     };
-    let Num::Value(b, q) = text::field(line, p, b" from=", MOST) else {
+    if !text::key(line, p, b" from=") {
+        return Line::Malformed;
+    }
+    let Num::Value(b, q) = text::number(line, p + 6, MOST) else {
         return Line::Malformed;
     };
     if q == line.len() {
@@ -129,7 +138,10 @@ fn fail_line(line: &[u8]) -> Line
     let Num::Value(k, p) = text::number(line, 5, MOST) else {
         return Line::Malformed;
     };
-    let Num::Value(m, q) = text::field(line, p, b" set=", MOST_SET) else {
+    if !text::key(line, p, b" set=") {
+        return Line::Malformed;
+    }
+    let Num::Value(m, q) = text::number(line, p + 5, MOST_SET) else {
         return Line::Malformed;
     };
     if q == line.len() {
@@ -157,6 +169,16 @@ pub fn read_line(line: &[u8]) -> Line
     }
     if text::key(line, 0, b"fail=") {
         return fail_line(line);
+    }
+    Line::Malformed
+}
+
+// What the first line of a text says, where only a process count is due. (So `read_line` has one caller, whose loop it can become part of.)
+fn first_line(line: &[u8]) -> Line
+    ensures { λ r. ⌜ r ≡ countOnly (lineOf (now (line .entry))) ⌝ }
+{
+    if text::key(line, 0, b"procs=") {
+        return procs_line(line);
     }
     Line::Malformed
 }
@@ -265,7 +287,7 @@ fn scan_text(text: &[u8], table: &mut [u32]) -> Scanned
     let LineEnd::At(end) = text::line_end(text, 0) else {
         return Scanned::Refused(1, 1);
     };
-    let first = read_line(&text[..end]);
+    let first = first_line(&text[..end]);
     let Line::Procs(n) = first else {
         return Scanned::Refused(1, 1);
     };

@@ -1,6 +1,6 @@
--- Laws of keys: one for each way a turn of the comparison goes; that a key which is found lies within the text.
+-- Laws of keys: one for each way a turn of the comparison goes; that a key which is found lies within the text; a key with its number.
 use Prim.Native.Nat.{ℕ, suc, _+_, _-_, _<_, _≤_, zero-le, suc-le-suc}
-use mathlib.Core.Path.{_≡_, refl, sym}
+use mathlib.Core.Path.{_≡_, refl, sym, _∙_}
 use mathlib.Core.List.{List, [], _∷_}
 use mathlib.Core.Bool.{Bool, true, false}
 use native.Mathlib.Omega.{arith}
@@ -11,7 +11,7 @@ use lib.ListN.{length, getD, drop, drop-of-length-le, length-drop}
 use lib.Seq.{drop-cons}
 use borrow.Author.Tests.{eq-eqb, ne-eqb}
 use Rattle.words.proofs.Cases.{by-bool, and-right}
-use Rattle.text.specs.declared.Num.the-variants.{Value, Refused}
+use Rattle.text.specs.declared.Num.the-variants.{Refused}
 use Rattle.text.specs.Number.{numberAt}
 use Rattle.text.specs.Key.{keyAt, startsWith, fieldAt}
 
@@ -49,10 +49,11 @@ key-short text at key h =
     (λ e. absurd (let z : ⊥ = omega (arith, starts-within (drop at text) key e, length-drop at text) in z))
     (λ e. sym e)
 
-pub key-within : (text : List ℕ) (at : ℕ) (key : List ℕ) → keyAt text at key ≡ true → at ≤ length text → at + length key ≤ length text
-key-within text at key e h = omega (arith, starts-within (drop at text) key e, length-drop at text)
+-- over the test b that the code has: a key that was found lies within the text
+pub key-within : (text : List ℕ) (at : ℕ) (key : List ℕ) (b : Bool) → b ≡ keyAt text at key → b ≡ true → 0 < length key → at + length key ≤ length text
+key-within text at key b e t h = omega (arith, starts-within (drop at text) key (sym e ∙ t), length-drop at text)
 
--- each way out of `field`
+-- a key at a place and then a number
 module _ (text : List ℕ) (at : ℕ) (key : List ℕ) (bound : ℕ) (b : Bool) (e : b ≡ keyAt text at key) where
   pub field-1 : b ≡ true → numberAt text (at + length key) bound ≡ fieldAt text at key bound
   unfolding fieldAt

@@ -59,9 +59,18 @@ module _ (text : List ℕ) (at bound b : ℕ) (d : Bool) (eb : b ≡ getD text a
   unfolding numberAt
   number-1 n = rw (← eb, ← ed, not-true d n)
 
-  pub number-2 : not d ≡ false → (b ≡ 48 → ⊥) → digitsFrom bound 0 at (drop at text) ≡ numberAt text at bound
+  number-digits : not d ≡ false → (b ≡ 48 → ⊥) → digitsFrom bound 0 at (drop at text) ≡ numberAt text at bound
   unfolding numberAt
-  number-2 n z = rw (← eb, ← ed, not-false d n, ne-eqb b 48 z)
+  number-digits n z = rw (← eb, ← ed, not-false d n, ne-eqb b 48 z)
+
+  -- the first digit is too large by itself
+  pub number-2 : not d ≡ false → (b ≡ 48 → ⊥) → at < length text → (p : Pushed) → p ≡ pushed 0 b bound → p ≡ Over → Refused ≡ numberAt text at bound
+  number-2 n z h p q e = sym (digits-over bound 0 at text b d h eb ed n p q e) ∙ number-digits n z
+
+  -- the others carry its value on
+  pub number-5 : not d ≡ false → (b ≡ 48 → ⊥) → at < length text → (p : Pushed) → p ≡ pushed 0 b bound → (w : ℕ) → p ≡ Fits w
+      → digitsFrom bound w (at + 1) (drop (at + 1) text) ≡ numberAt text at bound
+  number-5 n z h p q w e = sym (digits-next bound 0 at text b d h eb ed n p q w e) ∙ number-digits n z
 
 module _ (text : List ℕ) (at bound b : ℕ) (d : Bool) (f : ℕ) (e : Bool) (eb : b ≡ getD text at 256) (ed : d ≡ isDigit b) (n : not d ≡ false) (z : b ≡ 48)
     (ef : f ≡ getD text (at + 1) 256) (ee : e ≡ isDigit f) where
@@ -73,28 +82,6 @@ module _ (text : List ℕ) (at bound b : ℕ) (d : Bool) (f : ℕ) (e : Bool) (e
   unfolding numberAt
   number-4 t = rw (← eb, ← ed, not-false d n, eq-eqb b 48 z, ← ef, ← ee, t)
 
--- what is read stands within the text
-step-within : (at n v w p : ℕ) (next : ℕ → Num) → ((u : ℕ) → next u ≡ Value w p → p ≤ at + suc n)
-    → (d : Bool) (q : Pushed) → digitStep d q (Value v at) next ≡ Value w p → p ≤ at + suc n
-step-within at n v w p next h false q e = let s : at ≡ p = cc in omega arith
-step-within at n v w p next h true (Fits u) e = h u e
-step-within at n v w p next h true Over e = let s : _≡_ {A = ℕ} 0 1 = cc in omega arith
-
-pub digits-within : (bound v at : ℕ) (l : List ℕ) (w p : ℕ) → digitsFrom bound v at l ≡ Value w p → p ≤ at + length l
-unfolding digitsFrom
-digits-within bound v at [] w p e = let s : at ≡ p = cc in omega arith
-digits-within bound v at (b ∷ l) w p e =
-    step-within at (length l) v w p (λ u. digitsFrom bound u (at + 1) l)
-    (λ u h. omega (arith, digits-within bound u (at + 1) l w p h))
-    (isDigit b) (pushed v b bound) e
-
-number-step-within : (text : List ℕ) (at w p : ℕ) (z d e : Bool) (n : Num) → (n ≡ Value w p → p ≤ length text) → (z ≡ true → at < length text)
-    → numberStep z d e at n ≡ Value w p → p ≤ length text
-number-step-within text at w p false d e n h l q = let s : _≡_ {A = ℕ} 0 1 = cc in omega arith
-number-step-within text at w p true false e n h l q = h q
-number-step-within text at w p true true true n h l q = let s : _≡_ {A = ℕ} 0 1 = cc in omega arith
-number-step-within text at w p true true false n h l q = let s : at + 1 ≡ p = cc in omega (arith, l refl)
-
 digit-within : (text : List ℕ) (at : ℕ) → isDigit (getD text at 256) ≡ true → at < length text
 digit-within text at h =
     by-lt at (length text) (λ q. q)
@@ -103,10 +90,3 @@ digit-within text at h =
 -- the same over the values that the code has
 pub digit-here : (text : List ℕ) (at b : ℕ) (d : Bool) → b ≡ getD text at 256 → d ≡ isDigit b → not d ≡ false → at < length text
 digit-here text at b d eb ed n = digit-within text at (sym (ed ∙ ap isDigit eb) ∙ not-false d n)
-
-pub number-within : (text : List ℕ) (at bound w p : ℕ) → numberAt text at bound ≡ Value w p → at ≤ length text → p ≤ length text
-unfolding numberAt
-number-within text at bound w p e l =
-    number-step-within text at w p (isDigit (getD text at 256)) (eqb (getD text at 256) 48) (isDigit (getD text (at + 1) 256)) (digitsFrom bound 0 at (drop at text))
-    (λ h. omega (arith, digits-within bound 0 at (drop at text) w p h, length-drop at text))
-    (digit-within text at) e

@@ -1,3 +1,4 @@
 pub mod Line
 pub mod Number
 pub mod Key
+pub mod Blocks

@@ -2,10 +2,12 @@
 // for every text and place; no public function has a `requires`. Assumes nothing.
 ghost use mathlib.Core.Bool.{true};
 ghost use mathlib.Core.Path.{_≡_};
-ghost use lib.ListN.{drop, getD};
+ghost use Prim.Native.Nat.{_+_, _-_, _≤_, _<_};
+ghost use lib.ListN.{length, drop, getD};
 ghost use Rattle.text.specs.Line.{lineEnd};
+ghost use Rattle.text.specs.Blocks.{FirstOfEight, packed};
 ghost use Rattle.text.specs.Number.{isDigit, pushed, digitsFrom, numberAt};
-ghost use Rattle.text.specs.Key.{keyAt, fieldAt};
+ghost use Rattle.text.specs.Key.{startsWith, keyAt};
 
 // Where a line ends: the place of its LF, or nowhere.
 pub enum LineEnd {
@@ -25,8 +27,47 @@ pub enum Pushed {
     Over,
 }
 
-// The first LF at or after a place.
-pub fn line_end(text: &[u8], from: usize) -> LineEnd
+// A number less another, or 0.
+fn less(n: usize, k: usize) -> usize
+    ensures { λ r. ⌜ r ≡ n - k ⌝ }
+{
+    if n < k { 0 } else { n - k }
+}
+
+// Which of the eight bytes from a place on is the first LF, counted from 0; 8 where none is.
+fn lf_of_eight(text: &[u8], at: usize) -> usize
+    requires { ⌜ at + 8 ≤ length (now text) ⌝ }
+    ensures { λ r. ⌜ FirstOfEight (now (text .entry)) at r ⌝ }
+{
+    if text[at] == 10 {
+        return 0;
+    }
+    if text[at + 1] == 10 {
+        return 1;
+    }
+    if text[at + 2] == 10 {
+        return 2;
+    }
+    if text[at + 3] == 10 {
+        return 3;
+    }
+    if text[at + 4] == 10 {
+        return 4;
+    }
+    if text[at + 5] == 10 {
+        return 5;
+    }
+    if text[at + 6] == 10 {
+        return 6;
+    }
+    if text[at + 7] == 10 {
+        return 7;
+    }
+    8
+}
+
+// The first LF at or after a place, byte by byte.
+fn lf_singly(text: &[u8], from: usize) -> LineEnd
     ensures { λ r. ⌜ r ≡ lineEnd (now (text .entry)) from ⌝ }
 {
     let mut at = from;
@@ -37,6 +78,22 @@ pub fn line_end(text: &[u8], from: usize) -> LineEnd
         at += 1;
     }
     LineEnd::Missing
+}
+
+// The first LF at or after a place: eight bytes to a turn, and the last few singly.
+pub fn line_end(text: &[u8], from: usize) -> LineEnd
+    ensures { λ r. ⌜ r ≡ lineEnd (now (text .entry)) from ⌝ }
+{
+    let eights = less(text.len(), 7);
+    let mut at = from;
+    while at < eights {
+        let k = lf_of_eight(text, at);
+        if k < 8 {
+            return LineEnd::At(at + k);
+        }
+        at += 8;
+    }
+    lf_singly(text, at)
 }
 
 // The byte at a place, or 256 past the end.
@@ -57,19 +114,28 @@ pub fn is_digit(b: u16) -> bool
     48 <= b && b <= 57
 }
 
-// The value v with a digit at its end.
+// Ten times a value below this, and a byte, have room in 64 bits.
+const ROOM: u64 = 1000000000000000000;
+
+fn smaller(a: u64, b: u64) -> u64
+    ensures { λ r. ⌜ (r ≤ a) × (r ≤ b) ⌝ }
+{
+    if a < b { a } else { b }
+}
+
+// The value v with a digit at its end. (Where there is room the byte is added before 48 is taken away, which is less to do.)
 fn push(v: u64, b: u16, bound: u64) -> Pushed
     requires { ⌜ isDigit b ≡ true ⌝ }
     ensures { λ r. ⌜ r ≡ pushed v b bound ⌝ }
 {
-    let d = b as u64 - 48;
-    if v < bound / 10 {
-        return Pushed::Fits(v * 10 + d);
+    if v < smaller(bound / 10, ROOM) {
+        return Pushed::Fits(v * 10 + b as u64 - 48);
     }
     if v > bound / 10 {
         return Pushed::Over;
     }
     let tens = v * 10;
+    let d = b as u64 - 48;
     if d > bound - tens {
         Pushed::Over
     } else {
@@ -77,11 +143,11 @@ fn push(v: u64, b: u16, bound: u64) -> Pushed
     }
 }
 
-// The number that the digits from a place on give.
-fn digits(text: &[u8], from: usize, bound: u64) -> Num
-    ensures { λ r. ⌜ r ≡ digitsFrom bound 0 from (drop from (now (text .entry))) ⌝ }
+// The number that the digits from a place on give, after others of a value.
+fn digits(text: &[u8], from: usize, value: u64, bound: u64) -> Num
+    ensures { λ r. ⌜ r ≡ digitsFrom bound value from (drop from (now (text .entry))) ⌝ }
 {
-    let mut v: u64 = 0;
+    let mut v = value;
     let mut at = from;
     while at < text.len() {
         let b = byte(text, at);
@@ -106,7 +172,10 @@ pub fn number(text: &[u8], at: usize, bound: u64) -> Num
         return Num::Refused;
     }
     if b != 48 {
-        return digits(text, at, bound);
+        let Pushed::Fits(v) = push(0, b, bound) else {
+            return Num::Refused;
+        };
+        return digits(text, at + 1, v, bound);
     }
     let e = byte(text, at + 1);
     if is_digit(e) {
@@ -115,17 +184,23 @@ pub fn number(text: &[u8], at: usize, bound: u64) -> Num
     Num::Value(0, at + 1)
 }
 
-// Whether the key's bytes stand at a place.
-pub fn key(text: &[u8], at: usize, key: &[u8]) -> bool
-    ensures { λ r. ⌜ r ≡ keyAt (now (text .entry)) at (now (key .entry)) ⌝ }
+// Four bytes from a place on as one number: the machine takes them at once.
+fn four(text: &[u8], at: usize) -> u32
+    requires { ⌜ at + 4 ≤ length (now text) ⌝ }
+    ensures { λ r. ⌜ r ≡ packed 4 (drop at (now (text .entry))) ⌝ }
 {
-    if at > text.len() {
-        return key.len() == 0;
-    }
-    if key.len() > text.len() - at {
-        return false;
-    }
-    let mut i = 0;
+    text[at] as u32
+        + 256 * (text[at + 1] as u32)
+        + 65536 * (text[at + 2] as u32)
+        + 16777216 * (text[at + 3] as u32)
+}
+
+// Whether the key's bytes from one on stand in the text, where the key as a whole would begin at a place; byte by byte.
+fn key_singly(text: &[u8], at: usize, key: &[u8], from: usize) -> bool
+    requires { ⌜ (from ≤ length (now key)) × (at + length (now key) ≤ length (now text)) ⌝ }
+    ensures { λ r. ⌜ r ≡ startsWith (drop (at + from) (now (text .entry))) (drop from (now (key .entry))) ⌝ }
+{
+    let mut i = from;
     while i < key.len() {
         if text[at + i] != key[i] {
             return false;
@@ -135,13 +210,23 @@ pub fn key(text: &[u8], at: usize, key: &[u8]) -> bool
     true
 }
 
-// A key at a place and then a number.
-pub fn field(text: &[u8], at: usize, key: &[u8], bound: u64) -> Num
-    ensures { λ r. ⌜ r ≡ fieldAt (now (text .entry)) at (now (key .entry)) bound ⌝ }
+// Whether the key's bytes stand at a place: four bytes to a turn, and the last few singly.
+pub fn key(text: &[u8], at: usize, key: &[u8]) -> bool
+    ensures { λ r. ⌜ r ≡ keyAt (now (text .entry)) at (now (key .entry)) ⌝ }
 {
-    if self::key(text, at, key) {
-        number(text, at + key.len(), bound)
-    } else {
-        Num::Refused
+    if at > text.len() {
+        return key.len() == 0;
     }
+    if key.len() > text.len() - at {
+        return false;
+    }
+    let fours = less(key.len(), 3);
+    let mut i = 0;
+    while i < fours {
+        if four(text, at + i) != four(key, i) {
+            return false;
+        }
+        i += 4;
+    }
+    key_singly(text, at, key, i)
 }

@@ -19,8 +19,8 @@ returns c =
     let pre = c .before .before .before .before .before .pre in
     out-refused _ _ _ _ _ (scan-missing _ (sym (line-end .ensures) ∙ (enum-told .given .1))) pre
 
-slice-aggregate-read-line : tie.Need-slice-aggregate-read-line
-slice-aggregate-read-line c =
+slice-aggregate-first-line : tie.Need-slice-aggregate-first-line
+slice-aggregate-first-line c =
     let line-end = c .before .before .before .before .line-end in
     let end = c .before .before .end in
     let q = first-cut _ _ (sym (line-end .ensures) ∙ (end .given .1)) in sym (length-take-le _ _ (omega (arith, q .0)))
@@ -29,31 +29,31 @@ returns-2 : tie.Need-returns-2
 returns-2 c =
     let line-end = c .before .before .before .before .before .before .line-end in
     let end = c .before .before .before .before .end in
-    let read-line = c .before .read-line in
+    let first-line = c .before .first-line in
     let match2 = c .match2 in
     let pre = c .before .before .before .before .before .before .before .before .before .pre in
-    out-refused _ _ _ _ _ (scan-other _ _ (sym (line-end .ensures) ∙ (end .given .1)) _ (read-line .ensures) (match2 .keys2)) pre
+    out-refused _ _ _ _ _ (scan-other _ _ (sym (line-end .ensures) ∙ (end .given .1)) _ (first-line .ensures) (match2 .keys2)) pre
 
 returns-3 : tie.Need-returns-3
 returns-3 c =
     let line-end = c .before .before .before .before .before .before .before .before .before .line-end in
     let end = c .before .before .before .before .before .before .before .end in
-    let read-line = c .before .before .before .before .read-line in
+    let first-line = c .before .before .before .before .first-line in
     let first = c .before .before .first in
     let if1 = c .if1 in
     let pre = c .before .before .before .before .before .before .before .before .before .before .before .before .pre in
-    out-refused _ _ _ _ _ (scan-low _ _ (sym (line-end .ensures) ∙ (end .given .1)) _ (read-line .ensures) _ (first .given .1) (if1 .taken)) pre
+    out-refused _ _ _ _ _ (scan-low _ _ (sym (line-end .ensures) ∙ (end .given .1)) _ (first-line .ensures) _ (first .given .1) (if1 .taken)) pre
 
 returns-4 : tie.Need-returns-4
 returns-4 c =
     let line-end = c .before .before .before .before .before .before .before .before .before .before .line-end in
     let end = c .before .before .before .before .before .before .before .before .end in
-    let read-line = c .before .before .before .before .before .read-line in
+    let first-line = c .before .before .before .before .before .first-line in
     let first = c .before .before .before .first in
     let if1 = c .before .if1 in
     let if2 = c .if2 in
     let pre = c .before .before .before .before .before .before .before .before .before .before .before .before .before .pre in
-    out-refused _ _ _ _ _ (scan-high _ _ (sym (line-end .ensures) ∙ (end .given .1)) _ (read-line .ensures) _ (first .given .1) (if1 .left) (if2 .taken)) pre
+    out-refused _ _ _ _ _ (scan-high _ _ (sym (line-end .ensures) ∙ (end .given .1)) _ (first-line .ensures) _ (first .given .1) (if1 .left) (if2 .taken)) pre
 
 add-read-events : tie.Need-add-read-events
 add-read-events c =
@@ -81,14 +81,14 @@ returns-5 : tie.Need-returns-5
 returns-5 c =
     let line-end = c .before .before .before .before .before .before .before .before .before .before .before .before .before .before .before .before .before .before .before .before .line-end in
     let end = c .before .before .before .before .before .before .before .before .before .before .before .before .before .before .before .before .before .before .end in
-    let read-line = c .before .before .before .before .before .before .before .before .before .before .before .before .before .before .before .read-line in
+    let first-line = c .before .before .before .before .before .before .before .before .before .before .before .before .before .before .before .first-line in
     let first = c .before .before .before .before .before .before .before .before .before .before .before .before .before .first in
     let if1 = c .before .before .before .before .before .before .before .before .before .before .before .if1 in
     let if2 = c .before .before .before .before .before .before .before .before .before .before .if2 in
     let read-events = c .before .before .before .read-events in
-    out-same _ _ _ _ _ (scan-next _ _ (sym (line-end .ensures) ∙ (end .given .1)) _ (read-line .ensures) _ (first .given .1) (if1 .left) (if2 .left)) (read-events .ensures)
+    out-same _ _ _ _ _ (scan-next _ _ (sym (line-end .ensures) ∙ (end .given .1)) _ (first-line .ensures) _ (first .given .1) (if1 .left) (if2 .left)) (read-events .ensures)
 
 pub scan-text-spec : {M : Type 1} → statement M
 scan-text-spec =
     tie.close
-    (tie.spec (λ c κs. search needs) (λ c. search needs) (λ c. search needs) returns slice-aggregate-read-line (λ c κs. search needs) (λ c. search needs) returns-2 returns-3 returns-4 (λ c κs. search needs) (λ c. search needs) (λ c. search needs) add-read-events (λ c. search needs) read-events-requires same-length returns-5)
+    (tie.spec (λ c κs. search needs) (λ c. search needs) (λ c. search needs) returns slice-aggregate-first-line (λ c κs. search needs) (λ c. search needs) returns-2 returns-3 returns-4 (λ c κs. search needs) (λ c. search needs) (λ c. search needs) add-read-events (λ c. search needs) read-events-requires same-length returns-5)

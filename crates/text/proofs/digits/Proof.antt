@@ -10,10 +10,10 @@ use Rattle.text.proofs.digits.Statement.{statement}
 use Rattle.text.proofs.digits.Tie as tie
 
 abbrev Inv-loop : tie.InvT-loop
-Inv-loop text from bound v₀ at₀ v at = digitsFrom bound v at (drop at text) ≡ digitsFrom bound 0 from (drop from text)
+Inv-loop text from value bound v₀ at₀ v at = digitsFrom bound v at (drop at text) ≡ digitsFrom bound value from (drop from text)
 
 abbrev μ-loop : tie.MeasureT-loop
-μ-loop text from bound v₀ at₀ v at = length text - at
+μ-loop text from value bound v₀ at₀ v at = length text - at
 
 returns : tie.Need-returns Inv-loop μ-loop
 returns c =

@@ -1,0 +1,108 @@
+-- The first line: a process count where its key stands, and no other line is one.
+use Prim.Native.Nat.{ℕ}
+use mathlib.Core.Path.{_≡_, refl, sym, _∙_}
+use mathlib.Core.List.{List, [], _∷_}
+use mathlib.Core.Bool.{Bool, true, false}
+use native.Mathlib.Omega.{arith}
+use lib.Dec.{eqb}
+use lib.ListN.{length}
+use borrow.Author.Tests.{eqb-true, ne-eqb}
+use Rattle.words.proofs.Cases.{by-bool, clash, and-left}
+use Rattle.text.specs.declared.Num.{Num}
+use Rattle.text.specs.declared.Num.the-variants.{Value, Refused}
+use Rattle.text.specs.Number.{numberAt}
+use Rattle.text.specs.Key.{keyAt, startsWith, fieldAt}
+use Rattle.reader.specs.declared.Line.{Line}
+use Rattle.reader.specs.declared.Line.the-variants.{Procs, Send, Recv, Save, Failure, Malformed}
+use Rattle.reader.specs.Line.{kSend, kTo, kVal, kRecv, kFrom, kSave, kProcs, kFail, kSet, most, mostSet, thenLine, whenEnd, whenForm, procsOf, sendOf, recvOf, saveOf, failOf, lineOf}
+use Rattle.reader.specs.Reading.{countOnly}
+
+-- two keys that differ in their first byte do not stand in the same place
+other-key : (l : List ℕ) (a b : ℕ) (k m : List ℕ) → (a ≡ b → ⊥) → startsWith l (a ∷ k) ≡ true → startsWith l (b ∷ m) ≡ false
+unfolding startsWith
+other-key [] a b k m n h = refl
+other-key (x ∷ l) a b k m n h =
+    let e : x ≡ a = eqb-true x a (and-left (eqb x a) (startsWith l k) h) in rw (ne-eqb x b (λ q. n (sym e ∙ q)))
+
+-- a line that is no process count
+record NoCount (l : Line) : Type 0 where
+  is : countOnly l ≡ Malformed
+
+module _ (next : ℕ → ℕ → Line) (h : (v p : ℕ) → NoCount (next v p)) where
+  no-count : (n : Num) → NoCount (thenLine n next)
+  unfolding countOnly
+  no-count (Value v p) = h v p
+  no-count Refused = record { is = refl }
+
+no-end : (b : Bool) (l : Line) → NoCount l → NoCount (whenEnd b l)
+unfolding countOnly
+no-end true l h = h
+no-end false l h = record { is = refl }
+
+no-send : (l : List ℕ) → NoCount (sendOf l)
+unfolding sendOf countOnly
+no-send l =
+    no-count _
+    (λ a p.
+    no-count _
+    (λ b q.
+    no-count _ (λ v r. no-end (eqb r (length l)) (Send a b v) (record { is = refl })) (fieldAt l q kVal most))
+    (fieldAt l p kTo most))
+    (numberAt l (length kSend) most)
+
+no-recv : (l : List ℕ) → NoCount (recvOf l)
+unfolding recvOf countOnly
+no-recv l =
+    no-count _
+    (λ a p. no-count _ (λ b q. no-end (eqb q (length l)) (Recv a b) (record { is = refl })) (fieldAt l p kFrom most))
+    (numberAt l (length kRecv) most)
+
+no-save : (l : List ℕ) → NoCount (saveOf l)
+unfolding saveOf countOnly
+no-save l = no-count _ (λ a p. no-end (eqb p (length l)) (Save a) (record { is = refl })) (numberAt l (length kSave) most)
+
+no-fail : (l : List ℕ) → NoCount (failOf l)
+unfolding failOf countOnly
+no-fail l =
+    no-count _
+    (λ k p. no-count _ (λ m q. no-end (eqb q (length l)) (Failure k m) (record { is = refl })) (fieldAt l p kSet mostSet))
+    (numberAt l (length kFail) most)
+
+end-count : (b : Bool) (n : ℕ) → countOnly (whenEnd b (Procs n)) ≡ whenEnd b (Procs n)
+unfolding countOnly
+end-count true n = refl
+end-count false n = refl
+
+then-count : (l : List ℕ) (n : Num)
+    → countOnly (thenLine n (λ m p. whenEnd (eqb p (length l)) (Procs m))) ≡ thenLine n (λ m p. whenEnd (eqb p (length l)) (Procs m))
+unfolding countOnly
+then-count l (Value v p) = end-count (eqb p (length l)) v
+then-count l Refused = refl
+
+count-count : (l : List ℕ) → countOnly (procsOf l) ≡ procsOf l
+unfolding procsOf
+count-count l = then-count l (numberAt l (length kProcs) most)
+
+-- a form that is no process count, or the rest
+no-form : (b : Bool) (l rest : Line) → NoCount l → NoCount rest → NoCount (whenForm b l rest)
+no-form true l rest h g = h
+no-form false l rest h g = g
+
+-- each way out of `first_line`, over the test that the code has
+module _ (l : List ℕ) (b : Bool) (e : b ≡ keyAt l 0 kProcs) where
+  pub first-procs : b ≡ true → procsOf l ≡ countOnly (lineOf l)
+  unfolding lineOf
+  first-procs t =
+      let k : startsWith l kProcs ≡ true = sym e ∙ t in
+      rw (other-key l 112 101 _ (118 ∷ 61 ∷ 115 ∷ 101 ∷ 110 ∷ 100 ∷ 32 ∷ 97 ∷ 116 ∷ 61 ∷ []) (λ q. omega arith) k, other-key l 112 101 _ (118 ∷ 61 ∷ 114 ∷ 101 ∷ 99 ∷ 118 ∷ 32 ∷ 97 ∷ 116 ∷ 61 ∷ []) (λ q. omega arith) k, other-key l 112 101 _ (118 ∷ 61 ∷ 115 ∷ 97 ∷ 118 ∷ 101 ∷ 32 ∷ 97 ∷ 116 ∷ 61 ∷ []) (λ q. omega arith) k, k)
+      (sym (count-count l))
+
+  pub first-none : b ≡ false → Malformed ≡ countOnly (lineOf l)
+  unfolding lineOf countOnly
+  first-none t =
+      let rest : NoCount (whenForm (keyAt l 0 kProcs) (procsOf l) (whenForm (keyAt l 0 kFail) (failOf l) Malformed)) =
+      rw (sym e ∙ t) (no-form (keyAt l 0 kFail) _ _ (no-fail l) (record { is = refl })) in
+      sym
+      (no-form (keyAt l 0 kSend) _ _ (no-send l)
+      (no-form (keyAt l 0 kRecv) _ _ (no-recv l)
+      (no-form (keyAt l 0 kSave) _ _ (no-save l) rest)) .is)
