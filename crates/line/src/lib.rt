@@ -158,8 +158,8 @@ fn lower_at(full: &[u32], epochs: &mut [u32], e: usize)
 }
 
 // Links the events of each process up to the cut, from the newest back: for each event the one of its process before it, and for each process
-// its newest; 0 where there is none.
-fn link(full: &[u32], cut: usize, earlier: &mut [u32], latest: &mut [u32])
+// its newest; 0 where there is none. Links have 16 bits, so that they take less to clear.
+fn link(full: &[u32], cut: usize, earlier: &mut [u16], latest: &mut [u16])
     requires { ⌜ Sized (now full) cut × (length (now earlier) ≡ 2049) × (length (now latest) ≡ 64) × ((z : ℕ) → getD (now latest) z 0 ≡ 0) ⌝ }
     ensures { λ _. ⌜ Linked (now (full .entry)) cut (now (earlier .exit)) (now (latest .exit)) ⌝ }
 {
@@ -168,12 +168,12 @@ fn link(full: &[u32], cut: usize, earlier: &mut [u32], latest: &mut [u32])
         e += 1;
         let z = process(full[EVENT_BASE + e]);
         earlier[e] = latest[z];
-        latest[z] = e as u32;
+        latest[z] = e as u16;
     }
 }
 
 // Does the line undo the newest event of process z that was not looked at yet.
-fn undoes(full: &[u32], epochs: &[u32], latest: &[u32], z: usize) -> bool
+fn undoes(full: &[u32], epochs: &[u32], latest: &[u16], z: usize) -> bool
     requires { ⌜ Pending (now full) (now epochs) (now latest) × (z < 64) ⌝ }
     ensures { λ r. ⌜ r ≡ undoneW (now (full .entry)) (now (epochs .entry)) (now (latest .entry)) z ⌝ }
 {
@@ -198,7 +198,7 @@ fn better(epochs: &[u32], best: usize, z: usize) -> usize
 // A process with an undone event that was not looked at yet, or 64 if there is none. It has the lowest number of all these, which saves time:
 // a lost message lowers its sender to no less than its receiver's number, so a process looked at is not lowered later, and none comes twice.
 // (Argued, not proved: any such process would do.)
-fn lowest(full: &[u32], epochs: &[u32], latest: &[u32]) -> usize
+fn lowest(full: &[u32], epochs: &[u32], latest: &[u16]) -> usize
     requires { ⌜ Pending (now full) (now epochs) (now latest) ⌝ }
     ensures { λ r. ⌜ Found (now (full .entry)) (now (epochs .entry)) (now (latest .entry)) 64 r ⌝ }
 {
@@ -214,7 +214,7 @@ fn lowest(full: &[u32], epochs: &[u32], latest: &[u32]) -> usize
 }
 
 // The same, but process z again while it has such an event: all of its undone events are looked at before another process is looked for.
-fn next(full: &[u32], epochs: &[u32], latest: &[u32], z: usize) -> usize
+fn next(full: &[u32], epochs: &[u32], latest: &[u16], z: usize) -> usize
     requires { ⌜ Pending (now full) (now epochs) (now latest) × (z < 64) ⌝ }
     ensures { λ r. ⌜ Found (now (full .entry)) (now (epochs .entry)) (now (latest .entry)) 64 r ⌝ }
 {
@@ -225,7 +225,7 @@ fn next(full: &[u32], epochs: &[u32], latest: &[u32], z: usize) -> usize
 }
 
 // Looks at the newest event of process z that was not looked at yet.
-fn look(full: &[u32], earlier: &[u32], epochs: &mut [u32], latest: &mut [u32], z: usize)
+fn look(full: &[u32], earlier: &[u16], epochs: &mut [u32], latest: &mut [u16], z: usize)
     requires { ⌜ (length (now earlier) ≡ 2049) × (length (now latest) ≡ 64) × (z < 64) × Lowerable (now full) (now epochs) (getD (now latest) z 0) ⌝ }
     ensures line { λ _. ⌜ now (epochs .exit) ≡ lowerAt (now (full .entry)) (now (epochs .entry)) (getD (now (latest .entry)) z 0) ⌝ }
     ensures rest { λ _. ⌜ now (latest .exit) ≡ set (now (latest .entry)) z (getD (now (earlier .entry)) (getD (now (latest .entry)) z 0) 0) ⌝ }
@@ -241,8 +241,8 @@ fn lower(full: &[u32], epochs: &mut [u32], cut: usize)
     requires { ⌜ Sized (now full) cut × (length (now epochs) ≡ 64) ⌝ }
     ensures { λ _. ⌜ Lowered (now (full .entry)) cut (now (epochs .entry)) (now (epochs .exit)) ⌝ }
 {
-    let mut earlier = [0u32; 2049];
-    let mut latest = [0u32; 64];
+    let mut earlier = [0u16; 2049];
+    let mut latest = [0u16; 64];
     link(full, cut, &mut earlier, &mut latest);
     let mut z = lowest(full, epochs, &latest);
     while z < 64 {
@@ -251,21 +251,34 @@ fn lower(full: &[u32], epochs: &mut [u32], cut: usize)
     }
 }
 
-// The greatest permitted line without a lost message, for a failure of a set of processes right after event `cut`.
+// The greatest permitted line without a lost message, for a failure of a set of processes right after event `cut`, from the epochs at the
+// cut: a caller that has them does not compute them again.
+pub fn greatest_from(full: &[u32], epochs: [u32; 64], cut: usize, set: u64) -> Line
+    requires { ⌜ ((t : Trace) × Tabled t (now full) × (cut ≤ size t)) ⌝ }
+    ensures line { λ r. ⌜ ((t : Trace) → Tabled t (now (full .entry)) → cut ≤ size t → epochs ≡ wordsFrom (each t (current t past cut)) 0 64
+        → r ≡ lineTo t (greatestLine t past cut (reached t past cut) (inSet set))) ⌝ }
+    ensures means { λ r. ⌜ ((t : Trace) → Tabled t (now (full .entry)) → cut ≤ size t → epochs ≡ wordsFrom (each t (current t past cut)) 0 64
+        → Greatest t past cut (reached t past cut) (inSet set) (lineIn r)) ⌝ }
+{
+    let count = processes(full);
+    let mut numbers = epochs;
+    first_line(&mut numbers, count, set);
+    lower(full, &mut numbers, cut);
+    Line {
+        epochs: numbers,
+        count: count,
+    }
+}
+
+// The same from the table alone.
 pub fn greatest(full: &[u32], cut: usize, set: u64) -> Line
     requires { ⌜ ((t : Trace) × Tabled t (now full) × (cut ≤ size t)) ⌝ }
     ensures line { λ r. ⌜ ((t : Trace) → Tabled t (now (full .entry)) → cut ≤ size t → r ≡ lineTo t (greatestLine t past cut (reached t past cut) (inSet set))) ⌝ }
     ensures means { λ r. ⌜ ((t : Trace) → Tabled t (now (full .entry)) → cut ≤ size t → Greatest t past cut (reached t past cut) (inSet set) (lineIn r)) ⌝ }
 {
-    let count = processes(full);
     let mut epochs = [0u32; 64];
     epochs_at(full, cut, &mut epochs);
-    first_line(&mut epochs, count, set);
-    lower(full, &mut epochs, cut);
-    Line {
-        epochs: epochs,
-        count: count,
-    }
+    greatest_from(full, epochs, cut, set)
 }
 
 // Does process z stay.
@@ -449,6 +462,25 @@ fn permitted(epochs: &[u32], numbers: &[u32], count: usize, set: u64) -> bool
     all
 }
 
+// What is wrong with a line, for a failure that nothing is wrong with: 10, or 0.
+pub fn numbers_fault(full: &[u32], cut: usize, set: u64, line: Line) -> u32
+    requires { ⌜ ((t : Trace) × Tabled t (now full) × (cut ≤ size t)) ⌝ }
+    ensures { λ r. ⌜ ((t : Trace) → Tabled t (now (full .entry)) → failureFault t cut set ≡ 0 → r ≡ lineFault t cut set (line .count) (lineIn line)) ⌝ }
+{
+    let count = processes(full);
+    if line.count != count {
+        return 10;
+    }
+    let mut epochs = [0u32; 64];
+    epochs_at(full, cut, &mut epochs);
+    let numbers = line.epochs;
+    if permitted(&epochs, &numbers, count, set) {
+        0
+    } else {
+        10
+    }
+}
+
 // What is wrong with a failure and a line: 8, 9, 10, or 0.
 pub fn line_fault(full: &[u32], step: u64, set: u64, line: Line) -> u32
     requires { ⌜ ((t : Trace) × Tabled t (now full)) ⌝ }
@@ -458,18 +490,7 @@ pub fn line_fault(full: &[u32], step: u64, set: u64, line: Line) -> u32
     if f != 0 {
         return f;
     }
-    let count = processes(full);
-    if line.count != count {
-        return 10;
-    }
-    let mut epochs = [0u32; 64];
-    epochs_at(full, step as usize, &mut epochs);
-    let numbers = line.epochs;
-    if permitted(&epochs, &numbers, count, set) {
-        0
-    } else {
-        10
-    }
+    numbers_fault(full, step as usize, set, line)
 }
 
 // The set of the processes not at 32, from the highest down.

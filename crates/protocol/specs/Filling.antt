@@ -108,12 +108,12 @@ pub record Working (t : Trace) (x : ℕ) (work : List ℕ) : Type 0 where
   pub next : (p q d : ℕ) → sends t p q d ≡ true → 0 < d → d ≤ x
       → getD work (nextBase + d) 0 ≡ pick (ltb (sent t p q d) (sent t p q x)) (sendOf t p q (suc (sent t p q d))) 0
 
--- the words that an event reads are in their range, so that no index is past its end and no sum wraps
+-- the words that an event reads are in their range, so that no index is past its end, no sum wraps and 16 bits are enough
 abbrev pub Notable : List ℕ → List ℕ → Event → Type 0
 Notable full work (Send a b v) =
     (a < 64) × (b < 64) × (getD work (latestBase + (64 * a + b)) 0 ≤ 2048) × (getD full (numberBase + getD work (latestBase + (64 * a + b)) 0) 0 < 4294967295)
-Notable full work (Recv a b) = (a < 64) × (b < 64) × (oldestOf work a b ≤ 2048) × (getD full (phaseBase + oldestOf work a b) 0 < 4294967295)
-Notable full work (Save a) = (a < 64) × (getD work a 0 < 4294967295) × (getD work (phasesBase + a) 0 < 4294967295)
+Notable full work (Recv a b) = (a < 64) × (b < 64) × (oldestOf work a b ≤ 2048) × (getD full (phaseBase + oldestOf work a b) 0 < 65535)
+Notable full work (Save a) = (a < 64) × (getD work a 0 < 65535) × (getD work (phasesBase + a) 0 < 65535)
 
 -- both tables have their sizes, and the event its place in them
 abbrev pub Sized : List ℕ → List ℕ → ℕ → Type 0

@@ -27,7 +27,8 @@ pub const PHASE_BASE: usize = 10261;
 
 pub const MATCH_BASE: usize = 12310;
 
-// Where the working words begin: each process's phase, each channel's oldest and latest send, each send's next on its channel.
+// Where the working words begin: each process's phase, each channel's oldest and latest send, each send's next on its channel. They have
+// 16 bits, so that they take less to clear.
 const PHASES: usize = 64;
 
 const OLDEST: usize = 128;
@@ -39,7 +40,7 @@ const NEXT: usize = 8320;
 const WORK_WORDS: usize = 10369;
 
 // A word that is an event's number, as an index.
-fn event_no(words: &[u32], k: usize) -> usize
+fn event_no(words: &[u16], k: usize) -> usize
     requires { ⌜ (k < length (now words)) × (getD (now words) k 0 ≤ 2048) ⌝ }
     ensures { λ r. ⌜ (r ≡ getD (now (words .entry)) k 0) × (r ≤ 2048) ⌝ }
 {
@@ -57,21 +58,21 @@ fn store(full: &mut [u32], e: usize, number: u32, epoch: u32, phase: u32, mate: 
     full[MATCH_BASE + e] = mate;
 }
 
-fn or_new(old: u32, e: u32) -> u32
+fn or_new(old: u16, e: u16) -> u16
     ensures { λ r. ⌜ r ≡ orNew old e ⌝ }
 {
     if old == 0 { e } else { old }
 }
 
-fn larger(a: u32, b: u32) -> u32
+fn larger(a: u16, b: u16) -> u16
     ensures { λ r. ⌜ r ≡ max a b ⌝ }
 {
     if a < b { b } else { a }
 }
 
 // The phase after a receive: a message sent in an epoch before the receive's is logged, and counts one more.
-fn joined_phase(sent: u32, received: u32, own: u32, carried: u32) -> u32
-    requires { ⌜ carried < 4294967295 ⌝ }
+fn joined_phase(sent: u32, received: u32, own: u16, carried: u16) -> u16
+    requires { ⌜ carried < 65535 ⌝ }
     ensures { λ r. ⌜ r ≡ joined (ltb sent received) own carried ⌝ }
 {
     if sent < received {
@@ -82,24 +83,24 @@ fn joined_phase(sent: u32, received: u32, own: u32, carried: u32) -> u32
 }
 
 // Event e, a send of a to b.
-fn note_send(full: &mut [u32], work: &mut [u32], e: usize, a: usize, b: usize)
+fn note_send(full: &mut [u32], work: &mut [u16], e: usize, a: usize, b: usize)
     requires { ⌜ Sized (now full) (now work) e × Notable (now full) (now work) (Send a b 0) ⌝ }
     ensures columns { λ _. ⌜ now (full .exit) ≡ sendFull (now (full .entry)) (now (work .entry)) e a b ⌝ }
     ensures working { λ _. ⌜ now (work .exit) ≡ sendWork (now (work .entry)) e a b ⌝ }
 {
     let c = 64 * a + b;
     let latest = event_no(work, LATEST + c);
-    let oldest = or_new(work[OLDEST + c], e as u32);
+    let oldest = or_new(work[OLDEST + c], e as u16);
     let number = full[NUMBER_BASE + latest] + 1;
-    store(full, e, number, work[a], work[PHASES + a], 0);
-    work[NEXT + latest] = e as u32;
+    store(full, e, number, work[a] as u32, work[PHASES + a] as u32, 0);
+    work[NEXT + latest] = e as u16;
     work[NEXT + e] = 0;
-    work[LATEST + c] = e as u32;
+    work[LATEST + c] = e as u16;
     work[OLDEST + c] = oldest;
 }
 
 // Event e, a receive of a from b: the channel's oldest send d is matched with it.
-fn note_recv(full: &mut [u32], work: &mut [u32], e: usize, a: usize, b: usize)
+fn note_recv(full: &mut [u32], work: &mut [u16], e: usize, a: usize, b: usize)
     requires { ⌜ Sized (now full) (now work) e × Notable (now full) (now work) (Recv a b) ⌝ }
     ensures columns { λ _. ⌜ now (full .exit) ≡ recvFull (now (full .entry)) (now (work .entry)) e (oldestOf (now (work .entry)) a b) a ⌝ }
     ensures working { λ _. ⌜ now (work .exit) ≡ recvWork (now (full .entry)) (now (work .entry)) (oldestOf (now (work .entry)) a b) a b ⌝ }
@@ -107,34 +108,35 @@ fn note_recv(full: &mut [u32], work: &mut [u32], e: usize, a: usize, b: usize)
     let c = 64 * b + a;
     let d = event_no(work, OLDEST + c);
     let next = work[NEXT + d];
+    let epoch = work[a] as u32;
     let phase = joined_phase(
         full[EPOCH_BASE + d],
-        work[a],
+        epoch,
         work[PHASES + a],
-        full[PHASE_BASE + d],
+        full[PHASE_BASE + d] as u16,
     );
     let number = full[NUMBER_BASE + d];
-    store(full, e, number, work[a], phase, d as u32);
+    store(full, e, number, epoch, phase as u32, d as u32);
     full[MATCH_BASE + d] = e as u32;
     work[PHASES + a] = phase;
     work[OLDEST + c] = next;
 }
 
 // Event e, a checkpoint of a.
-fn note_save(full: &mut [u32], work: &mut [u32], e: usize, a: usize)
+fn note_save(full: &mut [u32], work: &mut [u16], e: usize, a: usize)
     requires { ⌜ Sized (now full) (now work) e × Notable (now full) (now work) (Save a) ⌝ }
     ensures columns { λ _. ⌜ now (full .exit) ≡ saveFull (now (full .entry)) (now (work .entry)) e a ⌝ }
     ensures working { λ _. ⌜ now (work .exit) ≡ saveWork (now (work .entry)) a ⌝ }
 {
     let epoch = work[a] + 1;
     let phase = work[PHASES + a] + 1;
-    store(full, e, 0, epoch, phase, 0);
+    store(full, e, 0, epoch as u32, phase as u32, 0);
     work[a] = epoch;
     work[PHASES + a] = phase;
 }
 
 // Event e, by its kind.
-fn note(full: &mut [u32], work: &mut [u32], e: usize, event: Event)
+fn note(full: &mut [u32], work: &mut [u16], e: usize, event: Event)
     requires { ⌜ Sized (now full) (now work) e × Notable (now full) (now work) event ⌝ }
     ensures columns { λ _. ⌜ now (full .exit) ≡ noteFull (now (full .entry)) (now (work .entry)) e event ⌝ }
     ensures working { λ _. ⌜ now (work .exit) ≡ noteWork (now (full .entry)) (now (work .entry)) e event ⌝ }
@@ -159,7 +161,7 @@ fn copy(area: &[u32], full: &mut [u32], n: usize)
 }
 
 // Every process begins with epoch 1 and phase 1.
-fn begin(work: &mut [u32])
+fn begin(work: &mut [u16])
     requires { ⌜ 128 ≤ length (now work) ⌝ }
     ensures first { λ _. ⌜ ((k : ℕ) → k < 128 → getD (now (work .exit)) k 0 ≡ 1) ⌝ }
     ensures others { λ _. ⌜ ((k : ℕ) → 128 ≤ k → getD (now (work .exit)) k 0 ≡ getD (now (work .entry)) k 0) ⌝ }
@@ -172,7 +174,7 @@ fn begin(work: &mut [u32])
 }
 
 // Notes every event of the trace that an area holds.
-fn fill(area: &[u32], full: &mut [u32], work: &mut [u32])
+fn fill(area: &[u32], full: &mut [u32], work: &mut [u16])
     requires { ⌜ (holdsTrace (now area) ≡ true) × Filled (held (now area)) 0 (now full) × Working (held (now area)) 0 (now work) ⌝ }
     ensures { λ _. ⌜ Columns (held (now (area .entry))) (now (full .exit)) ⌝ }
 {
@@ -202,7 +204,7 @@ pub fn tabulate(area: &[u32], full: &mut [u32]) -> bool
     if table::holds_trace(area) {
         copy(area, full, NUMBER_BASE);
         full[NUMBER_BASE] = 0;
-        let mut work = [0u32; WORK_WORDS];
+        let mut work = [0u16; WORK_WORDS];
         begin(&mut work);
         fill(area, full, &mut work);
         true

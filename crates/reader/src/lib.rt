@@ -184,7 +184,7 @@ fn first_line(line: &[u8]) -> Line
 }
 
 // What is wrong with an event after n others.
-fn fault(counts: &[u32], procs: u64, n: usize, e: Event) -> u32
+fn fault(counts: &[u16], procs: u64, n: usize, e: Event) -> u32
     requires { ⌜ (procs ≤ 64) × (length (now counts) ≡ 4160) ⌝ }
     ensures { λ r. ⌜ ((es : List Event) → Tally (now (counts .entry)) es → n ≡ length es → r ≡ faultHere (record { procs = procs; events = es }) e) ⌝ }
 {
@@ -194,7 +194,7 @@ fn fault(counts: &[u32], procs: u64, n: usize, e: Event) -> u32
     trace::fault(counts, procs, e)
 }
 
-fn judge_event(counts: &[u32], procs: u64, n: usize, e: Event) -> Judged
+fn judge_event(counts: &[u16], procs: u64, n: usize, e: Event) -> Judged
     requires { ⌜ (procs ≤ 64) × (length (now counts) ≡ 4160) ⌝ }
     ensures { λ r. ⌜ ((es : List Event) → Tally (now (counts .entry)) es → n ≡ length es → r ≡ judgeEvent (record { procs = procs; events = es }) e) ⌝ }
 {
@@ -207,7 +207,7 @@ fn judge_event(counts: &[u32], procs: u64, n: usize, e: Event) -> Judged
 }
 
 // A line after the first, where n events stand before it.
-fn judge_line(counts: &[u32], procs: u64, n: usize, line: Line) -> Judged
+fn judge_line(counts: &[u16], procs: u64, n: usize, line: Line) -> Judged
     requires { ⌜ (procs ≤ 64) × (length (now counts) ≡ 4160) ⌝ }
     ensures { λ r. ⌜ ((es : List Event) → Tally (now (counts .entry)) es → n ≡ length es → r ≡ judge (record { procs = procs; events = es }) line) ⌝ }
 {
@@ -256,7 +256,7 @@ fn read_events(
     from: usize,
     procs: u64,
     table: &mut [u32],
-    counts: &mut [u32],
+    counts: &mut [u16],
 ) -> Scanned
     requires { ⌜ (procs ≤ 64) × (from ≤ length (now text)) × Holds (now table) (record { procs = procs; events = [] }) × Tally (now counts) [] ⌝ }
     ensures { λ r. ⌜ Outcome (now (text .entry)) (linesFrom (record { procs = procs; events = [] }) 2 (pieces (drop from (now (text .entry))))) r (now (table .exit)) ⌝ }
@@ -299,7 +299,7 @@ fn scan_text(text: &[u8], table: &mut [u32]) -> Scanned
     }
     words::zero(table);
     table[0] = n as u32;
-    let mut counts = [0u32; trace::COUNTS];
+    let mut counts = [0u16; trace::COUNTS];
     read_events(text, end + 1, n, table, &mut counts)
 }
 

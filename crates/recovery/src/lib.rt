@@ -70,7 +70,7 @@ fn prepare(
     if failure != 0 {
         return failure;
     }
-    let fault = line::line_fault(full, step, set, line);
+    let fault = line::numbers_fault(full, step as usize, set, line);
     if fault == 0 {
         line::gates(full, line, step as usize, gates);
     }
@@ -218,9 +218,9 @@ fn restart_from(full: &[u32], cut: usize, set: u64) -> Restarted
     ensures answer { λ r. ⌜ ((t : Trace) → Tabled t (now (full .entry)) → cut ≤ size t → r ≡ restartOf t cut set) ⌝ }
     ensures means { λ r. ⌜ ((t : Trace) → Tabled t (now (full .entry)) → cut ≤ size t → Restarts t cut set r) ⌝ }
 {
-    let line = line::greatest(full, cut, set);
     let mut epochs = [0u32; 64];
     line::epochs_at(full, cut, &mut epochs);
+    let line = line::greatest_from(full, epochs, cut, set);
     let mut places = [0u32; line::GATE_WORDS];
     line::restarts(full, line, cut, &mut places);
     let mut phases = [0u32; 64];

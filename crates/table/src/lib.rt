@@ -54,7 +54,7 @@ fn events_fit(area: &[u32], procs: u64, n: usize) -> bool
     requires { ⌜ (procs ≤ 64) × (n ≤ 2048) × (areaWords ≤ length (now area)) ⌝ }
     ensures { λ r. ⌜ r ≡ fitFrom procs [] (now (area .entry)) 1 n ⌝ }
 {
-    let mut counts = [0u32; trace::COUNTS];
+    let mut counts = [0u16; trace::COUNTS];
     let mut i: usize = 1;
     while i <= n {
         let w = area[EVENT_BASE + i];

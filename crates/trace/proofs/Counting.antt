@@ -98,7 +98,7 @@ module _ (n : ℕ) (es : List Event) (counts : List ℕ) (small : n ≤ 64) (t :
 
 -- a fit event's counter is there and can be moved
 module _ (counts : List ℕ) where
-  pub send-next : (a b v : ℕ) → Next counts (Send a b v) → ((a < 64) × (b < 64)) × ((64 * a + b < length counts) × (getD counts (64 * a + b) 0 < 4294967295))
+  pub send-next : (a b v : ℕ) → Next counts (Send a b v) → ((a < 64) × (b < 64)) × ((64 * a + b < length counts) × (getD counts (64 * a + b) 0 < 65535))
   send-next a b v x =
       let t = x .tally in
       let s = send-fit (x .procs) (x .events) a b v (x .fit) in
@@ -113,7 +113,7 @@ module _ (counts : List ℕ) where
       let m = x .procs-most in
       ((omega arith, omega arith), (omega (arith, t .size), omega (arith, t .transit b a (omega arith) (omega arith))))
 
-  pub save-next : (a : ℕ) → Next counts (Save a) → (a < 64) × ((4096 + a < length counts) × (getD counts (4096 + a) 0 < 4294967295))
+  pub save-next : (a : ℕ) → Next counts (Save a) → (a < 64) × ((4096 + a < length counts) × (getD counts (4096 + a) 0 < 65535))
   save-next a x =
       let t = x .tally in
       let s = save-fit (x .procs) (x .events) a (x .fit) in

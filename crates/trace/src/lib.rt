@@ -43,7 +43,8 @@ pub fn value(e: Event) -> u32
     }
 }
 
-// How many counters there are: messages in transit, a word for each channel, then checkpoints, a word for each process.
+// How many counters there are: messages in transit, a word for each channel, then checkpoints, a word for each process. Counters have 16
+// bits, so that they take less to clear.
 pub const COUNTS: usize = 4160;
 
 const SAVES_BASE: usize = 4096;
@@ -73,7 +74,7 @@ fn pair_fault(procs: u64, at: u64, peer: u64) -> u32
 }
 
 // What is wrong with a receive: 5 where nothing is in transit.
-fn recv_fault(counts: &[u32], procs: u64, at: u64, from: u64) -> u32
+fn recv_fault(counts: &[u16], procs: u64, at: u64, from: u64) -> u32
     requires { ⌜ (procs ≤ 64) × (length (now counts) ≡ 4160) ⌝ }
     ensures { λ r. ⌜ r ≡ faultBy procs (now (counts .entry)) (Recv at from) ⌝ }
 {
@@ -88,7 +89,7 @@ fn recv_fault(counts: &[u32], procs: u64, at: u64, from: u64) -> u32
 }
 
 // What is wrong with a checkpoint: 6 where it is the process's 31st.
-fn save_fault(counts: &[u32], procs: u64, at: u64) -> u32
+fn save_fault(counts: &[u16], procs: u64, at: u64) -> u32
     requires { ⌜ (procs ≤ 64) × (length (now counts) ≡ 4160) ⌝ }
     ensures { λ r. ⌜ r ≡ faultBy procs (now (counts .entry)) (Save at) ⌝ }
 {
@@ -102,7 +103,7 @@ fn save_fault(counts: &[u32], procs: u64, at: u64) -> u32
 }
 
 // What is wrong with an event after those that were counted: 3, 4, 5 or 6, or 0 (proofs/Faults: `fault-counted`).
-pub fn fault(counts: &[u32], procs: u64, e: Event) -> u32
+pub fn fault(counts: &[u16], procs: u64, e: Event) -> u32
     requires { ⌜ (procs ≤ 64) × (length (now counts) ≡ 4160) ⌝ }
     ensures { λ r. ⌜ r ≡ faultBy procs (now (counts .entry)) e ⌝ }
 {
@@ -113,14 +114,14 @@ pub fn fault(counts: &[u32], procs: u64, e: Event) -> u32
     }
 }
 
-fn raise(counts: &mut [u32], c: usize)
-    requires { ⌜ (c < length (now counts)) × (getD (now counts) c 0 < 4294967295) ⌝ }
+fn raise(counts: &mut [u16], c: usize)
+    requires { ⌜ (c < length (now counts)) × (getD (now counts) c 0 < 65535) ⌝ }
     ensures { λ _. ⌜ now (counts .exit) ≡ set (now (counts .entry)) c (getD (now (counts .entry)) c 0 + 1) ⌝ }
 {
     counts[c] += 1;
 }
 
-fn lower(counts: &mut [u32], c: usize)
+fn lower(counts: &mut [u16], c: usize)
     requires { ⌜ (c < length (now counts)) × (0 < getD (now counts) c 0) ⌝ }
     ensures { λ _. ⌜ now (counts .exit) ≡ set (now (counts .entry)) c (getD (now (counts .entry)) c 0 - 1) ⌝ }
 {
@@ -128,7 +129,7 @@ fn lower(counts: &mut [u32], c: usize)
 }
 
 // Counts an event.
-pub fn tally(counts: &mut [u32], e: Event)
+pub fn tally(counts: &mut [u16], e: Event)
     requires { ⌜ Next (now counts) e ⌝ }
     ensures { λ _. ⌜ now (counts .exit) ≡ tallied (now (counts .entry)) e ⌝ }
 {
