@@ -2,8 +2,8 @@
 // answers that of the next; a full buffer takes no more (specs/Buffer). Assumes nothing.
 ghost use mathlib.Core.Path.{_≡_};
 ghost use mathlib.Core.List.{[], _∷_, _++_};
-ghost use Prim.Native.Nat.{_≤_};
-ghost use lib.ListN.{length, drop};
+ghost use Prim.Native.Nat.{_+_, _/_, _%_, _<_, _≤_};
+ghost use lib.ListN.{length};
 ghost use Rattle.text.specs.Number.{decimal};
 ghost use Rattle.writer.specs.Buffer.{Puts};
 
@@ -17,42 +17,77 @@ fn put(out: &mut [u8], at: usize, b: u8) -> usize
     at
 }
 
-pub fn put_bytes(out: &mut [u8], at: usize, bytes: &[u8]) -> usize
+// Bytes that all have room.
+fn copy(out: &mut [u8], at: usize, bytes: &[u8]) -> usize
+    requires { ⌜ at + length (now bytes) ≤ length (now out) ⌝ }
+    ensures { λ r. ⌜ Puts (now (bytes .entry)) (now (out .entry)) at (now (out .exit)) r ⌝ }
+{
+    let mut i: usize = 0;
+    while i < bytes.len() {
+        out[at + i] = bytes[i];
+        i += 1;
+    }
+    at + i
+}
+
+// Bytes of which perhaps not all have room.
+fn put_each(out: &mut [u8], at: usize, bytes: &[u8]) -> usize
     ensures { λ r. ⌜ Puts (now (bytes .entry)) (now (out .entry)) at (now (out .exit)) r ⌝ }
 {
     let mut next = at;
-    let mut i: usize = 0;
-    while i < bytes.len() {
-        next = put(out, next, bytes[i]);
-        i += 1;
+    let mut k: usize = 0;
+    while k < bytes.len() {
+        next = put(out, next, bytes[k]);
+        k += 1;
     }
     next
 }
 
-// The digits of a number stand at the end of `digits`, from the place answered on: 20 hold every number of 64 bits.
-fn digits_of(n: u64, digits: &mut [u8]) -> usize
-    requires { ⌜ length (now digits) ≡ 20 ⌝ }
-    ensures { λ r. ⌜ (r ≤ 20) × (drop r (now (digits .exit)) ≡ decimal n) ⌝ }
+// Where all bytes have room, one test serves for all of them.
+pub fn put_bytes(out: &mut [u8], at: usize, bytes: &[u8]) -> usize
+    ensures { λ r. ⌜ Puts (now (bytes .entry)) (now (out .entry)) at (now (out .exit)) r ⌝ }
 {
-    let mut v = n;
-    let mut i: usize = 20;
-    while i > 0 {
-        i -= 1;
-        digits[i] = (48 + v % 10) as u8;
-        if v < 10 {
-            return i;
+    if at <= out.len() {
+        if bytes.len() <= out.len() - at {
+            return copy(out, at, bytes);
         }
-        v = v / 10;
     }
-    i
+    put_each(out, at, bytes)
 }
 
+// The digit of a number below 10.
+fn put_digit(out: &mut [u8], at: usize, n: u64) -> usize
+    requires { ⌜ n < 10 ⌝ }
+    ensures { λ r. ⌜ Puts ((48 + n) ∷ []) (now (out .entry)) at (now (out .exit)) r ⌝ }
+{
+    put(out, at, (48 + n) as u8)
+}
+
+// The last two digits of a number, a 0 in front where it has but one.
+fn put_two(out: &mut [u8], at: usize, n: u64) -> usize
+    ensures { λ r. ⌜ Puts ((48 + n / 10 % 10) ∷ (48 + n % 10) ∷ []) (now (out .entry)) at (now (out .exit)) r ⌝ }
+{
+    let next = put_digit(out, at, n / 10 % 10);
+    put_digit(out, next, n % 10)
+}
+
+// The digits before the last two are those of the number's hundredth. Most numbers of a report are below 1,000: these need no call of
+// itself.
 pub fn put_number(out: &mut [u8], at: usize, n: u64) -> usize
     ensures { λ r. ⌜ Puts (decimal n) (now (out .entry)) at (now (out .exit)) r ⌝ }
 {
-    let mut digits = [0u8; 20];
-    let first = digits_of(n, &mut digits);
-    put_bytes(out, at, &digits[first..])
+    if n < 10 {
+        return put_digit(out, at, n);
+    }
+    if n < 100 {
+        return put_two(out, at, n);
+    }
+    if n < 1000 {
+        let first = put_digit(out, at, n / 100);
+        return put_two(out, first, n);
+    }
+    let next = put_number(out, at, n / 100);
+    put_two(out, next, n)
 }
 
 // A key and its number.
