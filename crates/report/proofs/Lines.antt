@@ -45,9 +45,8 @@ pub process-keys : (k l m n : List ℕ) (z epoch restart phase : ℕ) → k ≡ 
 unfolding rowBytes processLine
 process-keys k l m n z epoch restart phase hk hl hm hn = rw (hk, hl, hm, hn)
 
-pub key-put : (kept b : Bool) (from at next : ℕ) (k out after : List ℕ) → kept ≡ b → k ≡ messageKey b → Puts (k ++ decimal from) out at after next
-    → Puts (messageKey kept ++ decimal from) out at after next
-key-put kept b from at next k out after e hk h = rw (e, ← hk) h
+pub key-put : (kept b : Bool) (at next : ℕ) (k out after : List ℕ) → kept ≡ b → k ≡ messageKey b → Puts k out at after next → Puts (messageKey kept) out at after next
+key-put kept b at next k out after e hk h = rw (e, ← hk) h
 
 pub message-keys : (k l m n : List ℕ) (w number phase : ℕ) → l ≡ bytesOf " to=" → m ≡ bytesOf " no=" → n ≡ bytesOf " phase="
     → rowBytes k (w % 64) l (w / 64 % 64) m number n phase ≡ wordsRow k w number phase

@@ -1,11 +1,9 @@
 // The report on a text that ends with a failure line: read, recovered and printed into a lent buffer, byte for byte by specs/Report. Assumes
 // nothing.
 ghost use mathlib.Core.Path.{_≡_};
-ghost use mathlib.Core.List.{_++_};
 ghost use Prim.Native.Nat.{_+_, _≤_};
 ghost use lib.ListN.{length};
 ghost use Rattle.words.specs.Area.{areaWords};
-ghost use Rattle.text.specs.Number.{decimal};
 ghost use Rattle.theory.specs.Answers.{gather};
 ghost use Rattle.writer.specs.Buffer.{Puts, room, written};
 ghost use Rattle.report.specs.Report.{processLine, totalLine, refusalLine, printed, reportBytes};
@@ -59,14 +57,14 @@ const ROW_NUMBER_BASE: usize = 2065;
 
 const ROW_PHASE_BASE: usize = 4114;
 
-// The first pair of a message's line: its key says whether the message is kept or an orphan.
-fn put_from(out: &mut [u8], at: usize, kept: bool, from: u64) -> usize
-    ensures { λ r. ⌜ Puts (messageKey kept ++ decimal from) (now (out .entry)) at (now (out .exit)) r ⌝ }
+// The first key of a message's line.
+fn put_key(out: &mut [u8], at: usize, kept: bool) -> usize
+    ensures { λ r. ⌜ Puts (messageKey kept) (now (out .entry)) at (now (out .exit)) r ⌝ }
 {
     if kept {
-        return writer::put_pair(out, at, b"out=kept from=", from);
+        return writer::put_bytes(out, at, b"out=kept from=");
     }
-    writer::put_pair(out, at, b"out=orphan from=", from)
+    writer::put_bytes(out, at, b"out=orphan from=")
 }
 
 // The line of a message, kept or an orphan, from its three words.
@@ -75,7 +73,8 @@ fn put_message(out: &mut [u8], at: usize, kept: bool, w: u32, number: u32, phase
 {
     let from = w % 64;
     let to = w / 64 % 64;
-    let to_to = put_from(out, at, kept, from as u64);
+    let to_from = put_key(out, at, kept);
+    let to_to = writer::put_number(out, to_from, from as u64);
     let to_number = writer::put_pair(out, to_to, b" to=", to as u64);
     let to_phase = writer::put_pair(out, to_number, b" no=", number as u64);
     let end = writer::put_pair(out, to_phase, b" phase=", phase as u64);

@@ -3,7 +3,7 @@
 ghost use mathlib.Core.Path.{_≡_};
 ghost use mathlib.Core.List.{[], _∷_, _++_};
 ghost use Prim.Native.Nat.{_+_, _/_, _%_, _<_, _≤_};
-ghost use lib.ListN.{length};
+ghost use lib.ListN.{length, drop};
 ghost use Rattle.text.specs.Number.{decimal};
 ghost use Rattle.writer.specs.Buffer.{Puts};
 
@@ -71,8 +71,34 @@ fn put_two(out: &mut [u8], at: usize, n: u64) -> usize
     put_digit(out, next, n % 10)
 }
 
-// The digits before the last two are those of the number's hundredth. Most numbers of a report are below 1,000: these need no call of
-// itself.
+// The digits of a number stand at the end of `digits`, from the place answered on: 20 hold every number of 64 bits.
+fn digits_of(n: u64, digits: &mut [u8]) -> usize
+    requires { ⌜ length (now digits) ≡ 20 ⌝ }
+    ensures { λ r. ⌜ (r ≤ 20) × (drop r (now (digits .exit)) ≡ decimal n) ⌝ }
+{
+    let mut v = n;
+    let mut i: usize = 20;
+    while i > 0 {
+        i -= 1;
+        digits[i] = (48 + v % 10) as u8;
+        if v < 10 {
+            return i;
+        }
+        v = v / 10;
+    }
+    i
+}
+
+// A number of any length.
+fn put_long(out: &mut [u8], at: usize, n: u64) -> usize
+    ensures { λ r. ⌜ Puts (decimal n) (now (out .entry)) at (now (out .exit)) r ⌝ }
+{
+    let mut digits = [0u8; 20];
+    let first = digits_of(n, &mut digits);
+    put_bytes(out, at, &digits[first..])
+}
+
+// Most numbers of a report are below 1,000: their digits go straight into the buffer.
 pub fn put_number(out: &mut [u8], at: usize, n: u64) -> usize
     ensures { λ r. ⌜ Puts (decimal n) (now (out .entry)) at (now (out .exit)) r ⌝ }
 {
@@ -83,11 +109,10 @@ pub fn put_number(out: &mut [u8], at: usize, n: u64) -> usize
         return put_two(out, at, n);
     }
     if n < 1000 {
-        let first = put_digit(out, at, n / 100);
-        return put_two(out, first, n);
+        let next = put_digit(out, at, n / 100);
+        return put_two(out, next, n);
     }
-    let next = put_number(out, at, n / 100);
-    put_two(out, next, n)
+    put_long(out, at, n)
 }
 
 // A key and its number.
