@@ -1,6 +1,7 @@
 -- Lines written one after another: what a loop has after each, what the keys of a line are, and a whole report.
 use Prim.Native.Nat.{ℕ, _+_, _/_, _%_}
 use mathlib.Core.Path.{_≡_}
+use mathlib.Core.Bool.{Bool}
 use mathlib.Core.List.{List, [], _∷_, _++_}
 use native.Mathlib.Omega.{arith}
 use native.Mathlib.Numerals.{add-one}
@@ -12,7 +13,7 @@ use Rattle.writer.specs.Buffer.{Puts}
 use Rattle.writer.proofs.Buffers.{none, then}
 use Rattle.report.specs.Bytes.{bytesOf}
 use Rattle.report.specs.Report.{processLine, refusalLine, totalLine, keyOrphan, keyKept}
-use Rattle.report.specs.Rows.{rowBytes, processRow, wordsRow, messageRow, recoveryRows}
+use Rattle.report.specs.Rows.{rowBytes, processRow, messageKey, wordsRow, messageRow, recoveryRows}
 
 -- four keys with their numbers, and the end of the line
 pub row-put : (k l m n o₀ o₁ o₂ o₃ o₄ o₅ : List ℕ) (a b c d p₀ p₁ p₂ p₃ p₄ p₅ : ℕ)
@@ -39,27 +40,32 @@ lines-next f z before out after at next end g h = rw (add-one z) (then (gather f
 
 -- ---- The keys
 
-pub process-keys : (k l m n : List ℕ) (z epoch restart phase e r p : ℕ) → k ≡ bytesOf "out=proc at=" → l ≡ bytesOf " epoch=" → m ≡ bytesOf " restart="
-    → n ≡ bytesOf " phase=" → e ≡ epoch → r ≡ restart → p ≡ phase → rowBytes k z l e m r n p ≡ processLine z epoch restart phase
+pub process-keys : (k l m n : List ℕ) (z epoch restart phase : ℕ) → k ≡ bytesOf "out=proc at=" → l ≡ bytesOf " epoch=" → m ≡ bytesOf " restart="
+    → n ≡ bytesOf " phase=" → rowBytes k z l epoch m restart n phase ≡ processLine z epoch restart phase
 unfolding rowBytes processLine
-process-keys k l m n z epoch restart phase e r p hk hl hm hn he hr hp = rw (hk, hl, hm, hn, he, hr, hp)
+process-keys k l m n z epoch restart phase hk hl hm hn = rw (hk, hl, hm, hn)
+
+pub key-put : (kept b : Bool) (at next : ℕ) (k out after : List ℕ) → kept ≡ b → k ≡ messageKey b → Puts k out at after next → Puts (messageKey kept) out at after next
+key-put kept b at next k out after e hk h = rw (e, ← hk) h
+
+pub message-keys : (k l m n : List ℕ) (w number phase : ℕ) → l ≡ bytesOf " to=" → m ≡ bytesOf " no=" → n ≡ bytesOf " phase="
+    → rowBytes k (w % 64) l (w / 64 % 64) m number n phase ≡ wordsRow k w number phase
+unfolding wordsRow
+message-keys k l m n w number phase hl hm hn = rw (hl, hm, hn)
 
 -- a message's words, as the code finds them
-pub message-keys : (k l m n run : List ℕ) (before i : ℕ) (from to number phase : ℕ) → l ≡ bytesOf " to=" → m ≡ bytesOf " no=" → n ≡ bytesOf " phase="
-    → from ≡ getD run (16 + (before + i + 1)) 0 % 64 → to ≡ getD run (16 + (before + i + 1)) 0 / 64 % 64
-    → number ≡ getD run (2065 + (before + i + 1)) 0 → phase ≡ getD run (4114 + (before + i + 1)) 0
-    → rowBytes k from l to m number n phase ≡ messageRow k run before i
-unfolding wordsRow rowBytes
-message-keys k l m n run before i from to number phase hl hm hn hf ht hr hp =
+pub message-at : (k run : List ℕ) (before i : ℕ)
+    → wordsRow k (getD run (16 + (before + i + 1)) 0) (getD run (2065 + (before + i + 1)) 0) (getD run (4114 + (before + i + 1)) 0) ≡ messageRow k run before i
+message-at k run before i =
     let w : 16 + (before + i + 1) ≡ 17 + (before + i) = omega arith in
     let r : 2065 + (before + i + 1) ≡ 2066 + (before + i) = omega arith in
     let p : 4114 + (before + i + 1) ≡ 4115 + (before + i) = omega arith in
-    rw (hl, hm, hn, hf, ht, hr, hp, w, r, p)
+    rw (w, r, p)
 
-pub total-keys : (k l m n : List ℕ) (a b c d back : ℕ) → k ≡ bytesOf "out=total back=" → l ≡ bytesOf " orphans=" → m ≡ bytesOf " kept="
-    → n ≡ bytesOf " steps=" → a ≡ back → rowBytes k a l b m c n d ≡ totalLine back b c d
+pub total-keys : (k l m n : List ℕ) (back orphans kept steps : ℕ) → k ≡ bytesOf "out=total back=" → l ≡ bytesOf " orphans=" → m ≡ bytesOf " kept="
+    → n ≡ bytesOf " steps=" → rowBytes k back l orphans m kept n steps ≡ totalLine back orphans kept steps
 unfolding rowBytes totalLine
-total-keys k l m n a b c d back hk hl hm hn ha = rw (hk, hl, hm, hn, ha)
+total-keys k l m n back orphans kept steps hk hl hm hn = rw (hk, hl, hm, hn)
 
 pub refusal-put : (k l o₀ o₁ o₂ o₃ : List ℕ) (a b p₀ p₁ p₂ p₃ : ℕ) → k ≡ bytesOf "refused=" → l ≡ bytesOf " place="
     → Puts (k ++ decimal a) o₀ p₀ o₁ p₁ → Puts (l ++ decimal b) o₁ p₁ o₂ p₂ → Puts (10 ∷ []) o₂ p₂ o₃ p₃ → Puts (refusalLine a b) o₀ p₀ o₃ p₃
@@ -71,14 +77,14 @@ refusal-put k l o₀ o₁ o₂ o₃ a b p₀ p₁ p₂ p₃ hk hl ha hb he =
 
 -- ---- The whole report of a recovery
 
-pub recovery-put : (r : Recovered) (run k₁ k₂ out o₁ o₂ o₃ o₄ : List ℕ) (p₁ p₂ p₃ p₄ : ℕ) → k₁ ≡ bytesOf keyOrphan → k₂ ≡ bytesOf keyKept
+pub recovery-put : (r : Recovered) (run out o₁ o₂ o₃ o₄ : List ℕ) (p₁ p₂ p₃ p₄ : ℕ)
     → Puts (gather (processRow (r .restarted)) (r .restarted .line .count)) out 0 o₁ p₁
-    → Puts (gather (messageRow k₁ run 0) (r .counted .orphans)) o₁ p₁ o₂ p₂
-    → Puts (gather (messageRow k₂ run (r .counted .orphans)) (r .counted .kept)) o₂ p₂ o₃ p₃
+    → Puts (gather (messageRow (bytesOf keyOrphan) run 0) (r .counted .orphans)) o₁ p₁ o₂ p₂
+    → Puts (gather (messageRow (bytesOf keyKept) run (r .counted .orphans)) (r .counted .kept)) o₂ p₂ o₃ p₃
     → Puts (totalLine (r .restarted .back) (r .counted .orphans) (r .counted .kept) (r .replayed .steps)) o₃ p₃ o₄ p₄
     → Puts (recoveryRows r run) out 0 o₄ p₄
 unfolding recoveryRows
-recovery-put r run k₁ k₂ out o₁ o₂ o₃ o₄ p₁ p₂ p₃ p₄ e₁ e₂ h₁ h₂ h₃ h₄ =
+recovery-put r run out o₁ o₂ o₃ o₄ p₁ p₂ p₃ p₄ h₁ h₂ h₃ h₄ =
     let t₂ = then _ _ out o₁ o₂ 0 p₁ p₂ h₁ h₂ in
     let t₃ = then _ _ out o₂ o₃ 0 p₂ p₃ t₂ h₃ in
-    rw (← e₁, ← e₂) (then _ _ out o₃ o₄ 0 p₃ p₄ t₃ h₄)
+    then _ _ out o₃ o₄ 0 p₃ p₄ t₃ h₄

@@ -1,8 +1,10 @@
 -- The lines of the report from the words that the code has. No public contract cites these.
+use mathlib.Core.Bool.{Bool}
 use mathlib.Core.List.{List, [], _∷_, _++_}
 use Prim.Native.Nat.{ℕ, _+_, _/_, _%_}
 use lib.ListN.{getD}
 use Rattle.text.specs.Number.{decimal}
+use Rattle.theory.specs.Lists.{pick}
 use Rattle.theory.specs.Answers.{gather}
 use Rattle.recovery.specs.declared.Restarted.{Restarted}
 use Rattle.recovery.specs.declared.Recovered.{Recovered}
@@ -16,6 +18,10 @@ rowBytes key a second b third c fourth d = key ++ decimal a ++ (second ++ decima
 -- the line of a process of an answer
 abbrev pub processRow : Restarted → ℕ → List ℕ
 processRow r z = processLine z (getD (r .epochs) z 0) (getD (r .line .epochs) z 0) (getD (r .phases) z 0)
+
+-- the first key of a message's line
+abbrev pub messageKey : Bool → List ℕ
+messageKey kept = bytesOf (pick kept keyKept keyOrphan)
 
 -- the line of a message, from its three words
 unfoldable pub wordsRow : List ℕ → ℕ → ℕ → ℕ → List ℕ

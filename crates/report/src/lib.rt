@@ -6,8 +6,8 @@ ghost use lib.ListN.{length};
 ghost use Rattle.words.specs.Area.{areaWords};
 ghost use Rattle.theory.specs.Answers.{gather};
 ghost use Rattle.writer.specs.Buffer.{Puts, room, written};
-ghost use Rattle.report.specs.Report.{refusalLine, printed, reportBytes};
-ghost use Rattle.report.specs.Rows.{rowBytes, processRow, messageRow, recoveryRows};
+ghost use Rattle.report.specs.Report.{processLine, totalLine, refusalLine, printed, reportBytes};
+ghost use Rattle.report.specs.Rows.{processRow, messageKey, wordsRow, messageRow, recoveryRows};
 use recovery::Recovered;
 use recovery::Restarted;
 use words::AREA_WORDS;
@@ -20,32 +20,16 @@ const TEXT_MOST: usize = 65536;
 
 pub const READ_BYTES: usize = TEXT_MOST + 1;
 
-// A line of four keys with their numbers.
-fn put_row(
-    out: &mut [u8],
-    at: usize,
-    key: &[u8],
-    a: u64,
-    second: &[u8],
-    b: u64,
-    third: &[u8],
-    c: u64,
-    fourth: &[u8],
-    d: u64,
-) -> usize
-    ensures { λ r. ⌜ Puts (rowBytes (now (key .entry)) a (now (second .entry)) b (now (third .entry)) c (now (fourth .entry)) d) (now (out .entry)) at (now (out .exit)) r ⌝ }
+// The line of a process. Each line has a function with its own keys, and not one that is given them, so that the compiler knows their
+// lengths.
+fn put_process(out: &mut [u8], at: usize, z: u64, epoch: u32, number: u32, phase: u32) -> usize
+    ensures { λ r. ⌜ Puts (processLine z epoch number phase) (now (out .entry)) at (now (out .exit)) r ⌝ }
 {
-    let to_b = writer::put_pair(out, at, key, a);
-    let to_c = writer::put_pair(out, to_b, second, b);
-    let to_d = writer::put_pair(out, to_c, third, c);
-    let end = writer::put_pair(out, to_d, fourth, d);
+    let to_epoch = writer::put_pair(out, at, b"out=proc at=", z);
+    let to_restart = writer::put_pair(out, to_epoch, b" epoch=", epoch as u64);
+    let to_phase = writer::put_pair(out, to_restart, b" restart=", number as u64);
+    let end = writer::put_pair(out, to_phase, b" phase=", phase as u64);
     writer::put_bytes(out, end, b"\n")
-}
-
-fn wide(x: u32) -> u64
-    ensures { λ r. ⌜ r ≡ x ⌝ }
-{
-    x as u64
 }
 
 // A line for each process of the recovery line.
@@ -60,18 +44,7 @@ fn put_processes(out: &mut [u8], r: Restarted) -> usize
     let mut next: usize = 0;
     let mut z: usize = 0;
     while z < count {
-        next = put_row(
-            out,
-            next,
-            b"out=proc at=",
-            z as u64,
-            b" epoch=",
-            wide(epochs[z]),
-            b" restart=",
-            wide(numbers[z]),
-            b" phase=",
-            wide(phases[z]),
-        );
+        next = put_process(out, next, z as u64, epochs[z], numbers[z], phases[z]);
         z += 1;
     }
     next
@@ -84,34 +57,54 @@ const ROW_NUMBER_BASE: usize = 2065;
 
 const ROW_PHASE_BASE: usize = 4114;
 
-// A line for each of `count` messages of the list in the run area, after the first `before` of them.
+// The first key of a message's line.
+fn put_key(out: &mut [u8], at: usize, kept: bool) -> usize
+    ensures { λ r. ⌜ Puts (messageKey kept) (now (out .entry)) at (now (out .exit)) r ⌝ }
+{
+    if kept {
+        return writer::put_bytes(out, at, b"out=kept from=");
+    }
+    writer::put_bytes(out, at, b"out=orphan from=")
+}
+
+// The line of a message, kept or an orphan, from its three words.
+fn put_message(out: &mut [u8], at: usize, kept: bool, w: u32, number: u32, phase: u32) -> usize
+    ensures { λ r. ⌜ Puts (wordsRow (messageKey kept) w number phase) (now (out .entry)) at (now (out .exit)) r ⌝ }
+{
+    let from = w % 64;
+    let to = w / 64 % 64;
+    let to_from = put_key(out, at, kept);
+    let to_to = writer::put_number(out, to_from, from as u64);
+    let to_number = writer::put_pair(out, to_to, b" to=", to as u64);
+    let to_phase = writer::put_pair(out, to_number, b" no=", number as u64);
+    let end = writer::put_pair(out, to_phase, b" phase=", phase as u64);
+    writer::put_bytes(out, end, b"\n")
+}
+
+// A line for each of `count` messages, all kept or all orphans, of the list in the run area, after the first `before` of them.
 fn put_messages(
     out: &mut [u8],
     at: usize,
-    key: &[u8],
+    kept: bool,
     run: &[u32],
     before: usize,
     count: usize,
 ) -> usize
     requires { ⌜ (length (now run) ≡ areaWords) × (before + count ≤ 2048) ⌝ }
-    ensures { λ r. ⌜ Puts (gather (messageRow (now (key .entry)) (now (run .entry)) before) count) (now (out .entry)) at (now (out .exit)) r ⌝ }
+    ensures { λ r. ⌜ Puts (gather (messageRow (messageKey kept) (now (run .entry)) before) count) (now (out .entry)) at (now (out .exit)) r ⌝ }
 {
     let mut next = at;
     let mut i: usize = 0;
     while i < count {
         let row = before + i + 1;
         let w = run[ROW_BASE + row];
-        next = put_row(
+        next = put_message(
             out,
             next,
-            key,
-            wide(w % 64),
-            b" to=",
-            wide(w / 64 % 64),
-            b" no=",
-            wide(run[ROW_NUMBER_BASE + row]),
-            b" phase=",
-            wide(run[ROW_PHASE_BASE + row]),
+            kept,
+            w,
+            run[ROW_NUMBER_BASE + row],
+            run[ROW_PHASE_BASE + row],
         );
         i += 1;
     }
@@ -121,8 +114,25 @@ fn put_messages(
 fn put_refusal(out: &mut [u8], number: u32, place: usize) -> usize
     ensures { λ r. ⌜ Puts (refusalLine number place) (now (out .entry)) 0 (now (out .exit)) r ⌝ }
 {
-    let next = writer::put_pair(out, 0, b"refused=", wide(number));
+    let next = writer::put_pair(out, 0, b"refused=", number as u64);
     let end = writer::put_pair(out, next, b" place=", place as u64);
+    writer::put_bytes(out, end, b"\n")
+}
+
+fn put_total(
+    out: &mut [u8],
+    at: usize,
+    back: u32,
+    orphans: usize,
+    kept: usize,
+    steps: usize,
+) -> usize
+    ensures { λ r. ⌜ Puts (totalLine back orphans kept steps) (now (out .entry)) at (now (out .exit)) r ⌝ }
+{
+    let to_orphans = writer::put_pair(out, at, b"out=total back=", back as u64);
+    let to_kept = writer::put_pair(out, to_orphans, b" orphans=", orphans as u64);
+    let to_steps = writer::put_pair(out, to_kept, b" kept=", kept as u64);
+    let end = writer::put_pair(out, to_steps, b" steps=", steps as u64);
     writer::put_bytes(out, end, b"\n")
 }
 
@@ -134,19 +144,15 @@ fn put_recovery(out: &mut [u8], r: Recovered, run: &[u32]) -> usize
     let orphans = r.counted.orphans as usize;
     let kept = r.counted.kept as usize;
     let to_orphans = put_processes(out, r.restarted);
-    let to_kept = put_messages(out, to_orphans, b"out=orphan from=", run, 0, orphans);
-    let to_total = put_messages(out, to_kept, b"out=kept from=", run, orphans, kept);
-    put_row(
+    let to_kept = put_messages(out, to_orphans, false, run, 0, orphans);
+    let to_total = put_messages(out, to_kept, true, run, orphans, kept);
+    put_total(
         out,
         to_total,
-        b"out=total back=",
-        wide(r.restarted.back),
-        b" orphans=",
-        orphans as u64,
-        b" kept=",
-        kept as u64,
-        b" steps=",
-        r.replayed.steps as u64,
+        r.restarted.back,
+        orphans,
+        kept,
+        r.replayed.steps,
     )
 }
 

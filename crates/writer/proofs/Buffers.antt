@@ -51,6 +51,17 @@ unfolding puts
 all-put bs before out i at next h e =
     record { is = ap (λ (x : List ℕ). puts x (record { bytes = out; next = next })) (sym (drop-of-length-le bs h)) ∙ e }
 
+-- the same where byte i goes to place at + i
+pub copied-none : (bs out : List ℕ) (at : ℕ) → puts bs (record { bytes = out; next = at + 0 }) ≡ puts bs (record { bytes = out; next = at })
+copied-none bs out at = ap (λ (k : ℕ). puts bs (record { bytes = out; next = k })) (let q : at + 0 ≡ at = omega arith in q)
+
+pub copied-next : (bs out : List ℕ) (i at : ℕ) (s : Laid) → i < length bs → at + i < length out
+    → puts (drop i bs) (record { bytes = out; next = at + i }) ≡ s
+    → puts (drop (i + 1) bs) (record { bytes = set out (at + i) (getD bs i 0); next = at + (i + 1) }) ≡ s
+copied-next bs out i at s h free e =
+    ap (λ (k : ℕ). puts (drop (i + 1) bs) (record { bytes = set out (at + i) (getD bs i 0); next = k })) (let q : at + (i + 1) ≡ at + i + 1 = omega arith in q)
+    ∙ next-byte bs out (set out (at + i) (getD bs i 0)) i (at + i) (at + i + 1) s h (put-in (getD bs i 0) (at + i) out free) e
+
 -- ---- From the first place on
 
 whole-at : (bs pre rest : List ℕ) → puts bs (record { bytes = pre ++ rest; next = length pre })

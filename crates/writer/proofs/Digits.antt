@@ -1,4 +1,4 @@
--- The digits of a number, written from the last one down.
+-- The digits of a number: written from the last one down, and those of one below 1,000, each by itself.
 use Prim.Native.Nat.{ℕ, suc, _+_, _-_, _/_, _%_, _<_, _≤_}
 use mathlib.Core.Path.{_≡_, sym, ap, _∙_}
 use mathlib.Core.List.{List, [], _∷_, _++_, append-assoc, append-nil}
@@ -7,7 +7,7 @@ use lib.ListN.{length, set, drop, length-set, take, length-drop, drop-of-length-
 use lib.Seq.{drop-cons, drop-set-lt, getD-set-same, take-all}
 use borrow.Author.Tests.{lt-ltb, le-ltb}
 use Rattle.writer.specs.Buffer.{Puts}
-use Rattle.writer.proofs.Buffers.{same-bytes}
+use Rattle.writer.proofs.Buffers.{then, same-bytes}
 use Rattle.text.specs.Number.{lastDigits, decimal}
 
 drop-set : (l : List ℕ) (j a : ℕ) → j < length l → drop j (set l j a) ≡ a ∷ drop (suc j) l
@@ -54,3 +54,38 @@ pub digit-slice : (n r : ℕ) (d before after : List ℕ) (at next : ℕ) → le
 digit-slice n r d before after at next l e h =
     let q : take (20 - r) (drop r d) ≡ drop r d = take-all (20 - r) (drop r d) (omega (arith, length-drop r d)) in
     same-bytes (take (20 - r) (drop r d)) (decimal n) before after at next (q ∙ e) h
+
+-- ---- Numbers below 1,000
+
+last-small : (r v : ℕ) → v < 10 → lastDigits (suc r) v ≡ (48 + v) ∷ []
+unfolding lastDigits
+last-small r v h = rw (lt-ltb v 10 h)
+
+last-more : (r v : ℕ) → 10 ≤ v → lastDigits (suc r) v ≡ lastDigits r (v / 10) ++ (48 + v % 10) ∷ []
+unfolding lastDigits
+last-more r v h = rw (le-ltb v 10 h)
+
+abbrev lastTwo : ℕ → List ℕ
+lastTwo n = (48 + n / 10 % 10) ∷ (48 + n % 10) ∷ []
+
+decimal-two : (n : ℕ) → 10 ≤ n → n < 100 → decimal n ≡ lastTwo n
+decimal-two n low high =
+    let e : n / 10 ≡ n / 10 % 10 = omega arith in
+    last-more 19 n low ∙ rw (last-small 18 (n / 10) (omega arith)) (ap (λ (x : ℕ). (48 + x) ∷ (48 + n % 10) ∷ []) e)
+
+decimal-three : (n : ℕ) → 100 ≤ n → n < 1000 → decimal n ≡ (48 + n / 100) ∷ lastTwo n
+decimal-three n low high =
+    let e : n / 10 / 10 ≡ n / 100 = omega arith in
+    last-more 19 n (omega arith) ∙ rw (last-more 18 (n / 10) (omega arith), last-small 17 (n / 10 / 10) (omega arith), e)
+
+module _ (n at next : ℕ) (before after : List ℕ) where
+  pub number-one : n < 10 → Puts ((48 + n) ∷ []) before at after next → Puts (decimal n) before at after next
+  number-one h = same-bytes _ _ before after at next (sym (last-small 19 n h))
+
+  pub number-two : 10 ≤ n → n < 100 → Puts (lastTwo n) before at after next → Puts (decimal n) before at after next
+  number-two low high = same-bytes _ _ before after at next (sym (decimal-two n low high))
+
+pub number-three : (n at next end : ℕ) (before out after : List ℕ) → 100 ≤ n → n < 1000
+    → Puts ((48 + n / 100) ∷ []) before at out next → Puts (lastTwo n) out next after end → Puts (decimal n) before at after end
+number-three n at next end before out after low high g h =
+    same-bytes _ _ before after at end (sym (decimal-three n low high)) (then ((48 + n / 100) ∷ []) (lastTwo n) before out after at next end g h)

@@ -1,11 +1,8 @@
 -- `report::put_refusal` meets its contract: two pairs and the end of the line.
-use mathlib.Core.Path.{refl, ap}
-use mathlib.Core.List.{_++_}
-use Prim.Native.Nat.{ℕ}
-use Rattle.text.specs.Number.{decimal}
-use Rattle.writer.proofs.Buffers.{same-bytes}
+use mathlib.Core.Path.{refl}
 use Rattle.report.specs.Bytes.{bytesOf}
 use Rattle.report.proofs.Lines.{refusal-put}
+use native.Mathlib.Omega.{arith}
 use borrow.Author.Needs.{needs}
 use Rattle.report.proofs.put_refusal.Statement.{statement}
 use Rattle.report.proofs.put_refusal.Tie as tie
@@ -13,14 +10,13 @@ use Rattle.report.proofs.put_refusal.Tie as tie
 returns : tie.Need-returns
 unfolding bytesOf
 returns c =
-    let args = c .before .before .before .before .before .before .before .before .before .before .before .before .before .before .before .before .before .args in
-    let wide = c .before .before .before .before .before .before .before .before .before .before .before .before .before .wide in
+    let args = c .before .before .before .before .before .before .before .before .before .before .before .before .before .before .before .before .args in
     let put-pair = c .before .before .before .before .before .before .before .before .before .before .before .before .put-pair in
     let put-pair2 = c .before .before .before .before .before .before .before .put-pair2 in
     let put-bytes = c .before .before .put-bytes in
-    refusal-put (bytesOf "refused=") (bytesOf " place=") _ _ _ _ (args .number) (args .place) _ _ _ _ refl refl (same-bytes _ _ _ _ _ _ (ap (λ (n : ℕ). bytesOf "refused=" ++ decimal n) (wide .ensures)) (put-pair .ensures)) (put-pair2 .ensures) (put-bytes .ensures)
+    refusal-put (bytesOf "refused=") (bytesOf " place=") _ _ _ _ (args .number) (args .place) _ _ _ _ refl refl (put-pair .ensures) (put-pair2 .ensures) (put-bytes .ensures)
 
 pub put-refusal-spec : {M : Type 1} → statement M
 put-refusal-spec =
     tie.close
-    (tie.spec (λ c. search needs) (λ c κs. search needs) (λ c κs. search needs) (λ c. search needs) (λ c κs. search needs) (λ c. search needs) (λ c κs. search needs) (λ c. search needs) returns)
+    (tie.spec (λ c. search needs) (λ c κs. search needs) (λ c. search needs) (λ c κs. search needs) (λ c. search needs) (λ c κs. search needs) (λ c. search needs) returns)

@@ -1,4 +1,4 @@
--- `writer::put_bytes` meets its contract: what is still to write from byte i on.
+-- `writer::put_each` meets its contract: what is still to write from byte k on.
 use mathlib.Core.Path.{_≡_, refl, _∙_}
 use Prim.Native.Nat.{_-_, _≤_}
 use lib.ListN.{length, drop}
@@ -6,14 +6,14 @@ use Rattle.writer.specs.Buffer.{puts}
 use Rattle.writer.proofs.Buffers.{next-byte, all-put}
 use native.Mathlib.Omega.{arith}
 use borrow.Author.Needs.{needs}
-use Rattle.writer.proofs.put_bytes.Statement.{statement}
-use Rattle.writer.proofs.put_bytes.Tie as tie
+use Rattle.writer.proofs.put_each.Statement.{statement}
+use Rattle.writer.proofs.put_each.Tie as tie
 
 abbrev Inv-loop : tie.InvT-loop
-Inv-loop out₀ at bytes next₀ i₀ out next i = (i ≤ length bytes) × (length out ≡ length out₀) × (puts (drop i bytes) (record { bytes = out; next = next }) ≡ puts bytes (record { bytes = out₀; next = at }))
+Inv-loop out₀ at bytes next₀ k₀ out next k = (k ≤ length bytes) × (length out ≡ length out₀) × (puts (drop k bytes) (record { bytes = out; next = next }) ≡ puts bytes (record { bytes = out₀; next = at }))
 
 abbrev μ-loop : tie.MeasureT-loop
-μ-loop out₀ at bytes next₀ i₀ out next i = length bytes - i
+μ-loop out₀ at bytes next₀ k₀ out next k = length bytes - k
 
 loop-holds : tie.Need-loop-holds Inv-loop μ-loop
 loop-holds c = (omega arith, refl, refl)
@@ -36,7 +36,7 @@ returns c =
     let loop = c .before .loop in
     all-put _ _ _ _ _ _ (loop-test .left) (loop .inv .2)
 
-pub put-bytes-spec : {M : Type 1} → statement M
-put-bytes-spec =
+pub put-each-spec : {M : Type 1} → statement M
+put-each-spec =
     tie.close
     (tie.spec Inv-loop μ-loop loop-holds (λ c. search needs) (λ c κs. search needs) (λ c. search needs) (λ c. search needs) loop-again same-length returns)
