@@ -2,14 +2,14 @@
 -- that process and its peer, a message handed over only the two ends of its channel, unless the least phase of an orphan not sent again changes.
 use mathlib.Core.Path.{_≡_, refl, sym, _∙_, ap}
 use mathlib.Core.Logic.{_≢_}
-use mathlib.Core.Bool.{true, false}
+use mathlib.Core.Bool.{Bool, true, false}
 use mathlib.Core.List.{List, [], _∷_}
 use Prim.Native.Nat.{ℕ, _+_, _-_, _*_, _/_, _%_, _^_, _≤_, _<_}
 use native.Mathlib.Omega.{arith}
 use lib.ListN.{length, getD, set}
 use lib.Seq.{getD-set-same, getD-set-other}
 use lib.Dec.{ltb, eqb}
-use borrow.Author.Tests.{lt-ltb, le-ltb, eq-eqb, ne-eqb}
+use borrow.Author.Tests.{lt-ltb, le-ltb, eq-eqb, ne-eqb, eqb-true}
 use Rattle.words.proofs.Cases.{by-bool, by-lt, by-eq, clash}
 use Rattle.theory.specs.Line.{Run, inSet}
 use Rattle.theory.specs.Replay.{process, State}
@@ -19,9 +19,9 @@ use Rattle.simulation.specs.Words.{takenBase, currentBase, orphanBase, takeBase
 use Rattle.simulation.specs.Related.{head0, Rel, Started}
 use Rattle.simulation.proofs.Facts.{left-none, left-some}
 use Rattle.simulation.proofs.Moves.{at-next}
-use Rattle.replay.specs.Lowest.{everyone, firstIn, restOf, withIn, keptPhase, Idle, Shut, Under, NoneBefore, unlessNew, Lowered}
-use Rattle.replay.proofs.Steps.{allowed-process, allowed-hand, apply-process, apply-hand}
-use Rattle.replay.proofs.Sets.{none-in, everyone-in, lower-out, first-lt, first-in, rest-out, with-out, with-lt}
+use Rattle.replay.specs.Lowest.{everyone, firstIn, restOf, withIn, Outside, keptPhase, Idle, Shut, NoneTo, Under, Keeps, ToRun, ToKeep, NoneBefore, unlessNew, Lowered}
+use Rattle.replay.proofs.Steps.{process-none, allowed-process, allowed-hand, apply-process, apply-hand}
+use Rattle.replay.proofs.Sets.{none-in, everyone-in, lower-out, first-lt, first-in, rest-out, with-out, with-lt, Pruned, pruned-start, pruned-next, rest-outside}
 use Rattle.replay.proofs.Lowering.{Next, is-allowed, Going, going-start, going-bound, going-end, going-next}
 
 -- ---- Words that a step leaves alone
@@ -113,35 +113,84 @@ module _ (t g a : List ℕ) where
         (λ e. let f : getD (set ls p v) x 0 ≡ v = rw e (getD-set-same ls p v 0 (omega (arith, n))) in rw (f, e) (h, k))
         (λ e. rw (getD-set-other ls p x v 0 e) (u x hx))
 
+  -- at the start nothing is known of any sender
+  pub all-keeps : (ks : List ℕ) → ((p : ℕ) → p < 64 → getD ks p 0 ≡ everyone) → Keeps t g a ks
+  unfolding Keeps
+  all-keeps ks z p h q hq o = clash (rw (z p h) (everyone-in q hq)) o
+
+  pub all-to-keep : ToKeep t g a everyone
+  unfolding ToKeep
+  all-to-keep p h o = clash (everyone-in p h) o
+
+  -- where no message is kept none may be handed over
+  pub to-keep-shut : (m : ℕ) → lowW a ≤ noPhase → ToKeep t g a m → Shut t g a m
+  unfolding ToKeep Shut
+  to-keep-shut m h k p hp o q hq = shut-under p (64 * p + q) noPhase h (k p hp o q hq)
+
+  -- senders whose phase is above all
+  pub to-keep-less : (ls : List ℕ) (m n : ℕ) → Under t g a ls → ToKeep t g a m → Outside (λ p. inSet m p ≡ true → getD ls p 0 ≡ noPhase) n → ToKeep t g a n
+  unfolding ToKeep Under
+  to-keep-less ls m n u k o p hp x q hq = by-bool (inSet m p)
+      (λ y. let e = o p hp x y in omega (arith, e, u p hp .1 q hq))
+      (λ y. k p hp y q hq)
+
+  module _ (p : ℕ) (hp : p < 64) where
+    pub keeps-set : (ks : List ℕ) (v : ℕ) → length ks ≡ 64 → Keeps t g a ks → Outside (λ q. noPhase ≤ keptPhase t g a p (64 * p + q)) v → Keeps t g a (set ks p v)
+    unfolding Keeps
+    keeps-set ks v n u h x hx = by-eq x p
+        (λ e. let f : getD (set ks p v) x 0 ≡ v = rw e (getD-set-same ks p v 0 (omega (arith, n))) in rw (f, e) h)
+        (λ e. rw (getD-set-other ks p x v 0 e) (u x hx))
+
   module _ (p : ℕ) where
-    -- the receivers before q: none is ready, and a phase that theirs are not below
-    abbrev pub Waits : ℕ → ℕ → Type 0
-    Waits least q = (least ≤ noPhase) × ((r : ℕ) → r < q → least ≤ keptPhase t g a p (64 * p + r)) × ((r : ℕ) → r < q → handOk t g a p (64 * p + r) ≡ false)
+    -- the receivers that are not left: none is ready, a phase that theirs are not below, and a set outside of which no message is kept
+    abbrev pub Waits : ℕ → ℕ → ℕ → Type 0
+    Waits least some left =
+        (least ≤ noPhase) × Outside (λ q. least ≤ keptPhase t g a p (64 * p + q)) left × Outside (λ q. handOk t g a p (64 * p + q) ≡ false) left
+        × Pruned (λ q. noPhase ≤ keptPhase t g a p (64 * p + q)) some left
 
-    pub waits-none : Waits noPhase 0
-    waits-none = (omega arith, (λ r h. absurd (omega arith)), λ r h. absurd (omega arith))
+    pub waits-start : (ks : List ℕ) → p < 64 → lowW a ≤ noPhase → Keeps t g a ks → Waits noPhase 0 (getD ks p 0)
+    unfolding Keeps
+    waits-start ks hp h k = (omega arith, k p hp, (λ q hq o. shut-under p (64 * p + q) noPhase h (k p hp q hq o)), pruned-start _ (getD ks p 0) (k p hp))
 
-    pub waits-next : (least q f m : ℕ) → Waits least q → f ≡ keptPhase t g a p (64 * p + q) → lowW a ≤ f → m ≡ lesser f least → Waits m (q + 1)
-    waits-next least q f m w e h em = (
+    pub waits-next : (least some left q f m some′ left′ : ℕ) → 0 < left → left < 2 ^ 64 → q ≡ firstIn left → left′ ≡ restOf left → f ≡ keptPhase t g a p (64 * p + q) → lowW a ≤ f
+        → m ≡ lesser f least → ((z : ℕ) → inSet some′ z ≡ false → (inSet some z ≡ false) × (z ≡ q → eqb f noPhase ≡ true)) → Waits least some left → Waits m some′ left′
+    waits-next least some left q f m some′ left′ pos ll eq el e h em out w = (
       omega (arith, w .0, less .0),
-      (λ r k. by-eq r q (λ x. rw x (omega (arith, e, less .1))) (λ x. omega (arith, w .1 r (omega arith), less .0))),
-      λ r k. by-eq r q (λ x. rw x (shut-under p (64 * p + q) f h (omega (arith, e)))) (λ x. w .2 r (omega arith)),
+      rest-outside (λ r. m ≤ keptPhase t g a p (64 * p + r)) left q left′ pos ll eq el (omega (arith, e, less .1)) (λ r hr o. omega (arith, w .1 r hr o, less .0)),
+      rest-outside (λ r. handOk t g a p (64 * p + r) ≡ false) left q left′ pos ll eq el (shut-under p (64 * p + q) f h (omega (arith, e))) (w .2),
+      pruned-next (λ r. noPhase ≤ keptPhase t g a p (64 * p + r)) left q left′ pos ll eq el some some′ (eqb f noPhase) out (λ n. omega (arith, e, eqb-true f noPhase n)) (w .3),
     )
       where
         less : (m ≤ least) × (m ≤ f)
         less = by-lt f least (λ k. let x : m ≡ f = em ∙ rw (lt-ltb f least k) in (omega arith, omega arith)) (λ k. let x : m ≡ least = em ∙ rw (le-ltb f least k) in (omega arith, omega arith))
 
--- the channels of a sender after those of the ones before
-pub shut-to : (t g a : List ℕ) (p q : ℕ) → q ≤ 64 → Shut t g a (64 * p) → ((r : ℕ) → r < q → handOk t g a p (64 * p + r) ≡ false) → Shut t g a (64 * p + q)
-unfolding Shut
-shut-to t g a p q l h k d j = by-lt d (64 * p) (λ m. h d m)
-    (λ m. let e : d ≡ 64 * p + (d - 64 * p) = omega arith in
-    let f : d / 64 ≡ p = omega arith in
-    rw (f, e) (k (d - 64 * p) (omega arith)))
+    -- a ready message is kept
+    pub ready-kept : (q f : ℕ) → lowW a ≤ noPhase → f ≡ keptPhase t g a p (64 * p + q) → f < lowW a → keptPhase t g a p (64 * p + q) < noPhase
+    ready-kept q f h e k = omega (arith, h, e, k)
 
-pub shut-before : (t g a : List ℕ) (c d : ℕ) → d ≤ c → Shut t g a c → Shut t g a d
+-- the channels of the first sender of a set, after those of the ones before
+pub shut-to : (t g a : List ℕ) (m p q : ℕ) → p ≡ firstIn m → p < 64 → q ≤ 64 → Shut t g a m → ((r : ℕ) → r < q → handOk t g a p (64 * p + r) ≡ false) → NoneTo t g a (64 * p + q)
+unfolding Shut NoneTo
+shut-to t g a m p q ep hp l h k d j =
+    let e : d ≡ 64 * (d / 64) + d % 64 = omega arith in
+    by-lt (d / 64) p
+    (λ x. ap (handOk t g a (d / 64)) e ∙ h (d / 64) (omega arith) (lower-out m (d / 64) (omega (arith, ep))) (d % 64) (omega arith))
+    (λ x. let f : d / 64 ≡ p = omega arith in ap (handOk t g a (d / 64)) e ∙ rw f (k (d % 64) (omega arith)))
+
+pub shut-all : (t g a : List ℕ) → Shut t g a 0 → NoneTo t g a 4096
+unfolding Shut NoneTo
+shut-all t g a h d j =
+    let e : d ≡ 64 * (d / 64) + d % 64 = omega arith in
+    ap (handOk t g a (d / 64)) e ∙ h (d / 64) (omega arith) (none-in (d / 64)) (d % 64) (omega arith)
+
+pub shut-rest : (t g a : List ℕ) (m p n : ℕ) → 0 < m → m < 2 ^ 64 → p ≡ firstIn m → n ≡ restOf m → ((q : ℕ) → q < 64 → handOk t g a p (64 * p + q) ≡ false) → Shut t g a m → Shut t g a n
 unfolding Shut
-shut-before t g a c d l h e k = h e (omega arith)
+shut-rest t g a m p n pos l ep en h k = rest-outside (λ x. (q : ℕ) → q < 64 → handOk t g a x (64 * x + q) ≡ false) m p n pos l ep en h k
+
+-- where no event is left no process may run
+pub to-run-idle : (t g a : List ℕ) (m : ℕ) → ToRun a m → Idle t g a m
+unfolding ToRun Idle
+to-run-idle t g a m h z hz o = sym (process-none t g a z (curW a z) refl (h z hz o))
 
 -- ---- What a step leaves of the search
 
@@ -162,9 +211,29 @@ module _ (t l g a : List ℕ) (bound : Bounded a) where
         (λ p k. put-other t l a c (putBase + (64 * p + z)) (λ q. v .1 (omega arith)))
         ∙ h z hz (none-in z)
 
-    pub hand-shut : Shut t g a c → Shut t g (putInW l a c) c
+    pub hand-shut : (m : ℕ) → inSet m (c / 64) ≡ true → Shut t g a m → Shut t g (putInW l a c) m
     unfolding Shut
-    hand-shut h d k = hand-same t g a (putInW l a c) hand-low (d / 64) d (put-other t l a c (putBase + d) (λ q. omega arith)) ∙ h d k
+    hand-shut m i h p hp o q hq =
+        hand-same t g a (putInW l a c) hand-low p (64 * p + q) (put-other t l a c (putBase + (64 * p + q)) (λ x. let e : p ≡ c / 64 = omega arith in clash (rw e i) o)) ∙ h p hp o q hq
+
+    pub hand-to-run : (m : ℕ) → ToRun a m → ToRun (putInW l a c) m
+    unfolding ToRun
+    hand-to-run m h z hz o = put-other t l a c (currentBase + z) (λ q. omega arith) ∙ h z hz o
+
+    -- no channel but this one loses a message
+    module _ (was : keptPhase t g a (c / 64) c < noPhase) where
+      hand-floor : (p q : ℕ) → p < 64 → q < 64 → noPhase ≤ keptPhase t g a p (64 * p + q) → noPhase ≤ keptPhase t g (putInW l a c) p (64 * p + q)
+      hand-floor p q hp hq k = by-eq (64 * p + q) c
+          (λ e. let f : p ≡ c / 64 = omega arith in let w : noPhase ≤ keptPhase t g a (c / 64) c = (rw (e, f) at k) in absurd (omega (arith, w, was)))
+          (λ e. rw (kept-same t g a (putInW l a c) p (64 * p + q) (put-other t l a c (putBase + (64 * p + q)) (λ x. e (omega arith)))) k)
+
+      pub hand-keeps : (ks : List ℕ) → Keeps t g a ks → Keeps t g (putInW l a c) ks
+      unfolding Keeps
+      hand-keeps ks k p hp q hq o = hand-floor p q hp hq (k p hp q hq o)
+
+      pub hand-to-keep : (m : ℕ) → ToKeep t g a m → ToKeep t g (putInW l a c) m
+      unfolding ToKeep
+      hand-to-keep m k p hp o q hq = hand-floor p q hp hq (k p hp o q hq)
 
     pub hand-under : (ls : List ℕ) → getD ls (c / 64) 0 ≡ 0 → Under t g a ls → Under t g (putInW l a c) ls
     unfolding Under
@@ -200,8 +269,8 @@ module _ (t l g a : List ℕ) where
   pub run-applied : (z : ℕ) → z < 64 → applyW t l a z ≡ processW t l a z
   run-applied z v = sym (apply-process t l a (processW t l a z) z v refl)
 
-  pub hand-none : (c : ℕ) → c ≤ 4096 → Idle t g a 0 → Shut t g a c → NoneBefore t g a (64 + c)
-  unfolding Idle Shut NoneBefore allowedW
+  pub hand-none : (c : ℕ) → c ≤ 4096 → Idle t g a 0 → NoneTo t g a c → NoneBefore t g a (64 + c)
+  unfolding Idle NoneTo NoneBefore allowedW
   hand-none c k h s d j = by-lt d 64
       (λ v. rw (lt-ltb d 64 v) (h d v (none-in d)))
       (λ v. let w : d < 4160 = omega arith in rw (le-ltb d 64 v, lt-ltb d 4160 w) (s (d - 64) (omega arith)))
@@ -261,22 +330,44 @@ module _ (R : Run) (t l g a₀ : List ℕ) (S : Started R t l g a₀) where
           elsewhere : (kindW t (curW a z) ≡ 1 → putBase + d ≢ putBase + (64 * z + peerW t (curW a z))) → putW (processW t l a z) d ≡ putW a d
           elsewhere o = process-other t l a z bound hz (putBase + d) (omega arith) (λ q. omega arith) (λ q. omega arith) (λ q. omega arith) o (λ q. omega arith)
 
-      run-under : (ls : List ℕ) → Under t g a ls → Under t g (processW t l a z) ls
-      unfolding Under keptPhase
-      run-under ls v p hp = (
-        v p hp .0,
-        λ q hq. at-channel (64 * p + q) (omega arith)
-            (λ e k. let f : p ≡ z = omega arith in
-            let i : q ≡ peerW t (curW a z) = omega arith in
-            rw (f, none-there q i k) (let w = v p hp .0 in rw f at w))
-            (λ e. rw e (v p hp .1 q hq)),
-      )
+      -- phases of kept messages do not fall
+      run-floor : (p q n : ℕ) → p < 64 → q < 64 → n ≤ noPhase → n ≤ keptPhase t g a p (64 * p + q) → n ≤ keptPhase t g (processW t l a z) p (64 * p + q)
+      unfolding keptPhase
+      run-floor p q n hp hq h k = at-channel (64 * p + q) (omega arith)
+          (λ e w. let f : p ≡ z = omega arith in
+          let i : q ≡ peerW t (curW a z) = omega arith in
+          rw (f, none-there q i w) h)
+          (λ e. rw e k)
 
-      run-shut : lowW (processW t l a z) ≡ lowW a → (n : ℕ) → n ≤ 4096 → Shut t g a n → Shut t g (processW t l a z) n
+      run-under : (ls : List ℕ) → Under t g a ls → Under t g (processW t l a z) ls
+      unfolding Under
+      run-under ls v p hp = (v p hp .0, λ q hq. run-floor p q (getD ls p 0) hp hq (v p hp .0) (v p hp .1 q hq))
+
+      run-keeps : (ks : List ℕ) → Keeps t g a ks → Keeps t g (processW t l a z) ks
+      unfolding Keeps
+      run-keeps ks k p hp q hq o = run-floor p q noPhase hp hq (omega arith) (k p hp q hq o)
+
+      run-to-keep : (m : ℕ) → ToKeep t g a m → ToKeep t g (processW t l a z) m
+      unfolding ToKeep
+      run-to-keep m k p hp o q hq = run-floor p q noPhase hp hq (omega arith) (k p hp o q hq)
+
+      run-shut : lowW (processW t l a z) ≡ lowW a → (m : ℕ) → Shut t g a m → Shut t g (processW t l a z) m
       unfolding Shut handOk
-      run-shut low n ln h d v = at-channel d (omega arith)
-          (λ e k. let f : d / 64 ≡ z = omega arith in rw (f, e, none-there (peerW t (curW a z)) refl k))
-          (λ e. rw (e, low) (h d v))
+      run-shut low m h p hp o q hq = at-channel (64 * p + q) (omega arith)
+          (λ e k. let f : p ≡ z = omega arith in
+          let i : q ≡ peerW t (curW a z) = omega arith in
+          rw (f, none-there q i k))
+          (λ e. rw (e, low) (h p hp o q hq))
+
+-- a process that may run has an event left, and no step gives one to another
+run-to-run : (t l g a : List ℕ) → Bounded a → (z : ℕ) → z < 64 → processOk t g a z ≡ true → (m : ℕ) → ToRun a m → ToRun (processW t l a z) m
+unfolding ToRun
+run-to-run t l g a bound z hz ok m h y hy o =
+    let e = h y hy o in
+    process-other t l a z bound hz (currentBase + y) (omega arith)
+    (λ q. let f : y ≡ z = omega arith in clash ok (sym (process-none t g a z (curW a z) refl (rw f at e))))
+    (λ q. omega arith) (λ q. omega arith) (λ s q. omega arith) (λ q. omega arith)
+    ∙ e
 
 -- ---- The loop over the lowest choices
 
@@ -288,13 +379,17 @@ pub rest-idle : (t g a : List ℕ) (m : ℕ) → 0 < m → m < 2 ^ 64 → Idle t
 unfolding Idle
 rest-idle t g a m p lm h f z hz o = by-eq z (firstIn m) (λ e. rw e f) (λ n. h z hz (rest-out m p lm z o n))
 
-pub none-shut : (t g a : List ℕ) → Shut t g a 0
+pub all-shut : (t g a : List ℕ) → Shut t g a everyone
 unfolding Shut
-none-shut t g a d h = absurd (omega arith)
+all-shut t g a p hp o = clash (everyone-in p hp) o
+
+pub all-to-run : (a : List ℕ) → ToRun a everyone
+unfolding ToRun
+all-to-run a z hz o = clash (everyone-in z hz) o
 
 module _ (R : Run) (t l g a₀ : List ℕ) (S : Started R t l g a₀) (most : ℕ) (a : List ℕ) (i : ℕ) (v : Going R t l g a₀ S most a i) where
   -- no process may run, no kept message be handed over
-  pub search-end : Idle t g a 0 → Shut t g a 4096 → Lowered R a most i
+  pub search-end : Idle t g a 0 → NoneTo t g a 4096 → Lowered R a most i
   search-end h k = going-end R t l g a₀ S most a i v (hand-none t l g a 4096 (omega arith) h k)
 
   bound : Bounded a
@@ -327,19 +422,32 @@ module _ (R : Run) (t l g a₀ : List ℕ) (S : Started R t l g a₀) (most : �
             view R (v .0) (w .0) (process z) (sym (choose-of R (v .0) z (process z) (choice-process z z-lt)) ∙ w .1 .2),
           )
 
-      pub run-shut-still : lowW b ≡ lowW a → (n : ℕ) → n ≤ 4096 → Shut t g a n → Shut t g b n
-      run-shut-still h n ln k =
+      pub run-shut-still : lowW b ≡ lowW a → (n : ℕ) → Shut t g a n → Shut t g b n
+      run-shut-still h n k =
           let w = after in
-          rw eb (run-shut R t l g a₀ S a (v .0) (v .1) (v .2) (firstIn m) z-lt ok (w .0) (w .1) (w .2) (w .3) bound (rw eb at h) n ln k)
+          rw eb (run-shut R t l g a₀ S a (v .0) (v .1) (v .2) (firstIn m) z-lt ok (w .0) (w .1) (w .2) (w .3) bound (rw eb at h) n k)
 
       pub run-under-still : (ls : List ℕ) → Under t g a ls → Under t g b ls
       run-under-still ls k =
           let w = after in
           rw eb (run-under R t l g a₀ S a (v .0) (v .1) (v .2) (firstIn m) z-lt ok (w .0) (w .1) (w .2) (w .3) bound ls k)
 
-    module _ (c : ℕ) (hc : c < 4096) (idle : Idle t g a 0) (shut : Shut t g a c) (ok : handOk t g a (c / 64) c ≡ true) (eb : b ≡ putInW l a c) where
+      pub run-keeps-still : (ks : List ℕ) → Keeps t g a ks → Keeps t g b ks
+      run-keeps-still ks k =
+          let w = after in
+          rw eb (run-keeps R t l g a₀ S a (v .0) (v .1) (v .2) (firstIn m) z-lt ok (w .0) (w .1) (w .2) (w .3) bound ks k)
+
+      pub run-to-keep-still : (n : ℕ) → ToKeep t g a n → ToKeep t g b n
+      run-to-keep-still n k =
+          let w = after in
+          rw eb (run-to-keep R t l g a₀ S a (v .0) (v .1) (v .2) (firstIn m) z-lt ok (w .0) (w .1) (w .2) (w .3) bound n k)
+
+      pub run-to-run-still : (n : ℕ) → ToRun a n → ToRun b n
+      run-to-run-still n k = rw eb (run-to-run t l g a bound (firstIn m) z-lt ok n k)
+
+    module _ (c : ℕ) (hc : c < 4096) (idle : Idle t g a 0) (none : NoneTo t g a c) (ok : handOk t g a (c / 64) c ≡ true) (eb : b ≡ putInW l a c) where
       pub hand-going : Going R t l g a₀ S most b (i + 1)
-      hand-going = going-next R t l g a₀ S most a b i (64 + c) v lt (hand-none t l g a c (omega arith) idle shut) (hand-allowed t l g a c hc ok) (eb ∙ sym (hand-applied t l g a c))
+      hand-going = going-next R t l g a₀ S most a b i (64 + c) v lt (hand-none t l g a c (omega arith) idle none) (hand-allowed t l g a c hc ok) (eb ∙ sym (hand-applied t l g a c))
 
       pub hand-idle-still : Idle t g b (withIn (withIn 0 (c / 64)) (c % 64))
       hand-idle-still = rw eb (hand-idle t l g a bound c hc idle)
@@ -347,56 +455,100 @@ module _ (R : Run) (t l g a₀ : List ℕ) (S : Started R t l g a₀) (most : �
       pub hand-under-still : (ls : List ℕ) → getD ls (c / 64) 0 ≡ 0 → Under t g a ls → Under t g b ls
       hand-under-still ls z k = rw eb (hand-under t l g a bound c hc ls z k)
 
-      pub hand-shut-still : Shut t g b c
-      hand-shut-still = rw eb (hand-shut t l g a bound c hc shut)
+      pub hand-shut-still : (n : ℕ) → inSet n (c / 64) ≡ true → Shut t g a n → Shut t g b n
+      hand-shut-still n o k = rw eb (hand-shut t l g a bound c hc n o k)
 
--- what holds before each choice, i of them done: a set outside of which no process may run, a sender before whom no message is ready, of each
--- sender a phase that its messages' are not below
+-- what holds before each choice, i of them done: sets outside of which no process may run, no sender has a message that is ready, no process has an
+-- event, no sender a kept message; of each sender a phase that its messages' are not below, and a set of receivers outside of which it keeps none
 module _ (t l g a₀ : List ℕ) (most : ℕ) where
-  abbrev pub Looking : List ℕ → List ℕ → ℕ → ℕ → ℕ → Type 0
-  Looking a ls may from i =
-      (length a ≡ length a₀) × (may < 2 ^ 64) × (from ≤ 64) × Idle t g a may × Shut t g a (64 * from)
-      × ((R : Run) (S : Started R t l g a₀) → Going R t l g a₀ S most a i) × (length ls ≡ 64) × Under t g a ls
+  abbrev pub Looking : List ℕ → List ℕ → List ℕ → ℕ → ℕ → ℕ → ℕ → ℕ → Type 0
+  Looking a ls ks running keepers may senders i =
+      (length a ≡ length a₀) × (may < 2 ^ 64) × Idle t g a may × Shut t g a senders × ((R : Run) (S : Started R t l g a₀) → Going R t l g a₀ S most a i)
+      × (length ls ≡ 64) × Under t g a ls × (length ks ≡ 64) × Keeps t g a ks × ToRun a running × ToKeep t g a keepers
 
-  pub looking-start : (ls : List ℕ) → length ls ≡ 64 → ((p : ℕ) → p < 64 → getD ls p 0 ≡ 0) → Looking a₀ ls everyone 0 0
-  looking-start ls n z =
-      (refl, omega arith, omega arith, all-idle t g a₀, none-shut t g a₀, (λ R S. going-start R t l g a₀ S most), n, none-under t g a₀ ls z)
+  pub looking-start : (ls ks : List ℕ) → length ls ≡ 64 → ((p : ℕ) → p < 64 → getD ls p 0 ≡ 0) → length ks ≡ 64 → ((p : ℕ) → p < 64 → getD ks p 0 ≡ everyone)
+      → Looking a₀ ls ks everyone everyone everyone everyone 0
+  looking-start ls ks n z nk zk = (
+    refl,
+    omega arith,
+    all-idle t g a₀,
+    all-shut t g a₀,
+    (λ R S. going-start R t l g a₀ S most),
+    n,
+    none-under t g a₀ ls z,
+    nk,
+    all-keeps t g a₀ ks zk,
+    all-to-run a₀,
+    all-to-keep t g a₀,
+  )
 
-  module _ (R : Run) (S : Started R t l g a₀) (a b ls : List ℕ) (i : ℕ) (lt : i < most) (la : length a ≡ length a₀) (lb : length b ≡ length a)
-      (v : (R : Run) (S : Started R t l g a₀) → Going R t l g a₀ S most a i) (n : length ls ≡ 64) (u : Under t g a ls) where
+  pub looking-same : (a b ls ls′ ks ks′ : List ℕ) (r r′ k k′ m m′ s s′ i : ℕ) → b ≡ a → ls′ ≡ ls → ks′ ≡ ks → r′ ≡ r → k′ ≡ k → m′ ≡ m → s′ ≡ s
+      → Looking a ls ks r k m s i → Looking b ls′ ks′ r′ k′ m′ s′ i
+  looking-same a b ls ls′ ks ks′ r r′ k k′ m m′ s s′ i ea el ek er e em es h = rw (ea, el, ek, er, e, em, es) h
+
+  module _ (R : Run) (S : Started R t l g a₀) (a b ls ks : List ℕ) (running keepers i : ℕ) (lt : i < most) (la : length a ≡ length a₀) (lb : length b ≡ length a)
+      (v : (R : Run) (S : Started R t l g a₀) → Going R t l g a₀ S most a i) (n : length ls ≡ 64) (u : Under t g a ls) (nk : length ks ≡ 64) (uk : Keeps t g a ks)
+      (tr : ToRun a running) (tk : ToKeep t g a keepers) where
     -- the oldest kept message of channel c handed over
-    module _ (c : ℕ) (hc : c < 4096) (h : Idle t g a 0) (k : Shut t g a c) (ok : handOk t g a (c / 64) c ≡ true) (z : getD ls (c / 64) 0 ≡ 0)
-        (may from : ℕ) (eb : b ≡ putInW l a c) (em : may ≡ withIn (withIn 0 (c / 64)) (c % 64)) (ef : from ≡ c / 64) where
-      pub looking-hand : Looking b ls may from (i + 1)
-      looking-hand = rw (em, ef) (
-        lb ∙ la,
-        with-lt (withIn 0 (c / 64)) (c % 64) (with-lt 0 (c / 64) (omega arith) (omega arith)) (omega arith),
-        omega arith,
-        hand-idle-still R t l g a₀ S most a i (v R S) lt b c hc h k ok eb,
-        shut-before t g b c (64 * (c / 64)) (omega arith) (hand-shut-still R t l g a₀ S most a i (v R S) lt b c hc h k ok eb),
-        (λ R S. hand-going R t l g a₀ S most a i (v R S) lt b c hc h k ok eb),
-        n,
-        hand-under-still R t l g a₀ S most a i (v R S) lt b c hc h k ok eb ls z u,
-      )
+    module _ (c : ℕ) (hc : c < 4096) (h : Idle t g a 0) (k : NoneTo t g a c) (ok : handOk t g a (c / 64) c ≡ true) (was : keptPhase t g a (c / 64) c < noPhase)
+        (z : getD ls (c / 64) 0 ≡ 0) (may senders : ℕ) (member : inSet senders (c / 64) ≡ true) (shut : Shut t g a senders) (eb : b ≡ putInW l a c)
+        (em : may ≡ withIn (withIn 0 (c / 64)) (c % 64)) where
+      pub looking-hand : Looking b ls ks running keepers may senders (i + 1)
+      looking-hand =
+          let bound = going-bound R t l g a₀ S most a i (v R S) in
+          rw em (
+            lb ∙ la,
+            with-lt (withIn 0 (c / 64)) (c % 64) (with-lt 0 (c / 64) (omega arith) (omega arith)) (omega arith),
+            hand-idle-still R t l g a₀ S most a i (v R S) lt b c hc h k ok eb,
+            hand-shut-still R t l g a₀ S most a i (v R S) lt b c hc h k ok eb senders member shut,
+            (λ R S. hand-going R t l g a₀ S most a i (v R S) lt b c hc h k ok eb),
+            n,
+            hand-under-still R t l g a₀ S most a i (v R S) lt b c hc h k ok eb ls z u,
+            nk,
+            rw eb (hand-keeps t l g a bound c hc was ks uk),
+            rw eb (hand-to-run t l g a bound c hc running tr),
+            rw eb (hand-to-keep t l g a bound c hc was keepers tk),
+          )
 
     -- the next event of the first process of m done
-    module _ (m f : ℕ) (p : 0 < m) (lm : m < 2 ^ 64) (lf : f ≤ 64) (h : Idle t g a m) (k : Shut t g a (64 * f)) (ok : processOk t g a (firstIn m) ≡ true)
-        (may from : ℕ) (eb : b ≡ processW t l a (firstIn m)) (em : may ≡ unlessNew (lowW a) (lowW b) (withIn m (peerW t (curW a (firstIn m)))) everyone)
-        (ef : from ≡ unlessNew (lowW a) (lowW b) f 0) (d ms : List ℕ) (ed : d ≡ b) (el : ms ≡ ls) where
-      pub looking-run : Looking d ms may from (i + 1)
-      unfolding unlessNew
-      looking-run =
-          let w = run-under-still R t l g a₀ S most a i (v R S) lt b m p lm h ok eb ls u in
-          let go : (R : Run) (S : Started R t l g a₀) → Going R t l g a₀ S most b (i + 1) = λ R S. run-going R t l g a₀ S most a i (v R S) lt b m p lm h ok eb in
-          by-eq (lowW b) (lowW a)
-          (λ e. rw (ed, el, em, ef, eq-eqb (lowW b) (lowW a) e) (
-            lb ∙ la,
-            with-lt m (peerW t (curW a (firstIn m))) lm (omega arith),
-            lf,
-            run-idle-still R t l g a₀ S most a i (v R S) lt b m p lm h ok eb e,
-            run-shut-still R t l g a₀ S most a i (v R S) lt b m p lm h ok eb e (64 * f) (omega arith) k,
-            go,
-            n,
-            w,
-          ))
-          (λ e. rw (ed, el, em, ef, ne-eqb (lowW b) (lowW a) e) (lb ∙ la, omega arith, omega arith, all-idle t g b, none-shut t g b, go, n, w))
+    module _ (m s : ℕ) (p : 0 < m) (lm : m < 2 ^ 64) (h : Idle t g a m) (k : Shut t g a s) (ok : processOk t g a (firstIn m) ≡ true) (eb : b ≡ processW t l a (firstIn m)) where
+      pub still-to-run : ToRun b running
+      still-to-run = run-to-run-still R t l g a₀ S most a i (v R S) lt b m p lm h ok eb running tr
+
+      module _ (low : lowW b ≤ noPhase) (running′ keepers′ may senders : ℕ) (lr : running′ < 2 ^ 64) (tr′ : ToRun b running′)
+          (tk′ : Outside (λ p. inSet keepers p ≡ true → getD ls p 0 ≡ noPhase) keepers′)
+          (em : may ≡ unlessNew (lowW a) (lowW b) (withIn m (peerW t (curW a (firstIn m)))) running′) (es : senders ≡ unlessNew (lowW a) (lowW b) s keepers′) where
+        pub looking-run : Looking b ls ks running′ keepers′ may senders (i + 1)
+        unfolding unlessNew
+        looking-run =
+            let w = run-under-still R t l g a₀ S most a i (v R S) lt b m p lm h ok eb ls u in
+            let wk = run-keeps-still R t l g a₀ S most a i (v R S) lt b m p lm h ok eb ks uk in
+            let x = to-keep-less t g b ls keepers keepers′ w (run-to-keep-still R t l g a₀ S most a i (v R S) lt b m p lm h ok eb keepers tk) tk′ in
+            let go : (R : Run) (S : Started R t l g a₀) → Going R t l g a₀ S most b (i + 1) = λ R S. run-going R t l g a₀ S most a i (v R S) lt b m p lm h ok eb in
+            by-eq (lowW b) (lowW a)
+            (λ e. rw (em, es, eq-eqb (lowW b) (lowW a) e) (
+              lb ∙ la,
+              with-lt m (peerW t (curW a (firstIn m))) lm (omega arith),
+              run-idle-still R t l g a₀ S most a i (v R S) lt b m p lm h ok eb e,
+              run-shut-still R t l g a₀ S most a i (v R S) lt b m p lm h ok eb e s k,
+              go,
+              n,
+              w,
+              nk,
+              wk,
+              tr′,
+              x,
+            ))
+            (λ e. rw (em, es, ne-eqb (lowW b) (lowW a) e) (
+              lb ∙ la,
+              lr,
+              to-run-idle t g b running′ tr′,
+              to-keep-shut t g b keepers′ low x,
+              go,
+              n,
+              w,
+              nk,
+              wk,
+              tr′,
+              x,
+            ))

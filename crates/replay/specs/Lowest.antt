@@ -12,7 +12,7 @@ use Rattle.theory.specs.Line.{Run, inSet}
 use Rattle.theory.specs.Replay.{State, start}
 use Rattle.theory.specs.Order.{carriedOut, run, lowestFrom}
 use Rattle.theory.proofs.Flow.{Inv}
-use Rattle.simulation.specs.Words.{noPhase, phaseW, putW, lowW, sendOk, processOk, handOk, allowedW}
+use Rattle.simulation.specs.Words.{noPhase, phaseW, curW, putW, lowW, sendOk, processOk, handOk, allowedW}
 use Rattle.simulation.specs.Related.{Rel}
 
 -- sets of processes, as numbers of 64 bits: all of them, the first member, the set without it, the set with process z
@@ -28,6 +28,10 @@ restOf m = bitAnd m (m - 1)
 unfoldable pub withIn : ℕ → ℕ → ℕ
 withIn m z = bitOr m (2 ^ z)
 
+-- what holds of every process that is no member of a set
+abbrev pub Outside : (ℕ → Type 0) → ℕ → Type 0
+Outside P m = (z : ℕ) → z < 64 → inSet m z ≡ false → P z
+
 -- the choices are the numbers before this
 abbrev pub noChoice : ℕ
 noChoice = 4160
@@ -41,17 +45,33 @@ module _ (t g a : List ℕ) where
   unfoldable pub Under : List ℕ → Type 0
   Under ls = (p : ℕ) → p < 64 → (getD ls p 0 ≤ noPhase) × ((q : ℕ) → q < 64 → getD ls p 0 ≤ keptPhase p (64 * p + q))
 
+  -- of each sender a set of receivers outside of which it keeps no message for anyone
+  unfoldable pub Keeps : List ℕ → Type 0
+  Keeps ks = (p : ℕ) → p < 64 → Outside (λ q. noPhase ≤ keptPhase p (64 * p + q)) (getD ks p 0)
+
+  -- a set of senders outside of which none keeps a message
+  unfoldable pub ToKeep : ℕ → Type 0
+  ToKeep m = Outside (λ p. (q : ℕ) → q < 64 → noPhase ≤ keptPhase p (64 * p + q)) m
+
   -- no process outside of the set may run
   unfoldable pub Idle : ℕ → Type 0
-  Idle m = (z : ℕ) → z < 64 → inSet m z ≡ false → processOk t g a z ≡ false
+  Idle m = Outside (λ z. processOk t g a z ≡ false) m
+
+  -- no kept message of a sender outside of the set may be handed over
+  unfoldable pub Shut : ℕ → Type 0
+  Shut m = Outside (λ p. (q : ℕ) → q < 64 → handOk t g a p (64 * p + q) ≡ false) m
 
   -- no kept message of a channel before c may be handed over
-  unfoldable pub Shut : ℕ → Type 0
-  Shut c = (d : ℕ) → d < c → handOk t g a (d / 64) d ≡ false
+  unfoldable pub NoneTo : ℕ → Type 0
+  NoneTo c = (d : ℕ) → d < c → handOk t g a (d / 64) d ≡ false
 
   -- no choice before c is allowed
   unfoldable pub NoneBefore : ℕ → Type 0
   NoneBefore c = (d : ℕ) → d < c → allowedW t g a d ≡ false
+
+-- a set of processes outside of which none has an event left
+unfoldable pub ToRun : List ℕ → ℕ → Type 0
+ToRun a m = Outside (λ z. curW a z ≡ 0) m
 
 -- one thing where the least phase of an orphan not sent again is what it was, else another
 unfoldable pub unlessNew : ℕ → ℕ → ℕ → ℕ → ℕ

@@ -1,15 +1,15 @@
 // The replay of an order of choices, in words: a test for each choice, that writes nothing, and a step for each choice, that tests
 // nothing. Every message is its send event, every queue the stretch between two pointers into events, so a choice costs the same
-// however long the run is; the search for the lowest one goes on from where it ended (before EVERYONE). specs/Answer says what a replay answers and leaves, by the theory's machine. Assumes nothing.
+// however long the run is; the search for the lowest one looks where something can have changed (before EVERYONE). specs/Answer says what a replay answers and leaves, by the theory's machine. Assumes nothing.
 ghost use mathlib.Core.Path.{_≡_};
 ghost use mathlib.Core.Bool.{true, false};
 ghost use Prim.Native.Nat.{ℕ, _+_, _-_, _*_, _/_, _%_, _≤_, _<_};
 ghost use lib.ListN.{length, getD};
 ghost use Rattle.words.specs.Area.{areaWords};
-ghost use Rattle.simulation.specs.Words.{takenBase, currentBase, orphanBase, takeBase, putBase, lowPlace, peerW, numberW, valueW, curW, lowW, sendOk, eventOk, processOk, handOk, allowedW, lesser, lowerW, lowOf, dropW, putInW, takeOutW, eventW, processW, applyW, Bounded, Small, noneFrom};
+ghost use Rattle.simulation.specs.Words.{takenBase, currentBase, orphanBase, takeBase, putBase, lowPlace, noPhase, peerW, numberW, valueW, curW, lowW, sendOk, eventOk, processOk, handOk, allowedW, lesser, lowerW, lowOf, dropW, putInW, takeOutW, eventW, processW, applyW, Bounded, Small, noneFrom};
 ghost use Rattle.simulation.specs.Linking.{pairW, backW, mineW, orphanW, goesW, earlyW, chainA, linkL, linkA, linkedL, linkedA, beginA};
 ghost use Rattle.theory.specs.Events.{size};
-ghost use Rattle.theory.specs.Line.{Run, recorded};
+ghost use Rattle.theory.specs.Line.{Run, recorded, inSet};
 ghost use Rattle.simulation.specs.Related.{Started};
 ghost use Rattle.theory.specs.Order.{run, lowestOrder};
 ghost use Rattle.replay.specs.Shapes.{Readable, Movable, Paired, PairedTo, Linkable};
@@ -17,7 +17,7 @@ ghost use Rattle.trace.specs.Trace.{Trace};
 ghost use Rattle.theory.specs.Epochs.{past};
 ghost use Rattle.replay.specs.Left.{Left};
 ghost use Rattle.replay.specs.Given.{Given};
-ghost use Rattle.replay.specs.Lowest.{everyone, firstIn, restOf, withIn, keptPhase, Idle, Shut, Under, unlessNew, Lowered};
+ghost use Rattle.replay.specs.Lowest.{everyone, firstIn, restOf, withIn, keptPhase, Idle, Shut, NoneTo, Under, Keeps, Outside, ToRun, unlessNew, Lowered};
 ghost use Rattle.replay.specs.Answer.{answerOf, wordsOf};
 use protocol::EPOCH_BASE;
 use protocol::MATCH_BASE;
@@ -579,9 +579,11 @@ pub fn replay(full: &[u32], gates: &[u32], order: &[u16], area: &mut [u32], cut:
     replay_in(full, &links, gates, order, area)
 }
 
-// The lowest choice is looked for from where the last search ended: in a set outside of which no process may run, and from a sender
-// before whom no kept message may be handed over. A step gives back to the set whom it may let run. Of each sender a phase is known that
-// those of its kept messages are not below, so that its channels are looked at only where one may have become ready.
+// The lowest choice is looked for where something can have changed: in a set of processes outside of which none may run, and in a set of
+// senders outside of which none has a kept message that may be handed over. A step gives back to the sets whom it may let go on; where the
+// least phase of an orphan not sent again is new, these are the processes that have an event left and the senders that keep a message. Of
+// each sender a phase is known that those of its kept messages are not below, and a set of receivers outside of which it keeps none for anyone,
+// so that its channels are looked at only where one may have become ready. Sets may have members too many, never too few.
 const EVERYONE: u64 = 18446744073709551615;
 
 const CHANNELS: usize = 4096;
@@ -611,6 +613,17 @@ fn with(set: u64, z: usize) -> u64
     set | 1u64 << z
 }
 
+// A set of processes with process z, unless that has nothing left.
+fn with_unless(set: u64, z: usize, none: bool) -> u64
+    requires { ⌜ z < 64 ⌝ }
+    ensures { λ r. ⌜ ((y : ℕ) → inSet r y ≡ false → (inSet set y ≡ false) × (y ≡ z → none ≡ true)) ⌝ }
+{
+    if none {
+        return set;
+    }
+    with(set, z)
+}
+
 // The set from its first member that may run.
 fn runnable(full: &[u32], gates: &[u32], area: &[u32], set: u64) -> u64
     requires { ⌜ Readable (now full) (now gates) (now area) × Idle (now full) (now gates) (now area) set ⌝ }
@@ -630,47 +643,83 @@ fn runnable(full: &[u32], gates: &[u32], area: &[u32], set: u64) -> u64
 
 // The first receiver to whom the oldest kept message of sender p may be handed over. Where there is none, PROCESSES, and the sender's phase
 // is not above those of its messages (the least of them, where they were looked at); where there is one, it is 0, since that message leaves.
-fn next_receiver(full: &[u32], gates: &[u32], area: &[u32], p: usize, phases: &mut [u32]) -> usize
-    requires { ⌜ (p < 64) × (length (now phases) ≡ 64) × Readable (now full) (now gates) (now area) × Under (now full) (now gates) (now area) (now phases) ⌝ }
+// Receivers for whom no message is left leave the sender's set.
+fn next_receiver(
+    full: &[u32],
+    gates: &[u32],
+    area: &[u32],
+    p: usize,
+    phases: &mut [u32],
+    keeping: &mut [u64],
+) -> usize
+    requires { ⌜ (p < 64) × (length (now phases) ≡ 64) × (length (now keeping) ≡ 64) × Readable (now full) (now gates) (now area) × Under (now full) (now gates) (now area) (now phases) × Keeps (now full) (now gates) (now area) (now keeping) ⌝ }
     ensures shut { λ r. ⌜ ((q : ℕ) → q < r → handOk (now (full .entry)) (now (gates .entry)) (now (area .entry)) p (64 * p + q) ≡ false) ⌝ }
-    ensures found { λ r. ⌜ (r ≤ 64) × (r < 64 → (handOk (now (full .entry)) (now (gates .entry)) (now (area .entry)) p (64 * p + r) ≡ true) × (getD (now (phases .exit)) p 0 ≡ 0)) ⌝ }
+    ensures found { λ r. ⌜ (r ≤ 64) × (r < 64 → (handOk (now (full .entry)) (now (gates .entry)) (now (area .entry)) p (64 * p + r) ≡ true) × (keptPhase (now (full .entry)) (now (gates .entry)) (now (area .entry)) p (64 * p + r) < noPhase) × (getD (now (phases .exit)) p 0 ≡ 0)) ⌝ }
     ensures under { λ _. ⌜ Under (now (full .entry)) (now (gates .entry)) (now (area .entry)) (now (phases .exit)) ⌝ }
+    ensures keeps { λ _. ⌜ Keeps (now (full .entry)) (now (gates .entry)) (now (area .entry)) (now (keeping .exit)) ⌝ }
 {
     let low = area[LOW];
     if phases[p] >= low {
         return PROCESSES;
     }
     let mut least: u32 = NO_PHASE;
-    let mut q: usize = 0;
-    while q < PROCESSES {
+    let mut some: u64 = 0;
+    let mut left = keeping[p];
+    while left != 0 {
+        let q = first(left);
         let phase = kept_phase(full, gates, area, p, 64 * p + q);
         if phase < low {
             phases[p] = 0;
+            keeping[p] = some | left;
             return q;
         }
+        some = with_unless(some, q, phase == NO_PHASE);
         least = lesser(phase, least);
-        q += 1;
+        left = rest(left);
     }
     phases[p] = least;
-    q
+    keeping[p] = some;
+    PROCESSES
 }
 
-// The first channel of a sender, from one on, whose oldest kept message may be handed over; CHANNELS where there is none.
-fn next_hand(full: &[u32], gates: &[u32], area: &[u32], from: usize, phases: &mut [u32]) -> usize
-    requires { ⌜ (from ≤ 64) × (length (now phases) ≡ 64) × Readable (now full) (now gates) (now area) × Shut (now full) (now gates) (now area) (64 * from) × Under (now full) (now gates) (now area) (now phases) ⌝ }
-    ensures shut { λ r. ⌜ Shut (now (full .entry)) (now (gates .entry)) (now (area .entry)) r ⌝ }
-    ensures found { λ r. ⌜ ((r ≡ 4096 → ⊥) → (r < 4096) × (handOk (now (full .entry)) (now (gates .entry)) (now (area .entry)) (r / 64) r ≡ true) × (getD (now (phases .exit)) (r / 64) 0 ≡ 0)) ⌝ }
+// A channel whose oldest kept message may be handed over, CHANNELS for none, and the set of senders from that of the channel on.
+struct Hand {
+    channel: usize,
+    senders: u64,
+}
+
+// The first channel of a sender of the set whose oldest kept message may be handed over.
+fn next_hand(
+    full: &[u32],
+    gates: &[u32],
+    area: &[u32],
+    senders: u64,
+    phases: &mut [u32],
+    keeping: &mut [u64],
+) -> Hand
+    requires { ⌜ (length (now phases) ≡ 64) × (length (now keeping) ≡ 64) × Readable (now full) (now gates) (now area) × Shut (now full) (now gates) (now area) senders × Under (now full) (now gates) (now area) (now phases) × Keeps (now full) (now gates) (now area) (now keeping) ⌝ }
+    ensures none { λ r. ⌜ NoneTo (now (full .entry)) (now (gates .entry)) (now (area .entry)) (r .channel) ⌝ }
+    ensures found { λ r. ⌜ ((r .channel ≡ 4096 → ⊥) → (r .channel < 4096) × (handOk (now (full .entry)) (now (gates .entry)) (now (area .entry)) (r .channel / 64) (r .channel) ≡ true) × (keptPhase (now (full .entry)) (now (gates .entry)) (now (area .entry)) (r .channel / 64) (r .channel) < noPhase) × (getD (now (phases .exit)) (r .channel / 64) 0 ≡ 0) × (inSet (r .senders) (r .channel / 64) ≡ true)) ⌝ }
+    ensures shut { λ r. ⌜ Shut (now (full .entry)) (now (gates .entry)) (now (area .entry)) (r .senders) ⌝ }
     ensures under { λ _. ⌜ Under (now (full .entry)) (now (gates .entry)) (now (area .entry)) (now (phases .exit)) ⌝ }
+    ensures keeps { λ _. ⌜ Keeps (now (full .entry)) (now (gates .entry)) (now (area .entry)) (now (keeping .exit)) ⌝ }
 {
-    let mut p = from;
-    while p < PROCESSES {
-        let q = next_receiver(full, gates, area, p, phases);
+    let mut left = senders;
+    while left != 0 {
+        let p = first(left);
+        let q = next_receiver(full, gates, area, p, phases, keeping);
         if q < PROCESSES {
-            return 64 * p + q;
+            return Hand {
+                channel: 64 * p + q,
+                senders: left,
+            };
         }
-        p += 1;
+        left = rest(left);
     }
-    CHANNELS
+    Hand {
+        channel: CHANNELS,
+        senders: 0,
+    }
 }
 
 // The other process of the next event of process z.
@@ -680,16 +729,6 @@ fn peer_of_next(full: &[u32], area: &[u32], z: usize) -> usize
 {
     let e = pointer(area, CURRENT + z);
     (full[EVENT_BASE + e] / 64 % 64) as usize
-}
-
-// Which sender to look at first: where the last search ended, unless the least phase is another than it was.
-fn look_from(was: u32, is: u32, from: usize) -> usize
-    ensures { λ r. ⌜ r ≡ unlessNew was is from 0 ⌝ }
-{
-    if is == was {
-        return from;
-    }
-    0
 }
 
 // The oldest kept message of channel c is handed over: the set of those whom that may let run.
@@ -702,20 +741,62 @@ fn hand_over(links: &[u32], area: &mut [u32], c: usize) -> u64
     with(with(0, c / 64), c % 64)
 }
 
-// The first member of a set does its next event: the set with those whom that may let run.
+// The first member of a set does its next event: the set with whom that may let run where the least phase stays.
 fn run_first(full: &[u32], links: &[u32], area: &mut [u32], set: u64) -> u64
     requires { ⌜ (firstIn set < 64) × Movable (now full) (now links) (now area) ⌝ }
     ensures words { λ _. ⌜ now (area .exit) ≡ processW (now (full .entry)) (now (links .entry)) (now (area .entry)) (firstIn set) ⌝ }
-    ensures set { λ r. ⌜ r ≡ unlessNew (lowW (now (area .entry))) (lowW (now (area .exit))) (withIn set (peerW (now (full .entry)) (curW (now (area .entry)) (firstIn set)))) everyone ⌝ }
+    ensures set { λ r. ⌜ r ≡ withIn set (peerW (now (full .entry)) (curW (now (area .entry)) (firstIn set))) ⌝ }
 {
     let z = first(set);
-    let low = area[LOW];
     let peer = peer_of_next(full, area, z);
     do_process(full, links, area, z);
-    if area[LOW] != low {
-        return EVERYONE;
-    }
     with(set, peer)
+}
+
+// A set of processes outside of which none has an event left: where the least phase is new, those of them that have one.
+fn still_to_run(area: &[u32], was: u32, set: u64) -> u64
+    requires { ⌜ (length (now area) ≡ areaWords) × Bounded (now area) × ToRun (now area) set ⌝ }
+    ensures { λ r. ⌜ ToRun (now (area .entry)) r ⌝ }
+{
+    if area[LOW] == was {
+        return set;
+    }
+    let mut some: u64 = 0;
+    let mut left = set;
+    while left != 0 {
+        let z = first(left);
+        some = with_unless(some, z, pointer(area, CURRENT + z) == 0);
+        left = rest(left);
+    }
+    some
+}
+
+// A set of senders: where the least phase is new, without those whose phase says that they keep no message.
+fn still_keeping(phases: &[u32], was: u32, is: u32, set: u64) -> u64
+    requires { ⌜ length (now phases) ≡ 64 ⌝ }
+    ensures { λ r. ⌜ Outside (λ p. inSet set p ≡ true → getD (now (phases .entry)) p 0 ≡ noPhase) r ⌝ }
+{
+    if is == was {
+        return set;
+    }
+    let mut some: u64 = 0;
+    let mut left = set;
+    while left != 0 {
+        let p = first(left);
+        some = with_unless(some, p, phases[p] == NO_PHASE);
+        left = rest(left);
+    }
+    some
+}
+
+// One set where the least phase is what it was, else another.
+fn unless_new(was: u32, is: u32, set: u64, other: u64) -> u64
+    ensures { λ r. ⌜ r ≡ unlessNew was is set other ⌝ }
+{
+    if is == was {
+        return set;
+    }
+    other
 }
 
 // Carries out the lowest choices, one after another, at most so many: how many there were. Only a new least phase lets others run, or
@@ -725,22 +806,29 @@ fn carry_lowest(full: &[u32], links: &[u32], gates: &[u32], area: &mut [u32], mo
     ensures { λ r. ⌜ ((R : Run) → Started R (now (full .entry)) (now (links .entry)) (now (gates .entry)) (now (area .entry)) → Lowered R (now (area .exit)) most r) ⌝ }
 {
     let mut phases = [0u32; PROCESSES];
+    let mut keeping = [EVERYONE; PROCESSES];
+    let mut running: u64 = EVERYONE;
+    let mut keepers: u64 = EVERYONE;
     let mut may: u64 = EVERYONE;
-    let mut from: usize = 0;
+    let mut senders: u64 = EVERYONE;
     let mut i: usize = 0;
     while i < most {
         may = runnable(full, gates, area, may);
         if may == 0 {
-            let c = next_hand(full, gates, area, from, &mut phases);
-            if c == CHANNELS {
+            let hand = next_hand(full, gates, area, senders, &mut phases, &mut keeping);
+            if hand.channel == CHANNELS {
                 return i;
             }
-            from = c / 64;
-            may = hand_over(links, area, c);
+            senders = hand.senders;
+            may = hand_over(links, area, hand.channel);
         } else {
             let low = area[LOW];
-            may = run_first(full, links, area, may);
-            from = look_from(low, area[LOW], from);
+            let with_peer = run_first(full, links, area, may);
+            running = still_to_run(area, low, running);
+            let now_low = area[LOW];
+            keepers = still_keeping(&phases, low, now_low, keepers);
+            may = unless_new(low, now_low, with_peer, running);
+            senders = unless_new(low, now_low, senders, keepers);
         }
         i += 1;
     }

@@ -1,53 +1,126 @@
--- `replay::next_hand` meets its contract: no kept message of a sender before p so far.
-use mathlib.Core.Path.{_≡_, refl, _∙_}
-use Prim.Native.Nat.{_+_, _*_, _-_, _/_, _≤_}
-use native.Mathlib.Omega.{arith}
+-- `replay::next_hand` meets its contract: no kept message of a sender that is not left so far.
+use mathlib.Core.Path.{_≡_, refl, sym, _∙_}
+use Prim.Native.Nat.{_+_, _*_, _/_, _^_, _<_}
 use lib.ListN.{length}
-use Rattle.replay.specs.Lowest.{Shut, Under}
-use Rattle.replay.proofs.Searching.{shut-to, shut-before}
+use Rattle.replay.specs.Lowest.{Shut, Under, Keeps}
+use Rattle.replay.proofs.Sets.{first-lt, first-in, rest-less}
+use Rattle.replay.proofs.Searching.{shut-to, shut-all, shut-rest}
+use native.Mathlib.Omega.{arith}
 use borrow.Author.Needs.{needs}
 use Rattle.replay.proofs.next_hand.Statement.{statement}
 use Rattle.replay.proofs.next_hand.Tie as tie
 
 abbrev Inv-loop : tie.InvT-loop
-Inv-loop full gates area from phases₀ p₀ phases p = (p ≤ 64) × (length phases ≡ length phases₀) × Shut full gates area (64 * p) × Under full gates area phases
+Inv-loop full gates area senders phases₀ keeping₀ left₀ phases keeping left = (left < 2 ^ 64) × (length phases ≡ length phases₀) × (length keeping ≡ length keeping₀) × Shut full gates area left × Under full gates area phases × Keeps full gates area keeping
 
 abbrev μ-loop : tie.MeasureT-loop
-μ-loop full gates area from phases₀ p₀ phases p = 64 - p
+μ-loop full gates area senders phases₀ keeping₀ left₀ phases keeping left = left
+
+loop-holds : tie.Need-loop-holds Inv-loop μ-loop
+loop-holds c =
+    let pre = c .before .before .before .before .before .pre in
+    (search needs, refl, refl, (pre .3), (pre .4), (pre .5))
 
 next-receiver-requires : tie.Need-next-receiver-requires Inv-loop μ-loop
 next-receiver-requires c κs =
-    let loop-test = c .before .loop-test in
-    let loop = c .before .before .loop in
-    let pre = c .before .before .before .before .before .before .before .pre in
-    ((loop-test .taken), (loop .inv .1) ∙ (pre .1), (pre .2), (loop .inv .3))
+    let first = c .before .before .first in
+    let loop = c .before .before .before .before .loop in
+    let loop-test = c .before .before .before .loop-test in
+    let pre = c .before .before .before .before .before .before .before .before .before .before .pre in
+    (omega (arith, (first .ensures), first-lt (loop .left) (omega (arith, (loop-test .taken))) (loop .inv .0)), (loop .inv .1) ∙ (pre .0), (loop .inv .2) ∙ (pre .1), (pre .2), (loop .inv .4), (loop .inv .5))
+
+mul-t15 : tie.Need-mul-t15 Inv-loop μ-loop
+mul-t15 c =
+    let first = c .before .before .before .before .before .before .before .before .first in
+    let loop = c .before .before .before .before .before .before .before .before .before .before .loop in
+    let loop-test = c .before .before .before .before .before .before .before .before .before .loop-test in
+    omega (arith, (first .ensures), first-lt (loop .left) (omega (arith, (loop-test .taken))) (loop .inv .0))
+
+add-t16 : tie.Need-add-t16 Inv-loop μ-loop
+add-t16 c =
+    let first = c .before .before .before .before .before .before .before .before .first in
+    let if1 = c .if1 in
+    let loop = c .before .before .before .before .before .before .before .before .before .before .loop in
+    let loop-test = c .before .before .before .before .before .before .before .before .before .loop-test in
+    omega (arith, (first .ensures), (if1 .taken), first-lt (loop .left) (omega (arith, (loop-test .taken))) (loop .inv .0))
+
+same-length : tie.Need-same-length Inv-loop μ-loop
+same-length c =
+    let next-receiver = c .before .before .before .before .before .next-receiver in
+    let loop = c .before .before .before .before .before .before .before .before .before .before .loop in
+    (next-receiver .kept .1 .1 .1 .1 .0) ∙ (loop .inv .1)
+
+same-length-2 : tie.Need-same-length-2 Inv-loop μ-loop
+same-length-2 c =
+    let next-receiver = c .before .before .before .before .before .next-receiver in
+    let loop = c .before .before .before .before .before .before .before .before .before .before .loop in
+    (next-receiver .kept .1 .1 .1 .1 .1 .0) ∙ (loop .inv .2)
 
 returns : tie.Need-returns Inv-loop μ-loop
 returns c =
-    let loop = c .before .before .before .before .before .before .loop in
-    let next-receiver = c .before .before .before .next-receiver in
+    let loop = c .before .before .before .before .before .before .before .before .before .before .loop in
+    let loop-test = c .before .before .before .before .before .before .before .before .before .loop-test in
+    let first = c .before .before .before .before .before .before .before .before .first in
+    let next-receiver = c .before .before .before .before .before .next-receiver in
     let if1 = c .if1 in
-    let loop-test = c .before .before .before .before .before .loop-test in
-    let e : (64 * (loop .p) + (next-receiver .result)) / 64 ≡ (loop .p) = omega (arith, (if1 .taken)) in
-    let f = (next-receiver .ensures .1 .0) .1 (if1 .taken) in (
-      shut-to _ _ _ (loop .p) (next-receiver .result) ((next-receiver .ensures .1 .0) .0) (loop .inv .2) (next-receiver .ensures .0),
-      ((λ n. (omega (arith, (loop-test .taken), (if1 .taken)), rw e (f .0), rw e (f .1))), (next-receiver .ensures .1 .1)),
+    let lt = first-lt (loop .left) (omega (arith, (loop-test .taken))) (loop .inv .0) in
+    let e : (64 * (first .result) + (next-receiver .result)) / 64 ≡ (first .result) = omega (arith, (if1 .taken)) in
+    let f = (next-receiver .ensures .1 .0) .1 (if1 .taken) in
+    let m = first-in (loop .left) (omega (arith, (loop-test .taken))) (loop .inv .0) in (
+      shut-to _ _ _ (loop .left) (first .result) (next-receiver .result) (first .ensures) (omega (arith, (first .ensures), lt)) ((next-receiver .ensures .1 .0) .0) (loop .inv .3) (next-receiver .ensures .0),
+      (
+        (λ n. (omega (arith, (first .ensures), lt, (if1 .taken)), rw e (f .0), rw e (f .1), rw e (f .2), rw (e, (first .ensures)) m)),
+        ((loop .inv .3), ((next-receiver .ensures .1 .1 .0), (next-receiver .ensures .1 .1 .1))),
+      ),
     )
+
+rest-requires : tie.Need-rest-requires Inv-loop μ-loop
+rest-requires c κs =
+    let loop-test = c .before .before .before .before .before .before .before .before .before .loop-test in
+    omega (arith, (loop-test .taken))
+
+loop-less : tie.Need-loop-less Inv-loop μ-loop
+loop-less c =
+    let rest = c .rest in
+    let loop = c .before .before .before .before .before .before .before .before .before .before .before .loop in
+    let loop-test = c .before .before .before .before .before .before .before .before .before .before .loop-test in
+    omega (arith, (rest .ensures), rest-less (loop .left) (omega (arith, (loop-test .taken))))
 
 loop-again : tie.Need-loop-again Inv-loop μ-loop
 loop-again c =
-    let next-receiver = c .before .before .before .next-receiver in
-    let loop = c .before .before .before .before .before .before .loop in
-    let if1 = c .if1 in
-    (omega arith, (next-receiver .kept .1 .1 .1 .1 .0) ∙ (loop .inv .1), shut-before _ _ _ (64 * (loop .p) + (next-receiver .result)) _ (omega (arith, (if1 .left))) (shut-to _ _ _ (loop .p) (next-receiver .result) ((next-receiver .ensures .1 .0) .0) (loop .inv .2) (next-receiver .ensures .0)), (next-receiver .ensures .1 .1))
+    let rest = c .rest in
+    let loop = c .before .before .before .before .before .before .before .before .before .before .before .loop in
+    let loop-test = c .before .before .before .before .before .before .before .before .before .before .loop-test in
+    let next-receiver = c .before .before .before .before .before .before .next-receiver in
+    let first = c .before .before .before .before .before .before .before .before .before .first in
+    let if1 = c .before .if1 in (
+      omega (arith, (rest .ensures), (loop .inv .0), rest-less (loop .left) (omega (arith, (loop-test .taken)))),
+      (next-receiver .kept .1 .1 .1 .1 .0) ∙ (loop .inv .1),
+      (next-receiver .kept .1 .1 .1 .1 .1 .0) ∙ (loop .inv .2),
+      shut-rest _ _ _ (loop .left) (first .result) (rest .result) (omega (arith, (loop-test .taken))) (loop .inv .0) (first .ensures) (rest .ensures) (λ q h. (next-receiver .ensures .0) q (omega (arith, h, (if1 .left)))) (loop .inv .3),
+      (next-receiver .ensures .1 .1 .0),
+      (next-receiver .ensures .1 .1 .1),
+    )
+
+same-length-3 : tie.Need-same-length-3 Inv-loop μ-loop
+same-length-3 c =
+    let loop = c .before .loop in
+    (loop .inv .1)
+
+same-length-4 : tie.Need-same-length-4 Inv-loop μ-loop
+same-length-4 c =
+    let loop = c .before .loop in
+    (loop .inv .2)
 
 returns-2 : tie.Need-returns-2 Inv-loop μ-loop
 returns-2 c =
     let loop = c .before .loop in
     let loop-test = c .loop-test in
-    (shut-before _ _ _ (64 * (loop .p)) 4096 (omega (arith, (loop-test .left))) (loop .inv .2), ((λ n. absurd (n refl)), (loop .inv .3)))
+    let e : (loop .left) ≡ 0 = omega (arith, (loop-test .left)) in
+    let k = rw e at (loop .inv .3) in
+    (shut-all _ _ _ k, ((λ n. absurd (n refl)), (k, ((loop .inv .4), (loop .inv .5)))))
 
 pub next-hand-spec : {M : Type 1} → statement M
 next-hand-spec =
     tie.close
-    (tie.spec Inv-loop μ-loop (λ c. search needs) next-receiver-requires (λ c. search needs) (λ c. search needs) (λ c. search needs) returns (λ c. search needs) (λ c. search needs) loop-again (λ c. search needs) returns-2)
+    (tie.spec Inv-loop μ-loop loop-holds (λ c κs. search needs) next-receiver-requires mul-t15 add-t16 same-length same-length-2 returns rest-requires loop-less loop-again same-length-3 same-length-4 returns-2)
