@@ -28,6 +28,11 @@ unfolding puts
 puts-append [] ys s = refl
 puts-append (b ∷ xs) ys s = puts-append xs ys (putOne b s)
 
+puts-full : (bs out : List ℕ) (at : ℕ) → length out ≤ at → puts bs (record { bytes = out; next = at }) ≡ record { bytes = out; next = at }
+unfolding puts putOne
+puts-full [] out at h = refl
+puts-full (b ∷ bs) out at h = rw (le-ltb at (length out) h) (puts-full bs out at h)
+
 pub none : (out : List ℕ) (at : ℕ) → Puts [] out at out at
 unfolding puts
 none out at = record { is = refl }
@@ -61,6 +66,9 @@ pub copied-next : (bs out : List ℕ) (i at : ℕ) (s : Laid) → i < length bs 
 copied-next bs out i at s h free e =
     ap (λ (k : ℕ). puts (drop (i + 1) bs) (record { bytes = set out (at + i) (getD bs i 0); next = k })) (let q : at + (i + 1) ≡ at + i + 1 = omega arith in q)
     ∙ next-byte bs out (set out (at + i) (getD bs i 0)) i (at + i) (at + i + 1) s h (put-in (getD bs i 0) (at + i) out free) e
+
+pub full-put : (bs out : List ℕ) (at : ℕ) → length out ≤ at → Puts bs out at out at
+full-put bs out at h = record { is = sym (puts-full bs out at h) }
 
 -- ---- From the first place on
 

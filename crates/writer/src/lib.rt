@@ -43,14 +43,15 @@ fn put_each(out: &mut [u8], at: usize, bytes: &[u8]) -> usize
     next
 }
 
-// Where all bytes have room, one test serves for all of them.
+// A full buffer is left as it is; where all bytes have room, one test serves for all of them.
 pub fn put_bytes(out: &mut [u8], at: usize, bytes: &[u8]) -> usize
     ensures { λ r. ⌜ Puts (now (bytes .entry)) (now (out .entry)) at (now (out .exit)) r ⌝ }
 {
-    if at <= out.len() {
-        if bytes.len() <= out.len() - at {
-            return copy(out, at, bytes);
-        }
+    if at >= out.len() {
+        return at;
+    }
+    if bytes.len() <= out.len() - at {
+        return copy(out, at, bytes);
     }
     put_each(out, at, bytes)
 }

@@ -3,7 +3,6 @@ use mathlib.Core.Path.{refl}
 use Rattle.writer.proofs.Buffers.{then, same-bytes}
 use Rattle.report.specs.Bytes.{bytesOf}
 use Rattle.report.proofs.Lines.{row-put, message-keys}
-use native.Mathlib.Omega.{arith}
 use borrow.Author.Needs.{needs}
 use Rattle.report.proofs.put_message.Statement.{statement}
 use Rattle.report.proofs.put_message.Tie as tie

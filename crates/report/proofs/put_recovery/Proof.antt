@@ -1,6 +1,5 @@
 -- `report::put_recovery` meets its contract: the lines of the processes, the orphans, the kept messages, and the total.
 use Rattle.report.proofs.Lines.{recovery-put}
-use native.Mathlib.Omega.{arith}
 use borrow.Author.Needs.{needs}
 use Rattle.report.proofs.put_recovery.Statement.{statement}
 use Rattle.report.proofs.put_recovery.Tie as tie

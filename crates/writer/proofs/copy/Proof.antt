@@ -1,5 +1,5 @@
 -- `writer::copy` meets its contract: what is still to write from byte i on.
-use mathlib.Core.Path.{_≡_, refl, _∙_}
+use mathlib.Core.Path.{_≡_, refl}
 use Prim.Native.Nat.{_+_, _-_, _≤_}
 use lib.ListN.{length, drop, length-set}
 use Rattle.writer.specs.Buffer.{puts}

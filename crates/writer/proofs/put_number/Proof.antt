@@ -1,6 +1,5 @@
 -- `writer::put_number` meets its contract: one digit, two, three, or more.
 use Rattle.writer.proofs.Digits.{number-one, number-two, number-three}
-use native.Mathlib.Omega.{arith}
 use borrow.Author.Needs.{needs}
 use Rattle.writer.proofs.put_number.Statement.{statement}
 use Rattle.writer.proofs.put_number.Tie as tie

@@ -1,6 +1,5 @@
 -- `writer::put_two` meets its contract: a digit, then a digit.
 use Rattle.writer.proofs.Buffers.{then}
-use native.Mathlib.Omega.{arith}
 use borrow.Author.Needs.{needs}
 use Rattle.writer.proofs.put_two.Statement.{statement}
 use Rattle.writer.proofs.put_two.Tie as tie
