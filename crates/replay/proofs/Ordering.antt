@@ -12,7 +12,12 @@ use Rattle.simulation.specs.Words.{currentBase, allowedW, applyW, Bounded, none
 use Rattle.simulation.specs.Record.{Live}
 use Rattle.simulation.proofs.Orders.{live-bad, live-next, live-end, live-start, none-same, rel-bounded, record-left}
 use Rattle.replay.specs.declared.Replayed.{Replayed}
-use Rattle.simulation.specs.Related.{Started}
+use Rattle.simulation.specs.Related.{Rel, Started}
+use Rattle.simulation.proofs.Facts.{ready-low}
+use Rattle.theory.specs.Replay.{State}
+use Rattle.theory.proofs.Flow.{Inv}
+use Rattle.replay.specs.Shapes.{LowIs}
+use Rattle.replay.proofs.Steps.{low-same}
 use Rattle.replay.specs.Left.{Left}
 use Rattle.replay.specs.Answer.{answerOf, wordsOf}
 
@@ -22,6 +27,11 @@ module _ (R : Run) (t l g a₀ : List ℕ) (S : Started R t l g a₀) where
 
   pub live-bound : (a : List ℕ) (i : ℕ) (ns : List ℕ) (w : Outcome) → Live R a i ns w → Bounded a
   live-bound a i ns w v = rel-bounded R (S .laws) t l g (S .cols) a (v .0) (v .1) (v .2)
+
+  -- the least phase in a word is that of an orphan not sent again
+  pub low-is : (a : List ℕ) (s : State) → Rel R a s → Inv R s → LowIs t a
+  unfolding LowIs
+  low-is a s r i h = low-same t a (getD t 0 0) h (λ x k. sym (r .low x k) ∙ ready-low R (S .laws) t g (S .cols .base) s (i .cursors) a (r .orp) x k)
 
   pub procs-few : getD t 0 0 ≤ 64
   procs-few = omega (arith, S .cols .base .procs-is, S .laws .few)

@@ -1,5 +1,6 @@
 -- One law for each way out of the functions that test a choice or take it, over the values that the code has there.
 use mathlib.Core.Path.{_≡_, refl, sym, _∙_}
+use mathlib.Core.Logic.{_≢_}
 use mathlib.Core.Bool.{Bool, true, false, not, and-false}
 use mathlib.Core.List.{List}
 use Prim.Native.Nat.{ℕ, zero, suc, _+_, _-_, _*_, _/_, _≤_, _<_}
@@ -9,9 +10,10 @@ use lib.ListN.{length, getD, set}
 use lib.Seq.{getD-set-same, getD-set-other}
 use lib.Dec.{ltb, eqb}
 use borrow.Author.Tests.{lt-ltb, le-ltb, eq-eqb, ne-eqb, ltb-true}
-use Rattle.words.proofs.Cases.{by-bool, by-eq, clash}
+use Rattle.words.proofs.Cases.{by-bool, by-lt, by-eq, clash}
 use Rattle.replay.specs.Lowest.{keptPhase}
-use Rattle.simulation.specs.Words.{currentBase, lowPlace, noPhase, kindW, peerW, phaseW, curW, orpW, takeW, putW, lowW, sendOk, eventOk, processOk, handOk, allowedW, lowerW, lowOf, movedW, dropW, putInW, takeOutW, eventW, processW, applyW, Bounded, Small, noneFrom}
+use Rattle.replay.specs.Shapes.{LowIs}
+use Rattle.simulation.specs.Words.{currentBase, orphanBase, lowPlace, noPhase, kindW, peerW, phaseW, curW, orpW, takeW, putW, lowW, sendOk, eventOk, processOk, handOk, allowedW, lowerW, lowOf, movedW, dropW, putInW, takeOutW, eventW, processW, applyW, Bounded, Small, noneFrom}
 
 pub bound : (a : List ℕ) (k : ℕ) → Bounded a → currentBase ≤ k → k < lowPlace → getD a k 0 < 2049
 unfolding Bounded
@@ -76,6 +78,69 @@ module _ (t g a : List ℕ) (c : ℕ) where
 pub low-next : (t a : List ℕ) (z o low r : ℕ) → o ≡ orpW a z → low ≡ lowOf t a z → r ≡ lowerW t o low → r ≡ lowOf t a (z + 1)
 unfolding lowOf
 low-next t a z o low r eo el er = rw (add-one z, ← eo, ← el) er
+
+-- ---- The least phase of an orphan not sent again, of the processes before the n-th
+
+module _ (t : List ℕ) where
+  lower-cases : {A : Type 0} (o m : ℕ) → (lowerW t o m ≡ m → (o ≢ 0 → m ≤ phaseW t o) → A) → (lowerW t o m ≡ phaseW t o → phaseW t o < m → A) → A
+  lower-cases o m f g = by-eq o 0
+      (λ e. f (rw (eq-eqb o 0 e)) (λ n. absurd (n e)))
+      (λ e. by-lt (phaseW t o) m (λ l. g (rw (ne-eqb o 0 e, lt-ltb (phaseW t o) m l)) l) (λ l. f (rw (ne-eqb o 0 e, le-ltb (phaseW t o) m l)) (λ n. l)))
+
+  lower-le : (o m : ℕ) → lowerW t o m ≤ m
+  lower-le o m = lower-cases o m (λ e n. omega (arith, e)) (λ e l. omega (arith, e, l))
+
+  lower-phase : (o m : ℕ) → o ≢ 0 → lowerW t o m ≤ phaseW t o
+  lower-phase o m h = lower-cases o m (λ e n. omega (arith, e, n h)) (λ e l. omega (arith, e))
+
+  lower-from : (o k m : ℕ) → k ≤ m → (o ≢ 0 → k ≤ phaseW t o) → k ≤ lowerW t o m
+  lower-from o k m h j = by-eq o 0
+      (λ e. rw (eq-eqb o 0 e) h)
+      (λ e. lower-cases o m (λ q n. omega (arith, q, h)) (λ q l. omega (arith, q, j e)))
+
+  low-down : (a : List ℕ) (n k : ℕ) → lowOf t a (n + k) ≤ lowOf t a n
+  unfolding lowOf
+  low-down a n zero = let e : n + zero ≡ n = omega arith in rw e (omega arith)
+  low-down a n (suc k) = let e : n + suc k ≡ suc (n + k) = omega arith in rw e (omega (arith, lower-le (orpW a (n + k)) (lowOf t a (n + k)), low-down a n k))
+
+  low-top : (a : List ℕ) (n : ℕ) → lowOf t a n ≤ noPhase
+  unfolding lowOf
+  low-top a n = let e : 0 + n ≡ n = omega arith in rw e at (low-down a 0 n)
+
+  -- where a phase that none is below is found, it is the least
+  pub low-found : (a : List ℕ) (z n low least : ℕ) → z < n → low ≡ lowOf t a (z + 1) → low ≤ least → least ≤ lowOf t a n → low ≡ lowOf t a n
+  low-found a z n low least h e j k =
+      let f : z + 1 + (n - (z + 1)) ≡ n = omega arith in
+      let d : lowOf t a n ≤ lowOf t a (z + 1) = (rw f at (low-down a (z + 1) (n - (z + 1)))) in
+      omega (arith, e, j, k, d)
+
+  -- one process has another orphan next: none is below the least so far and that one
+  pub low-from : (a : List ℕ) (z v m n : ℕ) → orphanBase + z < length a → m ≤ lowOf t a n → lowerW t v m ≤ lowOf t (set a (orphanBase + z) v) n
+  unfolding lowOf
+  low-from a z v m zero h k = omega (arith, k, lower-le v m)
+  low-from a z v m (suc n) h k =
+      let le = low-from a z v m n h (omega (arith, k, lower-le (orpW a n) (lowOf t a n))) in
+      by-eq n z
+      (λ e. let f : orpW (set a (orphanBase + z) v) n ≡ v = rw e (getD-set-same a (orphanBase + z) v 0 h) in
+      rw f (lower-from v _ _ le (λ x. lower-phase v m x)))
+      (λ e. let f : orpW (set a (orphanBase + z) v) n ≡ orpW a n = getD-set-other a (orphanBase + z) (orphanBase + n) v 0 (λ x. e (omega arith)) in
+      rw f (lower-from (orpW a n) _ _ le (λ x. omega (arith, k, lower-le v m, lower-phase (orpW a n) (lowOf t a n) x))))
+
+  pub low-bound : (a : List ℕ) (z v : ℕ) → z < 64 → orphanBase + z < length a → lowW (set a (orphanBase + z) v) ≤ noPhase → LowIs t a
+      → lowerW t v (lowW (set a (orphanBase + z) v)) ≤ lowOf t (set a (orphanBase + z) v) (getD t 0 0)
+  unfolding LowIs
+  low-bound a z v hz h l is =
+      let e : lowW (set a (orphanBase + z) v) ≡ lowW a = getD-set-other a (orphanBase + z) lowPlace v 0 (λ x. omega arith) in
+      let f = is (omega (arith, l, e)) in
+      rw e (low-from a z v (lowW a) (getD t 0 0) h (omega (arith, f)))
+
+  -- two numbers that are above the same ones
+  pub low-same : (a : List ℕ) (n : ℕ) → lowW a ≤ noPhase → ((r : ℕ) → r < noPhase → ltb r (lowW a) ≡ ltb r (lowOf t a n)) → lowW a ≡ lowOf t a n
+  low-same a n l h = by-lt (lowW a) (lowOf t a n)
+      (λ k. clash (lt-ltb (lowW a) (lowOf t a n) k) (sym (h (lowW a) (omega (arith, k, low-top a n))) ∙ le-ltb (lowW a) (lowW a) (omega arith)))
+      (λ k. by-lt (lowOf t a n) (lowW a)
+      (λ j. clash (lt-ltb (lowOf t a n) (lowW a) j) (h (lowOf t a n) (omega (arith, j, l)) ∙ le-ltb (lowOf t a n) (lowOf t a n) (omega arith)))
+      (λ j. omega arith))
 
 -- a new pointer is an event
 pub bounded-set : (l a : List ℕ) (k j : ℕ) → Bounded a → Small l → k < length a → Bounded (set a k (getD l j 0))

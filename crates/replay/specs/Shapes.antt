@@ -4,17 +4,21 @@ use mathlib.Core.Path.{_≡_}
 use mathlib.Core.List.{List}
 use lib.ListN.{length, getD}
 use Rattle.words.specs.Area.{areaWords}
-use Rattle.simulation.specs.Words.{kindW, Bounded, Small}
+use Rattle.simulation.specs.Words.{noPhase, kindW, lowW, lowOf, Bounded, Small}
 use Rattle.simulation.specs.Linking.{pairW, linkedA}
 
 -- what a test reads
 abbrev pub Readable : List ℕ → List ℕ → List ℕ → Type 0
 Readable full gates area = (length full ≡ areaWords) × (128 ≤ length gates) × (length area ≡ areaWords) × Bounded area
 
+-- the least phase is that of an orphan not sent again
+unfoldable pub LowIs : List ℕ → List ℕ → Type 0
+LowIs full area = lowW area ≤ noPhase → lowW area ≡ lowOf full area (getD full 0 0)
+
 -- what a step reads and writes
 abbrev pub Movable : List ℕ → List ℕ → List ℕ → Type 0
 Movable full links area =
-    (length full ≡ areaWords) × (getD full 0 0 ≤ 64) × (8197 ≤ length links) × Small links × (length area ≡ areaWords) × Bounded area
+    (length full ≡ areaWords) × (getD full 0 0 ≤ 64) × (8197 ≤ length links) × Small links × (length area ≡ areaWords) × Bounded area × LowIs full area
 
 -- the event that a send's or a receive's message is matched with is one of the trace, or 0
 abbrev pub Paired : List ℕ → ℕ → Type 0

@@ -4,7 +4,7 @@ use mathlib.Core.Path.{_≡_, refl, sym, _∙_}
 use mathlib.Core.Logic.{⊎-elim}
 use Prim.Native.Nat.{_-_, _≤_, _<_}
 use lib.ListN.{getD-replicate}
-use Rattle.replay.proofs.Ordering.{procs-few, links-long}
+use Rattle.replay.proofs.Ordering.{low-is, procs-few, links-long}
 use Rattle.replay.proofs.Lowering.{going-bound, going-out}
 use Rattle.replay.proofs.Sets.{first-lt}
 use Rattle.replay.specs.Lowest.{everyone}
@@ -84,7 +84,7 @@ run-first-requires c κs =
     let loop = c .before .before .before .before .before .before .loop in
     let pre = c .before .before .before .before .before .before .before .before .before .before .before .pre in
     let args = c .before .before .before .before .before .before .before .before .before .before .before .args in
-    (first-lt (runnable .result) (omega (arith, (if1 .left))) (omega (arith, (runnable .ensures .0), (loop .inv .1 .1))), ((pre .0), procs-few _ _ _ _ _ (pre .4 .1), links-long _ _ _ _ _ (pre .4 .1), (pre .3), (loop .inv .1 .0) ∙ (pre .2), going-bound _ _ _ _ _ (pre .4 .1) (args .most) (loop .area) (loop .i) ((loop .inv .1 .4) (pre .4 .0) (pre .4 .1))))
+    (first-lt (runnable .result) (omega (arith, (if1 .left))) (omega (arith, (runnable .ensures .0), (loop .inv .1 .1))), ((pre .0), procs-few _ _ _ _ _ (pre .4 .1), links-long _ _ _ _ _ (pre .4 .1), (pre .3), (loop .inv .1 .0) ∙ (pre .2), going-bound _ _ _ _ _ (pre .4 .1) (args .most) (loop .area) (loop .i) ((loop .inv .1 .4) (pre .4 .0) (pre .4 .1)), (let v = (loop .inv .1 .4) (pre .4 .0) (pre .4 .1) in low-is _ _ _ _ _ (pre .4 .1) _ _ (v .1) (v .2))))
 
 still-to-run-requires : tie.Need-still-to-run-requires Inv-loop μ-loop
 still-to-run-requires c κs =

@@ -4,7 +4,7 @@ use Prim.Native.Nat.{_-_, _≤_}
 use native.Mathlib.Omega.{arith}
 use lib.ListN.{length}
 use Rattle.replay.proofs.Steps.{allowed-lt}
-use Rattle.replay.proofs.Ordering.{run-starts, live-bound, procs-few, links-long, run-bad, run-next, run-end}
+use Rattle.replay.proofs.Ordering.{run-starts, live-bound, procs-few, links-long, run-bad, run-next, run-end, low-is}
 use Rattle.simulation.specs.Record.{Live}
 use Rattle.theory.specs.Line.{Run}
 use Rattle.theory.specs.Order.{run}
@@ -34,7 +34,7 @@ apply-requires c κs =
     let if1 = c .before .if1 in
     let pre = c .before .before .before .before .before .before .before .before .before .before .before .before .before .pre in
     let loop = c .before .before .before .before .before .before .before .loop in
-    (allowed-lt _ _ _ _ (sym (allowed .ensures) ∙ (if1 .taken)), ((pre .0), procs-few _ _ _ _ _ ((pre .4) .1), links-long _ _ _ _ _ ((pre .4) .1), (pre .3), (loop .inv .1) ∙ (pre .2), live-bound _ _ _ _ _ ((pre .4) .1) _ _ _ _ ((loop .inv .2) ((pre .4) .0) ((pre .4) .1))))
+    (allowed-lt _ _ _ _ (sym (allowed .ensures) ∙ (if1 .taken)), ((pre .0), procs-few _ _ _ _ _ ((pre .4) .1), links-long _ _ _ _ _ ((pre .4) .1), (pre .3), (loop .inv .1) ∙ (pre .2), live-bound _ _ _ _ _ ((pre .4) .1) _ _ _ _ ((loop .inv .2) ((pre .4) .0) ((pre .4) .1)), (let v = (loop .inv .2) ((pre .4) .0) ((pre .4) .1) in low-is _ _ _ _ _ ((pre .4) .1) _ _ (v .1) (v .2))))
 
 loop-again : tie.Need-loop-again Inv-loop μ-loop
 loop-again c =

@@ -1,20 +1,31 @@
 -- `replay::drop_orphan` meets its contract: the stores themselves, the phase by the area after the first.
 use mathlib.Core.Path.{_≡_}
-use native.Mathlib.Omega.{arith}
+use Prim.Native.Nat.{_+_, _*_}
 use lib.ListN.{length-set}
-use Rattle.replay.proofs.Steps.{bounded-set}
-use Rattle.simulation.specs.Words.{dropW}
+use Rattle.replay.proofs.Steps.{bounded-set, low-bound}
+use Rattle.simulation.specs.Words.{dropW, Small}
+use native.Mathlib.Omega.{arith}
 use borrow.Author.Needs.{needs}
 use Rattle.replay.proofs.drop_orphan.Statement.{statement}
 use Rattle.replay.proofs.drop_orphan.Tie as tie
 
+lower-requires : tie.Need-lower-requires
+unfolding Small
+lower-requires c κs =
+    let wide = c .before .wide in
+    let pre = c .before .before .before .before .before .before .before .before .pre in
+    let args = c .before .before .before .before .before .before .before .before .args in
+    (omega (arith, (wide .ensures), (pre .2 .3) (4 * (args .e) + 2)), (pre .2 .0))
+
 lowest-phase-requires : tie.Need-lowest-phase-requires
 lowest-phase-requires c κs =
-    let pre = c .before .before .before .before .before .before .pre in
-    (pre .2 .1, pre .2 .0, simp length-set (pre .2 .4), bounded-set _ _ _ _ (pre .2 .5) (pre .2 .3) (omega (arith, pre .2 .4)))
-
-slice-write-area-2 : tie.Need-slice-write-area-2
-slice-write-area-2 c = simp length-set (omega arith)
+    let slice-known2 = c .before .before .slice-known2 in
+    let pre = c .before .before .before .before .before .before .before .before .before .before .pre in
+    let lower = c .before .lower in
+    let wide = c .before .before .before .wide in
+    let args = c .before .before .before .before .before .before .before .before .before .before .args in
+    let low = (slice-known2 .given) 14467 in
+    ((pre .2 .1), (pre .2 .0), simp length-set (pre .2 .4), bounded-set _ _ _ _ (pre .2 .5) (pre .2 .3) (omega (arith, (pre .2 .4))), rw ((lower .ensures), (wide .ensures)) (low-bound _ _ (args .z) _ (pre .0) (omega (arith, (pre .0), (pre .2 .4))) (omega (arith, low)) (pre .2 .6)))
 
 returns : tie.Need-returns
 unfolding dropW
@@ -25,4 +36,4 @@ returns c =
 pub drop-orphan-spec : {M : Type 1} → statement M
 drop-orphan-spec =
     tie.close
-    (tie.spec (λ c. search needs) (λ c. search needs) (λ c. search needs) (λ c. search needs) (λ c. search needs) (λ c. search needs) (λ c. search needs) (λ c. search needs) (λ c. search needs) lowest-phase-requires slice-write-area-2 (λ c. search needs) returns)
+    (tie.spec (λ c. search needs) (λ c. search needs) (λ c. search needs) (λ c. search needs) (λ c. search needs) (λ c. search needs) (λ c. search needs) (λ c. search needs) (λ c. search needs) (λ c. search needs) (λ c. search needs) (λ c. search needs) (λ c. search needs) (λ c κs. search needs) (λ c. search needs) lower-requires lowest-phase-requires (λ c. search needs) (λ c. search needs) returns)
