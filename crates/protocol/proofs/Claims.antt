@@ -1,16 +1,19 @@
--- What the protocol part promises, and all that recovery relies on: the columns of the full table (specs/Columns, by the contract of
--- `tabulate`), and the laws of a recorded run.
+-- What the protocol part promises: the words of the full table (specs/Columns, by the contract of `tabulate`), of which recovery relies on
+-- the columns only, and the laws of a recorded run.
 use Prim.Native.Nat.{ℕ, _≤_}
 use mathlib.Core.Path.{_≡_}
 use mathlib.Core.Bool.{true}
 use mathlib.Core.List.{List}
 use Rattle.trace.specs.Fit.{wellFormed}
+use Rattle.trace.specs.Trace.{Trace}
 use Rattle.table.specs.Held.{held, holdsTrace}
 use Rattle.theory.specs.Events.{size}
 use Rattle.theory.specs.Epochs.{Rule}
 use Rattle.theory.specs.Line.{recorded}
 use Rattle.theory.specs.Laws.{Laws}
 use Rattle.theory.proofs.Epochs.{laws}
+use Rattle.protocol.specs.Columns.{Columns, Others}
+use Rattle.protocol.proofs.Others.{same-table}
 use Rattle.protocol.proofs.Passes.{held-formed, held-valid}
 
 -- "Recovery relies on what the protocol part promises and never on the text." The trace that an area holds is well formed, and with any
@@ -20,3 +23,7 @@ well-formed = held-formed
 
 pub recorded-laws : (a : List ℕ) → holdsTrace a ≡ true → (rule : Rule) (cut : ℕ) (line : ℕ → ℕ) → cut ≤ size (held a) → Laws (recorded (held a) rule cut line)
 recorded-laws a h rule cut line l = laws (held a) rule (held-valid a h) cut line l
+
+-- The contract of `tabulate` leaves no word free: two tables that it allows, from the same table before, are the same.
+pub one-table : (t : Trace) (before full other : List ℕ) → Columns t full → Others t (size t) before full → Columns t other → Others t (size t) before other → full ≡ other
+one-table = same-table

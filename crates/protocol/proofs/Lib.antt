@@ -5,5 +5,6 @@ pub mod Moves
 pub mod Bounds
 pub mod Storing
 pub mod Columns
+pub mod Others
 pub mod Work
 pub mod Passes

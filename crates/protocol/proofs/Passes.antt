@@ -25,11 +25,12 @@ use Rattle.theory.specs.Epochs.{past, notes, epochAt, phaseAt}
 use Rattle.theory.proofs.Base.{place-le, place-there, cnt-le, cnt-bound}
 use Rattle.theory.proofs.Events.{sends-is, partner}
 use Rattle.theory.proofs.WellFormed.{Valid, valid}
-use Rattle.protocol.specs.Columns.{Columns}
+use Rattle.protocol.specs.Columns.{Columns, Others}
 use Rattle.protocol.specs.Filling.{noteFull, noteWork, Notable, Filled, Working}
 use Rattle.protocol.proofs.Moves.{send-here, send-at, recv-here, recv-at, save-at}
 use Rattle.protocol.proofs.Bounds.{sendOf-most, phase-most, epoch-most}
 use Rattle.protocol.proofs.Columns.{no-message, oldest-is, oldest-found, send-filled, recv-filled, save-filled, latest-number}
+use Rattle.protocol.proofs.Others.{others-from, send-others, recv-others, save-others}
 use Rattle.protocol.proofs.Work.{send-working, recv-working, save-working}
 
 -- ---- The trace that an area holds
@@ -166,6 +167,14 @@ module _ (t : Trace) (A : Valid t) (few : size t ≤ 2048) (x : ℕ) (l : suc x 
       rw (oldest-is t x full F A few l work W a b e la lb) (recv-filled t x full F A few l work W a b e la lb)
   next-filled (Save a) e = save-filled t x full F A few l work W a e (process-few a (save-at t x a e))
 
+  pub next-others : (before : List ℕ) → Others t x before full → (v : Event) → eventAt t (suc x) ≡ v → Others t (suc x) before (noteFull full work (suc x) v)
+  next-others before O (Send a b v) e = send-others t x before full O F few l work a b v e
+  next-others before O (Recv a b) e =
+      let la = process-few a (recv-at t x a b e) in
+      let lb = sender-few a b e in
+      rw (oldest-is t x full F A few l work W a b e la lb) (recv-others t x before full O F few l work A W a b e la lb)
+  next-others before O (Save a) e = save-others t x before full O F few l work a e
+
   pub next-working : (v : Event) → eventAt t (suc x) ≡ v → Working t (suc x) (noteWork full work (suc x) v)
   next-working (Send a b v) e = send-working t x work W A few l a b v e (process-few a (send-at t x a b v e)) (receiver-few a b v e)
   next-working (Recv a b) e =
@@ -215,6 +224,12 @@ copied-filled a full h l c =
     begin-filled (held a) (set full 6163 0) (simp length-set l)
     (λ k q. getD-set-other full 6163 k 0 0 (λ z. omega arith) ∙ c k q ∙ held-word a h k (omega arith))
     (getD-set-same full 6163 0 0 (omega arith))
+
+-- the copy leaves the words from the number of event 1 on
+pub copied-others : (t : Trace) (x : ℕ) (before full after : List ℕ) → ((k : ℕ) → 6163 < k → getD full k 0 ≡ getD before k 0)
+    → Others t x (set full 6163 0) after → Others t x before after
+copied-others t x before full after c O =
+    others-from t x before (set full 6163 0) after (λ k h. getD-set-other full 6163 k 0 0 (λ z. omega arith) ∙ c k h) O
 
 pub zero-word : (n k : ℕ) → _≡_ {A = ℕ} (getD (replicate n 0) k 0) 0
 zero-word n k =

@@ -1,6 +1,6 @@
 // The protocol tables of a trace: for each event the number of its message, the epoch and the phase of its process, and the event
-// that it is matched with, computed in one pass over the events. specs/Columns says what each column means; proofs/Claims that the
-// laws of a recorded run follow. No public function has a `requires`. Assumes nothing.
+// that it is matched with, computed in one pass over the events. specs/Columns says what each word means; proofs/Claims that no
+// word is left free, and that the laws of a recorded run follow. No public function has a `requires`. Assumes nothing.
 ghost use mathlib.Core.Path.{_≡_};
 ghost use mathlib.Core.Bool.{true, false, _&&_};
 ghost use Prim.Native.Nat.{ℕ, max, _+_, _*_, _≤_, _<_};
@@ -8,10 +8,11 @@ ghost use lib.Dec.{ltb, eqb};
 ghost use lib.ListN.{length, getD, set};
 ghost use Rattle.words.specs.Area.{areaWords};
 ghost use Rattle.trace.specs.declared.Event.the-variants.{Send, Recv, Save};
+ghost use Rattle.theory.specs.Events.{size};
 ghost use Rattle.theory.specs.Epochs.{joined};
 ghost use Rattle.protocol.specs.Filling.{stored, orNew, sendFull, sendWork, recvPhase, recvFull, recvWork, saveFull, saveWork, noteFull, noteWork, oldestOf, Notable, Sized};
 ghost use Rattle.table.specs.Held.{held, holdsTrace};
-ghost use Rattle.protocol.specs.Columns.{Columns};
+ghost use Rattle.protocol.specs.Columns.{Columns, Others};
 ghost use Rattle.protocol.specs.Filling.{Filled, Working};
 use trace::EVENT_BASE;
 use trace::Event;
@@ -151,7 +152,8 @@ fn note(full: &mut [u32], work: &mut [u16], e: usize, event: Event)
 // Copies the first n words of an area.
 fn copy(area: &[u32], full: &mut [u32], n: usize)
     requires { ⌜ (n ≤ length (now area)) × (n ≤ length (now full)) ⌝ }
-    ensures { λ _. ⌜ ((k : ℕ) → k < n → getD (now (full .exit)) k 0 ≡ getD (now (area .entry)) k 0) ⌝ }
+    ensures first { λ _. ⌜ ((k : ℕ) → k < n → getD (now (full .exit)) k 0 ≡ getD (now (area .entry)) k 0) ⌝ }
+    ensures others { λ _. ⌜ ((k : ℕ) → n ≤ k → getD (now (full .exit)) k 0 ≡ getD (now (full .entry)) k 0) ⌝ }
 {
     let mut i = 0;
     while i < n {
@@ -176,7 +178,8 @@ fn begin(work: &mut [u16])
 // Notes every event of the trace that an area holds.
 fn fill(area: &[u32], full: &mut [u32], work: &mut [u16])
     requires { ⌜ (holdsTrace (now area) ≡ true) × Filled (held (now area)) 0 (now full) × Working (held (now area)) 0 (now work) ⌝ }
-    ensures { λ _. ⌜ Columns (held (now (area .entry))) (now (full .exit)) ⌝ }
+    ensures columns { λ _. ⌜ Columns (held (now (area .entry))) (now (full .exit)) ⌝ }
+    ensures others { λ _. ⌜ Others (held (now (area .entry))) (size (held (now (area .entry)))) (now (full .entry)) (now (full .exit)) ⌝ }
 {
     let n = area[1] as usize;
     let mut e: usize = 0;
@@ -197,6 +200,7 @@ pub fn tabulate(area: &[u32], full: &mut [u32]) -> bool
     ensures answer { λ r. ⌜ r ≡ (eqb (length (now (full .entry))) areaWords && holdsTrace (now (area .entry))) ⌝ }
     ensures columns { λ r. ⌜ (r ≡ true → Columns (held (now (area .entry))) (now (full .exit))) ⌝ }
     ensures untouched { λ r. ⌜ (r ≡ false → now (full .exit) ≡ now (full .entry)) ⌝ }
+    ensures others { λ r. ⌜ (r ≡ true → Others (held (now (area .entry))) (size (held (now (area .entry)))) (now (full .entry)) (now (full .exit))) ⌝ }
 {
     if full.len() != AREA_WORDS {
         return false;

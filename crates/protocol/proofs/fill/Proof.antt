@@ -1,19 +1,21 @@
--- `protocol::fill` meets its contract: after e events the tables are filled so far.
+-- `protocol::fill` meets its contract: after e events the tables are filled so far, and no other word has changed.
 use Prim.Native.Nat.{_≤_, _-_}
 use mathlib.Core.Path.{_≡_, refl, sym, ap, _∙_}
 use native.Mathlib.Numerals.{add-one}
 use lib.ListN.{getD}
 use Rattle.table.specs.Held.{held, heldEvent}
 use Rattle.theory.specs.Events.{size}
+use Rattle.protocol.specs.Columns.{Others}
 use Rattle.protocol.specs.Filling.{Filled, Working}
-use Rattle.protocol.proofs.Passes.{held-long, held-valid, held-size, held-few, held-event, notable, next-filled, next-working, filled-columns}
+use Rattle.protocol.proofs.Others.{begin-others}
+use Rattle.protocol.proofs.Passes.{held-long, held-valid, held-size, held-few, held-event, notable, next-filled, next-others, next-working, filled-columns}
 use native.Mathlib.Omega.{arith}
 use borrow.Author.Needs.{needs}
 use Rattle.protocol.proofs.fill.Statement.{statement}
 use Rattle.protocol.proofs.fill.Tie as tie
 
 abbrev Inv-loop : tie.InvT-loop
-Inv-loop area full₀ work₀ n e₀ full work e = (e ≤ n) × (n ≡ getD area 1 0) × (n ≤ 2048) × Filled (held area) e full × Working (held area) e work
+Inv-loop area full₀ work₀ n e₀ full work e = (e ≤ n) × (n ≡ getD area 1 0) × (n ≤ 2048) × Filled (held area) e full × Working (held area) e work × Others (held area) e full₀ full
 
 abbrev μ-loop : tie.MeasureT-loop
 μ-loop area full₀ work₀ n e₀ full work e = n - e
@@ -32,7 +34,7 @@ loop-holds : tie.Need-loop-holds Inv-loop μ-loop
 loop-holds c =
     let args = c .before .before .before .before .args in
     let pre = c .before .before .before .before .pre in
-    (search needs, refl, omega (arith, held-size (args .area .now) (pre .0), held-few (args .area .now) (pre .0)), (pre .1), (pre .2))
+    (search needs, refl, omega (arith, held-size (args .area .now) (pre .0), held-few (args .area .now) (pre .0)), (pre .1), (pre .2), begin-others _ _ (pre .1 .number-none))
 
 add-e : tie.Need-add-e Inv-loop μ-loop
 add-e c =
@@ -90,14 +92,14 @@ loop-again c =
     let args = c .before .before .before .before .before .before .before .before .before .before .before .before .before .before .before .before .args in
     let pre = c .before .before .before .before .before .before .before .before .before .before .before .before .before .before .before .before .pre in
     let event = c .before .before .before .before .before .event in
-    (omega (arith, (loop-test .taken)), (loop .inv .1), (loop .inv .2), rw ((note .ensures .0), add-one (loop .e)) (next-filled (held (args .area .now)) (held-valid (args .area .now) (pre .0)) (held-few (args .area .now) (pre .0)) (loop .e) (omega (arith, held-size (args .area .now) (pre .0), (loop .inv .1))) (loop .full) (loop .work) (loop .inv .3) (loop .inv .4) _ (held-event (args .area .now) (pre .0) (loop .e) (omega (arith, (loop .inv .1))) ∙ ap (heldEvent (args .area .now)) (sym (add-one (loop .e))) ∙ sym (event .ensures))), rw ((note .ensures .1), add-one (loop .e)) (next-working (held (args .area .now)) (held-valid (args .area .now) (pre .0)) (held-few (args .area .now) (pre .0)) (loop .e) (omega (arith, held-size (args .area .now) (pre .0), (loop .inv .1))) (loop .full) (loop .work) (loop .inv .3) (loop .inv .4) _ (held-event (args .area .now) (pre .0) (loop .e) (omega (arith, (loop .inv .1))) ∙ ap (heldEvent (args .area .now)) (sym (add-one (loop .e))) ∙ sym (event .ensures))))
+    (omega (arith, (loop-test .taken)), (loop .inv .1), (loop .inv .2), rw ((note .ensures .0), add-one (loop .e)) (next-filled (held (args .area .now)) (held-valid (args .area .now) (pre .0)) (held-few (args .area .now) (pre .0)) (loop .e) (omega (arith, held-size (args .area .now) (pre .0), (loop .inv .1))) (loop .full) (loop .work) (loop .inv .3) (loop .inv .4) _ (held-event (args .area .now) (pre .0) (loop .e) (omega (arith, (loop .inv .1))) ∙ ap (heldEvent (args .area .now)) (sym (add-one (loop .e))) ∙ sym (event .ensures))), rw ((note .ensures .1), add-one (loop .e)) (next-working (held (args .area .now)) (held-valid (args .area .now) (pre .0)) (held-few (args .area .now) (pre .0)) (loop .e) (omega (arith, held-size (args .area .now) (pre .0), (loop .inv .1))) (loop .full) (loop .work) (loop .inv .3) (loop .inv .4) _ (held-event (args .area .now) (pre .0) (loop .e) (omega (arith, (loop .inv .1))) ∙ ap (heldEvent (args .area .now)) (sym (add-one (loop .e))) ∙ sym (event .ensures))), rw ((note .ensures .0), add-one (loop .e)) (next-others (held (args .area .now)) (held-valid (args .area .now) (pre .0)) (held-few (args .area .now) (pre .0)) (loop .e) (omega (arith, held-size (args .area .now) (pre .0), (loop .inv .1))) (loop .full) (loop .work) (loop .inv .3) (loop .inv .4) (args .full .now) (loop .inv .5) _ (held-event (args .area .now) (pre .0) (loop .e) (omega (arith, (loop .inv .1))) ∙ ap (heldEvent (args .area .now)) (sym (add-one (loop .e))) ∙ sym (event .ensures))))
 
 returns : tie.Need-returns Inv-loop μ-loop
 returns c =
     let loop = c .before .loop in
     let args = c .before .before .before .before .before .before .args in
     let pre = c .before .before .before .before .before .before .pre in
-    let e : (loop .e) ≡ size (held (args .area .now)) = omega (arith, (loop .inv .1), held-size (args .area .now) (pre .0)) in filled-columns _ _ (rw e at (loop .inv .3))
+    let e : (loop .e) ≡ size (held (args .area .now)) = omega (arith, (loop .inv .1), held-size (args .area .now) (pre .0)) in (filled-columns _ _ (rw e at (loop .inv .3)), rw e at (loop .inv .5))
 
 pub fill-spec : {M : Type 1} → statement M
 fill-spec =

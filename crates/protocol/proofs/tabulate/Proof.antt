@@ -3,7 +3,7 @@ use mathlib.Core.Path.{refl, sym, _∙_}
 use mathlib.Core.Bool.{true, false}
 use borrow.Author.Tests.{eq-eqb, ne-eqb}
 use Rattle.words.proofs.Cases.{clash}
-use Rattle.protocol.proofs.Passes.{held-long, copied-filled, begun-working}
+use Rattle.protocol.proofs.Passes.{held-long, copied-filled, copied-others, begun-working}
 use native.Mathlib.Omega.{arith}
 use borrow.Author.Needs.{needs}
 use Rattle.protocol.proofs.tabulate.Statement.{statement}
@@ -12,7 +12,7 @@ use Rattle.protocol.proofs.tabulate.Tie as tie
 returns : tie.Need-returns
 returns c =
     let if1 = c .if1 in
-    (rw (ne-eqb _ _ (if1 .taken)), (λ e. clash {b = false} e refl, λ _. refl))
+    (rw (ne-eqb _ _ (if1 .taken)), (λ e. clash {b = false} e refl, (λ _. refl, λ e. clash {b = false} e refl)))
 
 copy-requires : tie.Need-copy-requires
 copy-requires c κs =
@@ -29,22 +29,23 @@ fill-requires c κs =
     let copy = c .before .before .before .before .before .before .before .copy in
     let if1 = c .before .before .before .before .before .before .before .before .before .before .before .if1 in
     let begin = c .before .before .before .begin in
-    ((sym (holds-trace .ensures) ∙ (if2 .taken)), copied-filled (args .area .now) (copy .last .1 .0) (sym (holds-trace .ensures) ∙ (if2 .taken)) ((copy .kept .1 .0) ∙ (if1 .left)) (copy .ensures), begun-working _ _ (begin .kept .0) (begin .ensures .0) (begin .ensures .1))
+    ((sym (holds-trace .ensures) ∙ (if2 .taken)), copied-filled (args .area .now) (copy .last .1 .0) (sym (holds-trace .ensures) ∙ (if2 .taken)) ((copy .kept .1 .0) ∙ (if1 .left)) (λ k h. (copy .ensures .0) k (omega arith)), begun-working _ _ (begin .kept .0) (begin .ensures .0) (begin .ensures .1))
 
 returns-2 : tie.Need-returns-2
 returns-2 c =
     let if1 = c .before .before .before .before .before .before .before .before .before .before .before .before .before .before .before .if1 in
     let holds-trace = c .before .before .before .before .before .before .before .before .before .before .before .before .before .before .holds-trace in
     let if2 = c .before .before .before .before .before .before .before .before .before .before .before .before .before .if2 in
+    let copy = c .before .before .before .before .before .before .before .before .before .before .before .copy in
     let fill = c .before .before .before .fill in
-    (rw (eq-eqb _ _ (if1 .left), (sym (holds-trace .ensures) ∙ (if2 .taken))), (λ e. (fill .ensures), λ e. clash {b = true} refl e))
+    (rw (eq-eqb _ _ (if1 .left), (sym (holds-trace .ensures) ∙ (if2 .taken))), (λ e. (fill .ensures .0), (λ e. clash {b = true} refl e, λ e. copied-others _ _ _ (copy .last .1 .0) _ (λ k h. (copy .ensures .1) k (omega arith)) (fill .ensures .1))))
 
 returns-3 : tie.Need-returns-3
 returns-3 c =
     let if1 = c .before .before .if1 in
     let holds-trace = c .before .holds-trace in
     let if2 = c .if2 in
-    (rw (eq-eqb _ _ (if1 .left), sym (holds-trace .ensures) ∙ (if2 .left)), (λ e. clash {b = false} e refl, λ _. refl))
+    (rw (eq-eqb _ _ (if1 .left), sym (holds-trace .ensures) ∙ (if2 .left)), (λ e. clash {b = false} e refl, (λ _. refl, λ e. clash {b = false} e refl)))
 
 pub tabulate-spec : {M : Type 1} → statement M
 tabulate-spec =
