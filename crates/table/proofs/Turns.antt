@@ -1,6 +1,6 @@
 -- Laws of the tests: one for each turn and each way out of the functions that test an area's words.
-use Prim.Native.Nat.{ℕ, suc, _+_, _-_, _/_, _%_, _<_, _≤_}
-use mathlib.Core.Path.{_≡_, sym}
+use Prim.Native.Nat.{ℕ, suc, _+_, _-_, _*_, _/_, _%_, _<_, _≤_}
+use mathlib.Core.Path.{_≡_, refl, sym}
 use mathlib.Core.List.{List, [], _∷_, _++_}
 use mathlib.Core.Bool.{Bool, true, false, _&&_, and-true, and-false, and-assoc}
 use native.Mathlib.Omega.{arith}
@@ -8,14 +8,16 @@ use native.Mathlib.Numerals.{add-one}
 use lib.ListN.{length, getD}
 use lib.Bits.{bitOr, or-add-and, or-zero-l, and-le-l, and-le-r}
 use lib.Dec.{eqb}
-use borrow.Author.Tests.{le-leb, lt-leb, eq-eqb, ne-eqb}
-use Rattle.words.proofs.Cases.{by-eq}
+use borrow.Author.Tests.{le-leb, lt-leb, eq-eqb, ne-eqb, eqb-true}
+use Rattle.words.proofs.Cases.{by-eq, and-right}
 use Rattle.trace.specs.declared.Event.{Event}
 use Rattle.trace.specs.declared.Event.the-variants.{Send, Recv, Save}
 use Rattle.trace.specs.Fit.{faultOf}
+use Rattle.trace.specs.Tally.{Tally, faultBy}
+use Rattle.trace.proofs.Faults.{fault-counted}
 use Rattle.trace.specs.Table.{wordOf, valueWord}
-use Rattle.table.specs.Held.{eventOf}
-use Rattle.table.specs.Tested.{zerosFrom, fitFrom, wordsTested, tested}
+use Rattle.table.specs.Held.{eventOf, heldEvent}
+use Rattle.table.specs.Tested.{zerosFrom, wordFits, fitFrom, wordsTested, tested}
 
 -- each way out of `event`
 module _ (w v : ℕ) where
@@ -54,33 +56,70 @@ module _ (a : List ℕ) (any i to : ℕ) where
       let e : to - i ≡ suc (to - suc i) = omega arith in
       rw (add-one i, e, or-zero any (getD a i 0)) (sym (and-assoc (eqb any 0) (eqb (getD a i 0) 0) (zerosFrom a (suc i) (to - suc i))))
 
--- the turns of `events_fit`, at event number i: w and v are its word and value, e the event that they say
+-- each way out of `word_fits`, by the kind of the word
+module _ (p : ℕ) (counts : List ℕ) (w v : ℕ) where
+  module _ (send : w / 4096 ≡ 1) (few : v < 4294967296) where
+    pub fits-send : (r : Bool) → r ≡ eqb (faultBy p counts (Send (w % 64) (w / 64 % 64) v)) 0 → r ≡ wordFits p counts w v
+    unfolding wordFits
+    fits-send r e =
+        let word : w % 64 % 64 + 64 * (w / 64 % 64 % 64) + 4096 ≡ w = omega arith in
+        let value : v % 4294967296 ≡ v = omega arith in
+        rw (← event-send w v send, eq-eqb _ _ word, eq-eqb _ _ value) e
+
+  module _ (no-send : w / 4096 ≡ 1 → ⊥) where
+    pub fits-value : (v ≡ 0 → ⊥) → false ≡ wordFits p counts w v
+    unfolding wordFits
+    fits-value z =
+        by-eq (w / 4096) 2
+        (λ h. rw (← event-recv w v no-send h, ne-eqb 0 v (λ q. z (sym q)), and-false))
+        (λ h. rw (← event-save w v no-send h, ne-eqb 0 v (λ q. z (sym q)), and-false))
+
+    module _ (zero-value : v ≡ 0) where
+      pub fits-recv : w / 4096 ≡ 2 → (r : Bool) → r ≡ eqb (faultBy p counts (Recv (w % 64) (w / 64 % 64))) 0 → r ≡ wordFits p counts w v
+      unfolding wordFits
+      fits-recv h r e =
+          let word : w % 64 % 64 + 64 * (w / 64 % 64 % 64) + 8192 ≡ w = omega arith in
+          rw (← event-recv w v no-send h, eq-eqb _ _ word, eq-eqb 0 v (sym zero-value)) e
+
+      module _ (no-recv : w / 4096 ≡ 2 → ⊥) where
+        pub fits-none : (w / 64 ≡ 192 → ⊥) → false ≡ wordFits p counts w v
+        unfolding wordFits
+        fits-none n = rw (← event-save w v no-send no-recv, ne-eqb (w % 64 % 64 + 12288) w (λ q. n (omega arith)))
+
+        pub fits-save : w / 64 ≡ 192 → (r : Bool) → r ≡ eqb (faultBy p counts (Save (w % 64))) 0 → r ≡ wordFits p counts w v
+        unfolding wordFits
+        fits-save h r e =
+            let word : w % 64 % 64 + 12288 ≡ w = omega arith in
+            rw (← event-save w v no-send no-recv, eq-eqb _ _ word, eq-eqb 0 v (sym zero-value)) e
+
+-- a word that fits is that of an event without a fault
+pub fits-fault : (p : ℕ) (counts : List ℕ) (w v : ℕ) → wordFits p counts w v ≡ true → faultBy p counts (eventOf w v) ≡ 0
+unfolding wordFits
+fits-fault p counts w v h =
+    let b = and-right (eqb (wordOf (eventOf w v)) w) (eqb (valueWord (eventOf w v)) v && eqb (faultBy p counts (eventOf w v)) 0) h in
+    eqb-true _ 0 (and-right (eqb (valueWord (eventOf w v)) v) (eqb (faultBy p counts (eventOf w v)) 0) b)
+
+and-four : (a b c d : Bool) → a && (b && (c && d)) ≡ (a && (b && c)) && d
+and-four true true c d = refl
+and-four true false c d = refl
+and-four false b c d = refl
+
+-- the turns of `events_fit`, at event number i
 module _ (p : ℕ) (es : List Event) (a : List ℕ) (i n : ℕ) where
   pub events-end : n < i → fitFrom p es a i (n + 1 - i) ≡ true
   unfolding fitFrom
   events-end h = let q : n + 1 - i ≡ 0 = omega arith in rw q
 
-  module _ (e : Event) (l : i ≤ n) (said : e ≡ eventOf (getD a (16 + i) 0) (getD a (2065 + i) 0)) where
-    pub events-word : (wordOf e ≡ getD a (16 + i) 0 → ⊥) → fitFrom p es a i (n + 1 - i) ≡ false
-    unfolding fitFrom
-    events-word x = let q : n + 1 - i ≡ suc (n - i) = omega arith in rw (q, ← said, ne-eqb _ _ x)
-
-    module _ (word : wordOf e ≡ getD a (16 + i) 0) where
-      pub events-value : (valueWord e ≡ getD a (2065 + i) 0 → ⊥) → fitFrom p es a i (n + 1 - i) ≡ false
-      unfolding fitFrom
-      events-value x = let q : n + 1 - i ≡ suc (n - i) = omega arith in rw (q, ← said, eq-eqb _ _ word, ne-eqb _ _ x)
-
-      module _ (value : valueWord e ≡ getD a (2065 + i) 0) where
-        pub events-fault : (faultOf p es e ≡ 0 → ⊥) → fitFrom p es a i (n + 1 - i) ≡ false
-        unfolding fitFrom
-        events-fault x = let q : n + 1 - i ≡ suc (n - i) = omega arith in rw (q, ← said, eq-eqb _ _ word, eq-eqb _ _ value, ne-eqb _ _ x)
-
-        pub events-next : faultOf p es e ≡ 0 → fitFrom p es a i (n + 1 - i) ≡ fitFrom p (es ++ e ∷ []) a (i + 1) (n + 1 - (i + 1))
-        unfolding fitFrom
-        events-next x =
-            let q : n + 1 - i ≡ suc (n - i) = omega arith in
-            let r : n + 1 - (i + 1) ≡ n - i = omega arith in
-            rw (q, r, add-one i, ← said, eq-eqb _ _ word, eq-eqb _ _ value, eq-eqb _ _ x)
+  module _ (l : i ≤ n) (small : p ≤ 64) (counts : List ℕ) (t : Tally counts es) where
+    pub events-turn : fitFrom p es a i (n + 1 - i)
+        ≡ (wordFits p counts (getD a (16 + i) 0) (getD a (2065 + i) 0) && fitFrom p (es ++ heldEvent a i ∷ []) a (i + 1) (n + 1 - (i + 1)))
+    unfolding fitFrom wordFits
+    events-turn =
+        let q : n + 1 - i ≡ suc (n - i) = omega arith in
+        let r : n + 1 - (i + 1) ≡ n - i = omega arith in
+        rw (q, r, add-one i, fault-counted p small counts es t (heldEvent a i))
+        (and-four (eqb (wordOf (heldEvent a i)) (getD a (16 + i) 0)) (eqb (valueWord (heldEvent a i)) (getD a (2065 + i) 0)) (eqb (faultOf p es (heldEvent a i)) 0)
+        (fitFrom p (es ++ heldEvent a i ∷ []) a (suc i) (n - i)))
 
 -- each way out of `words_fit`, for p processes and n events: what each test said, and what it stands for
 module _ (a : List ℕ) (n : ℕ) where

@@ -8,12 +8,17 @@ use Rattle.words.specs.Area.{areaWords}
 use Rattle.trace.specs.declared.Event.{Event}
 use Rattle.trace.specs.Fit.{faultOf}
 use Rattle.trace.specs.Table.{wordOf, valueWord, eventBase, valueBase}
-use Rattle.table.specs.Held.{heldEvent}
+use Rattle.trace.specs.Tally.{faultBy}
+use Rattle.table.specs.Held.{eventOf, heldEvent}
 
 -- n words from place i on are 0
 unfoldable pub zerosFrom : List ℕ → ℕ → ℕ → Bool
 zerosFrom a i zero = true
 zerosFrom a i (suc n) = eqb (getD a i 0) 0 && zerosFrom a (suc i) n
+
+-- a word and a value are those of the event that they say, and the event is fit by the counters
+unfoldable pub wordFits : ℕ → List ℕ → ℕ → ℕ → Bool
+wordFits procs counts w v = eqb (wordOf (eventOf w v)) w && (eqb (valueWord (eventOf w v)) v && eqb (faultBy procs counts (eventOf w v)) 0)
 
 -- n events from event number i on, after the events `before`, are each fit and have the words read
 unfoldable pub fitFrom : ℕ → List Event → List ℕ → ℕ → ℕ → Bool

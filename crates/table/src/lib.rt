@@ -3,12 +3,16 @@
 // states that an area holds a trace exactly if its words are those of a well-formed trace, which is what a reading leaves. No
 // public function has a `requires`. Assumes nothing.
 ghost use mathlib.Core.Path.{_≡_};
-ghost use mathlib.Core.List.{[]};
-ghost use Prim.Native.Nat.{_-_, _≤_};
+ghost use mathlib.Core.Bool.{true};
+ghost use mathlib.Core.List.{List, []};
+ghost use Prim.Native.Nat.{_-_, _≤_, _<_};
+ghost use lib.Dec.{eqb};
 ghost use lib.ListN.{length, getD};
 ghost use Rattle.words.specs.Area.{areaWords};
 ghost use Rattle.table.specs.Held.{eventOf, holdsTrace};
-ghost use Rattle.table.specs.Tested.{zerosFrom, fitFrom, wordsTested};
+ghost use Rattle.table.specs.Tested.{zerosFrom, wordFits, fitFrom, wordsTested};
+ghost use Rattle.trace.specs.declared.Event.{Event};
+ghost use Rattle.trace.specs.Tally.{Tally, faultBy, tallied};
 use trace::EVENT_BASE;
 use trace::Event;
 use trace::VALUE_BASE;
@@ -49,6 +53,54 @@ fn zeros(area: &[u32], from: usize, to: usize) -> bool
     any == 0
 }
 
+// Counts an event, if nothing is wrong with it after those that were counted; whether that is so.
+fn counted(counts: &mut [u16], procs: u64, e: Event) -> bool
+    requires { ⌜ (procs ≤ 64) × ((es : List Event) × (length es < 2048) × Tally (now counts) es) ⌝ }
+    ensures answer { λ r. ⌜ r ≡ eqb (faultBy procs (now (counts .entry)) e) 0 ⌝ }
+    ensures counters { λ r. ⌜ (r ≡ true → now (counts .exit) ≡ tallied (now (counts .entry)) e) ⌝ }
+{
+    if trace::fault(counts, procs, e) != 0 {
+        return false;
+    }
+    trace::tally(counts, e);
+    true
+}
+
+// The word of a checkpoint is this times 64 and its process: kind 3, and no peer.
+const CHECKPOINT: u32 = 192;
+
+// Whether a word and a value are those of an event that is fit after those that were counted; then counts it. One test for each kind of
+// word, so that the event's kind is asked once.
+fn word_fits(counts: &mut [u16], procs: u64, w: u32, v: u32) -> bool
+    requires { ⌜ (procs ≤ 64) × ((es : List Event) × (length es < 2048) × Tally (now counts) es) ⌝ }
+    ensures answer { λ r. ⌜ r ≡ wordFits procs (now (counts .entry)) w v ⌝ }
+    ensures counters { λ r. ⌜ (r ≡ true → now (counts .exit) ≡ tallied (now (counts .entry)) (eventOf w v)) ⌝ }
+{
+    let at = (w % 64) as u64;
+    let peer = (w / 64 % 64) as u64;
+    if w / 4096 == 1 {
+        return counted(
+            counts,
+            procs,
+            Event::Send {
+                at: at,
+                to: peer,
+                val: v as u64,
+            },
+        );
+    }
+    if v != 0 {
+        return false;
+    }
+    if w / 4096 == 2 {
+        return counted(counts, procs, Event::Recv { at: at, from: peer });
+    }
+    if w / 64 != CHECKPOINT {
+        return false;
+    }
+    counted(counts, procs, Event::Save { at: at })
+}
+
 // Whether the first n events are fit one after another and have the words that the area has.
 fn events_fit(area: &[u32], procs: u64, n: usize) -> bool
     requires { ⌜ (procs ≤ 64) × (n ≤ 2048) × (areaWords ≤ length (now area)) ⌝ }
@@ -57,19 +109,14 @@ fn events_fit(area: &[u32], procs: u64, n: usize) -> bool
     let mut counts = [0u16; trace::COUNTS];
     let mut i: usize = 1;
     while i <= n {
-        let w = area[EVENT_BASE + i];
-        let v = area[VALUE_BASE + i];
-        let e = event(w, v);
-        if trace::word(e) != w {
+        if !word_fits(
+            &mut counts,
+            procs,
+            area[EVENT_BASE + i],
+            area[VALUE_BASE + i],
+        ) {
             return false;
         }
-        if trace::value(e) != v {
-            return false;
-        }
-        if trace::fault(&counts, procs, e) != 0 {
-            return false;
-        }
-        trace::tally(&mut counts, e);
         i += 1;
     }
     true

@@ -5,7 +5,9 @@ use mathlib.Core.List.{List, [], _∷_, _++_}
 use Prim.Native.Nat.{_+_, _-_, _≤_}
 use native.Mathlib.Omega.{arith}
 use lib.ListN.{length, length-append}
-use Rattle.table.proofs.Turns.{events-end, events-word, events-value, events-fault, events-next}
+use borrow.Author.Tests.{not-true, not-false}
+use Rattle.table.proofs.Turns.{events-end, events-turn, fits-fault}
+use Rattle.table.specs.Held.{heldEvent}
 use Rattle.table.specs.Tested.{fitFrom}
 use Rattle.trace.specs.declared.Event.{Event}
 use Rattle.trace.specs.Fit.{faultOf}
@@ -29,93 +31,48 @@ loop-holds c =
     let args = c .before .args in
     let q : (args .n) + 1 - 1 ≡ (args .n) = omega arith in ([], refl, omega arith, none-tally, rw q)
 
-returns : tie.Need-returns Inv-loop μ-loop
-returns c =
-    let loop-test = c .before .before .before .before .before .loop-test in
-    let event = c .before .before .event in
-    let word = c .before .word in
-    let if1 = c .if1 in
-    let loop = c .before .before .before .before .before .before .loop in
-    sym (events-word _ _ _ _ _ _ (loop-test .taken) (event .ensures) (λ q. omega (arith, (word .ensures), (if1 .taken)))) ∙ (loop .inv .4)
-
-returns-2 : tie.Need-returns-2 Inv-loop μ-loop
-returns-2 c =
-    let loop-test = c .before .before .before .before .before .before .before .loop-test in
-    let event = c .before .before .before .before .event in
-    let word = c .before .before .before .word in
-    let if1 = c .before .before .if1 in
-    let value = c .before .value in
-    let if2 = c .if2 in
-    let loop = c .before .before .before .before .before .before .before .before .loop in
-    sym (events-value _ _ _ _ _ _ (loop-test .taken) (event .ensures) (omega (arith, (word .ensures), (if1 .left))) (λ q. omega (arith, (value .ensures), (if2 .taken)))) ∙ (loop .inv .4)
-
-fault-requires : tie.Need-fault-requires Inv-loop μ-loop
-fault-requires c κs =
-    let pre = c .before .before .before .before .before .before .before .before .before .before .before .pre in
-    let loop = c .before .before .before .before .before .before .before .before .before .loop in
-    ((pre .0), (loop .inv .3) .size)
-
-returns-3 : tie.Need-returns-3 Inv-loop μ-loop
-returns-3 c =
-    let loop-test = c .before .before .before .before .before .before .before .before .before .before .loop-test in
-    let event = c .before .before .before .before .before .before .before .event in
-    let word = c .before .before .before .before .before .before .word in
-    let if1 = c .before .before .before .before .before .if1 in
-    let value = c .before .before .before .before .value in
-    let if2 = c .before .before .before .if2 in
-    let fault = c .before .fault in
-    let args = c .before .before .before .before .before .before .before .before .before .before .before .before .before .args in
-    let pre = c .before .before .before .before .before .before .before .before .before .before .before .before .before .pre in
-    let loop = c .before .before .before .before .before .before .before .before .before .before .before .loop in
-    let if3 = c .if3 in
-    sym (events-fault _ _ _ _ _ _ (loop-test .taken) (event .ensures) (omega (arith, (word .ensures), (if1 .left))) (omega (arith, (value .ensures), (if2 .left))) (λ q. omega (arith, (fault .ensures) ∙ fault-counted (args .procs) (pre .0) _ (loop .inv .0) (loop .inv .3) _, (if3 .taken)))) ∙ (loop .inv .4)
-
-slice-aggregate-tally : tie.Need-slice-aggregate-tally Inv-loop μ-loop
-slice-aggregate-tally c =
-    let loop = c .before .before .before .before .before .before .before .before .before .before .before .before .loop in
+slice-aggregate-word-fits : tie.Need-slice-aggregate-word-fits Inv-loop μ-loop
+slice-aggregate-word-fits c =
+    let loop = c .before .before .loop in
     sym ((loop .inv .3) .size)
 
-tally-requires : tie.Need-tally-requires Inv-loop μ-loop
-tally-requires c κs =
-    let pre = c .before .before .before .before .before .before .before .before .before .before .before .before .before .before .pre in
-    let loop = c .before .before .before .before .before .before .before .before .before .before .before .before .loop in
-    let loop-test = c .before .before .before .before .before .before .before .before .before .before .before .loop-test in
-    let fault = c .before .before .fault in
-    let args = c .before .before .before .before .before .before .before .before .before .before .before .before .before .before .args in
-    let if3 = c .before .if3 in
-    record {
-      procs = args .procs;
-      events = loop .inv .0;
-      procs-most = pre .0;
-      events-few = omega (arith, pre, (loop .inv .1), (loop-test .taken));
-      tally = loop .inv .3;
-      fit = omega (arith, (fault .ensures) ∙ fault-counted (args .procs) (pre .0) _ (loop .inv .0) (loop .inv .3) _, (if3 .left));
-    }
+word-fits-requires : tie.Need-word-fits-requires Inv-loop μ-loop
+word-fits-requires c κs =
+    let pre = c .before .before .before .before .before .before .pre in
+    let loop = c .before .before .before .before .loop in
+    let loop-test = c .before .before .before .loop-test in
+    ((pre .0), ((loop .inv .0), omega (arith, pre, (loop .inv .1), (loop-test .taken)), (loop .inv .3)))
+
+returns : tie.Need-returns Inv-loop μ-loop
+returns c =
+    let word-fits = c .before .before .word-fits in
+    let if1 = c .if1 in
+    let args = c .before .before .before .before .before .before .before .before .before .args in
+    let loop = c .before .before .before .before .before .before .before .loop in
+    let loop-test = c .before .before .before .before .before .before .loop-test in
+    let pre = c .before .before .before .before .before .before .before .before .before .pre in
+    sym (rw (← (word-fits .ensures .0), not-true (word-fits .result) (if1 .taken)) at (events-turn (args .procs) (loop .inv .0) (args .area .now) (loop .i) (args .n) (loop-test .taken) (pre .0) (loop .counts) (loop .inv .3))) ∙ (loop .inv .4)
 
 loop-again : tie.Need-loop-again Inv-loop μ-loop
 loop-again c =
-    let args = c .before .before .before .before .before .before .before .before .before .before .before .before .before .before .before .before .args in
-    let loop = c .before .before .before .before .before .before .before .before .before .before .before .before .before .before .loop in
-    let event = c .before .before .before .before .before .before .before .before .before .before .event in
-    let fault = c .before .before .before .before .fault in
-    let pre = c .before .before .before .before .before .before .before .before .before .before .before .before .before .before .before .before .pre in
-    let if3 = c .before .before .before .if3 in
-    let tally = c .before .tally in
-    let loop-test = c .before .before .before .before .before .before .before .before .before .before .before .before .before .loop-test in
-    let word = c .before .before .before .before .before .before .before .before .before .word in
-    let if1 = c .before .before .before .before .before .before .before .before .if1 in
-    let value = c .before .before .before .before .before .before .before .value in
-    let if2 = c .before .before .before .before .before .before .if2 in
-    let f : faultOf (args .procs) (loop .inv .0) (event .result) ≡ 0 = omega (arith, (fault .ensures) ∙ fault-counted (args .procs) (pre .0) _ (loop .inv .0) (loop .inv .3) _, (if3 .left)) in (
-      (loop .inv .0) ++ (event .result) ∷ [],
+    let if1 = c .if1 in
+    let word-fits = c .before .before .word-fits in
+    let args = c .before .before .before .before .before .before .before .before .before .args in
+    let loop = c .before .before .before .before .before .before .before .loop in
+    let pre = c .before .before .before .before .before .before .before .before .before .pre in
+    let loop-test = c .before .before .before .before .before .before .loop-test in
+    let y = not-false _ (if1 .left) in
+    let w = sym (word-fits .ensures .0) ∙ y in
+    let f : faultOf (args .procs) (loop .inv .0) (heldEvent (args .area .now) (loop .i)) ≡ 0 = sym (fault-counted (args .procs) (pre .0) _ (loop .inv .0) (loop .inv .3) _) ∙ fits-fault _ _ _ _ w in (
+      (loop .inv .0) ++ heldEvent (args .area .now) (loop .i) ∷ [],
       rw (length-append, (loop .inv .1)),
       omega arith,
-      rw (tally .ensures) (next-tally (args .procs) (loop .inv .0) _ (pre .0) (loop .inv .3) _ f),
-      sym (events-next _ _ _ _ _ _ (loop-test .taken) (event .ensures) (omega (arith, (word .ensures), (if1 .left))) (omega (arith, (value .ensures), (if2 .left))) f) ∙ (loop .inv .4),
+      rw ((word-fits .ensures .1) y) (next-tally (args .procs) (loop .inv .0) _ (pre .0) (loop .inv .3) _ f),
+      sym (rw w at (events-turn (args .procs) (loop .inv .0) (args .area .now) (loop .i) (args .n) (loop-test .taken) (pre .0) (loop .counts) (loop .inv .3))) ∙ (loop .inv .4),
     )
 
-returns-4 : tie.Need-returns-4 Inv-loop μ-loop
-returns-4 c =
+returns-2 : tie.Need-returns-2 Inv-loop μ-loop
+returns-2 c =
     let loop-test = c .loop-test in
     let loop = c .before .loop in
     sym (events-end _ _ _ _ _ (loop-test .left)) ∙ (loop .inv .4)
@@ -123,4 +80,4 @@ returns-4 c =
 pub events-fit-spec : {M : Type 1} → statement M
 events-fit-spec =
     tie.close
-    (tie.spec Inv-loop μ-loop loop-holds (λ c. search needs) (λ c. search needs) (λ c. search needs) (λ c. search needs) (λ c. search needs) (λ c. search needs) (λ c κs. search needs) (λ c κs. search needs) returns (λ c κs. search needs) returns-2 (λ c. search needs) fault-requires returns-3 slice-aggregate-tally tally-requires (λ c. search needs) (λ c. search needs) loop-again returns-4)
+    (tie.spec Inv-loop μ-loop loop-holds slice-aggregate-word-fits (λ c. search needs) (λ c. search needs) (λ c. search needs) (λ c. search needs) (λ c. search needs) (λ c. search needs) word-fits-requires returns (λ c. search needs) (λ c. search needs) loop-again returns-2)
