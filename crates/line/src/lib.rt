@@ -252,13 +252,11 @@ fn lower(full: &[u32], epochs: &mut [u32], cut: usize)
 }
 
 // The greatest permitted line without a lost message, for a failure of a set of processes right after event `cut`, from the epochs at the
-// cut: a caller that has them does not compute them again.
-pub fn greatest_from(full: &[u32], epochs: [u32; 64], cut: usize, set: u64) -> Line
-    requires { ⌜ ((t : Trace) × Tabled t (now full) × (cut ≤ size t)) ⌝ }
-    ensures line { λ r. ⌜ ((t : Trace) → Tabled t (now (full .entry)) → cut ≤ size t → epochs ≡ wordsFrom (each t (current t past cut)) 0 64
-        → r ≡ lineTo t (greatestLine t past cut (reached t past cut) (inSet set))) ⌝ }
-    ensures means { λ r. ⌜ ((t : Trace) → Tabled t (now (full .entry)) → cut ≤ size t → epochs ≡ wordsFrom (each t (current t past cut)) 0 64
-        → Greatest t past cut (reached t past cut) (inSet set) (lineIn r)) ⌝ }
+// cut: a caller has them, and they are not computed again.
+pub fn greatest(full: &[u32], epochs: [u32; 64], cut: usize, set: u64) -> Line
+    requires { ⌜ ((t : Trace) → Tabled t (now full) → cut ≤ size t → epochs ≡ wordsFrom (each t (current t past cut)) 0 64) × ((t : Trace) × Tabled t (now full) × (cut ≤ size t)) ⌝ }
+    ensures line { λ r. ⌜ ((t : Trace) → Tabled t (now (full .entry)) → cut ≤ size t → r ≡ lineTo t (greatestLine t past cut (reached t past cut) (inSet set))) ⌝ }
+    ensures means { λ r. ⌜ ((t : Trace) → Tabled t (now (full .entry)) → cut ≤ size t → Greatest t past cut (reached t past cut) (inSet set) (lineIn r)) ⌝ }
 {
     let count = processes(full);
     let mut numbers = epochs;
@@ -268,17 +266,6 @@ pub fn greatest_from(full: &[u32], epochs: [u32; 64], cut: usize, set: u64) -> L
         epochs: numbers,
         count: count,
     }
-}
-
-// The same from the table alone.
-pub fn greatest(full: &[u32], cut: usize, set: u64) -> Line
-    requires { ⌜ ((t : Trace) × Tabled t (now full) × (cut ≤ size t)) ⌝ }
-    ensures line { λ r. ⌜ ((t : Trace) → Tabled t (now (full .entry)) → cut ≤ size t → r ≡ lineTo t (greatestLine t past cut (reached t past cut) (inSet set))) ⌝ }
-    ensures means { λ r. ⌜ ((t : Trace) → Tabled t (now (full .entry)) → cut ≤ size t → Greatest t past cut (reached t past cut) (inSet set) (lineIn r)) ⌝ }
-{
-    let mut epochs = [0u32; 64];
-    epochs_at(full, cut, &mut epochs);
-    greatest_from(full, epochs, cut, set)
 }
 
 // Does process z stay.
@@ -462,25 +449,6 @@ fn permitted(epochs: &[u32], numbers: &[u32], count: usize, set: u64) -> bool
     all
 }
 
-// What is wrong with a line, for a failure that nothing is wrong with: 10, or 0.
-pub fn numbers_fault(full: &[u32], cut: usize, set: u64, line: Line) -> u32
-    requires { ⌜ ((t : Trace) × Tabled t (now full) × (cut ≤ size t)) ⌝ }
-    ensures { λ r. ⌜ ((t : Trace) → Tabled t (now (full .entry)) → failureFault t cut set ≡ 0 → r ≡ lineFault t cut set (line .count) (lineIn line)) ⌝ }
-{
-    let count = processes(full);
-    if line.count != count {
-        return 10;
-    }
-    let mut epochs = [0u32; 64];
-    epochs_at(full, cut, &mut epochs);
-    let numbers = line.epochs;
-    if permitted(&epochs, &numbers, count, set) {
-        0
-    } else {
-        10
-    }
-}
-
 // What is wrong with a failure and a line: 8, 9, 10, or 0.
 pub fn line_fault(full: &[u32], step: u64, set: u64, line: Line) -> u32
     requires { ⌜ ((t : Trace) × Tabled t (now full)) ⌝ }
@@ -490,7 +458,18 @@ pub fn line_fault(full: &[u32], step: u64, set: u64, line: Line) -> u32
     if f != 0 {
         return f;
     }
-    numbers_fault(full, step as usize, set, line)
+    let count = processes(full);
+    if line.count != count {
+        return 10;
+    }
+    let mut epochs = [0u32; 64];
+    epochs_at(full, step as usize, &mut epochs);
+    let numbers = line.epochs;
+    if permitted(&epochs, &numbers, count, set) {
+        0
+    } else {
+        10
+    }
 }
 
 // The set of the processes not at 32, from the highest down.

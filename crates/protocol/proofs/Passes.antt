@@ -1,4 +1,4 @@
--- The pass over the events: where it begins, that each event keeps the tables right, and that they end as the full table's columns.
+-- The pass over the events: where it begins, that each event keeps the tables right, and that they end as the full table, its columns and its other words.
 use Prim.Native.Nat.{ℕ, zero, suc, _+_, _*_, _<_, _≤_}
 use mathlib.Core.Path.{_≡_, refl, sym, ap, _∙_}
 use mathlib.Core.Bool.{true, _&&_}

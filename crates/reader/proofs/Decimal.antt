@@ -9,24 +9,16 @@ use native.Mathlib.Nat.{add-zero}
 use lib.Dec.{eqb}
 use lib.ListN.{length, length-append, drop, getD}
 use lib.Seq.{getD-drop}
-use borrow.Author.Tests.{lt-ltb, le-ltb, le-leb, eq-eqb, ne-eqb}
+use borrow.Author.Tests.{le-leb, eq-eqb, ne-eqb}
 use Rattle.words.proofs.Cases.{by-bool, by-lt, by-eq}
 use Rattle.text.specs.declared.Num.{Num}
 use Rattle.text.specs.declared.Num.the-variants.{Value, Refused}
 use Rattle.text.specs.Number.{isDigit, pushed, digitStep, digitsFrom, numberStep, numberAt, lastDigits, decimal}
-use Rattle.text.proofs.Numbers.{digit-low, digit-high, pushed-fits, pushed-over}
+use Rattle.text.proofs.Numbers.{digit-low, digit-high, pushed-fits, pushed-over, last-small, last-more}
 
 pub last-none : (v : ℕ) → lastDigits 0 v ≡ []
 unfolding lastDigits
 last-none v = refl
-
-pub last-small : (r v : ℕ) → v < 10 → lastDigits (suc r) v ≡ (48 + v) ∷ []
-unfolding lastDigits
-last-small r v h = rw (lt-ltb v 10 h)
-
-pub last-more : (r v : ℕ) → 10 ≤ v → lastDigits (suc r) v ≡ lastDigits r (v / 10) ++ (48 + v % 10) ∷ []
-unfolding lastDigits
-last-more r v h = rw (le-ltb v 10 h)
 
 -- room that a number does not need changes nothing
 room-more : (r v : ℕ) → v < 10 ^ suc r → lastDigits (suc (suc r)) v ≡ lastDigits (suc r) v

@@ -7,7 +7,7 @@ use native.Mathlib.Omega.{arith}
 use lib.Dec.{eqb}
 use lib.ListN.{length}
 use borrow.Author.Tests.{eqb-true, ne-eqb}
-use Rattle.words.proofs.Cases.{by-bool, clash, and-left}
+use Rattle.words.proofs.Cases.{and-left}
 use Rattle.text.specs.declared.Num.{Num}
 use Rattle.text.specs.declared.Num.the-variants.{Value, Refused}
 use Rattle.text.specs.Number.{numberAt}

@@ -13,7 +13,8 @@ use Rattle.trace.specs.declared.Event.the-variants.{Send, Recv, Save}
 use Rattle.reader.specs.Line.{kProcs}
 use Rattle.reader.specs.Render.{renderEvent}
 use Rattle.reader.specs.Verdict.{grow, pieces}
-use Rattle.reader.proofs.Decimal.{last-none, last-small, last-more}
+use Rattle.text.proofs.Numbers.{last-small, last-more}
+use Rattle.reader.proofs.Decimal.{last-none}
 use Rattle.reader.proofs.OneLine.{failureText, send-text, recv-text, save-text}
 
 -- pieces with an LF between each two

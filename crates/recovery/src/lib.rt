@@ -70,7 +70,7 @@ fn prepare(
     if failure != 0 {
         return failure;
     }
-    let fault = line::numbers_fault(full, step as usize, set, line);
+    let fault = line::line_fault(full, step, set, line);
     if fault == 0 {
         line::gates(full, line, step as usize, gates);
     }
@@ -220,7 +220,7 @@ fn restart_from(full: &[u32], cut: usize, set: u64) -> Restarted
 {
     let mut epochs = [0u32; 64];
     line::epochs_at(full, cut, &mut epochs);
-    let line = line::greatest_from(full, epochs, cut, set);
+    let line = line::greatest(full, epochs, cut, set);
     let mut places = [0u32; line::GATE_WORDS];
     line::restarts(full, line, cut, &mut places);
     let mut phases = [0u32; 64];

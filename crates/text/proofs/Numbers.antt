@@ -1,21 +1,20 @@
--- Laws of the number definitions: one for each way a turn of the loop goes, over the values that the code has; that a number
--- which is read lies within the text and within its bound.
-use Prim.Native.Nat.{ℕ, suc, _+_, _-_, _*_, _<_, _≤_}
-use mathlib.Core.Path.{_≡_, refl, sym, ap, _∙_}
-use mathlib.Core.List.{List, [], _∷_}
+-- Laws of the number definitions: one for each way a turn of the loop goes, over the values that the code has; that a digit which is
+-- read lies within the text; the last digit of a number and those before it.
+use Prim.Native.Nat.{ℕ, suc, _+_, _-_, _*_, _/_, _%_, _<_, _≤_}
+use mathlib.Core.Path.{_≡_, sym, ap, _∙_}
+use mathlib.Core.List.{List, [], _∷_, _++_}
 use mathlib.Core.Bool.{Bool, true, false, not}
 use native.Mathlib.Omega.{arith}
 use native.Mathlib.Numerals.{add-one}
-use lib.Dec.{leb, eqb}
-use lib.ListN.{length, getD, drop, drop-of-length-le, length-drop, List·getD-eq-default}
+use lib.Dec.{leb}
+use lib.ListN.{length, getD, drop, drop-of-length-le, List·getD-eq-default}
 use lib.Seq.{drop-cons}
-use borrow.Author.Tests.{not-true, not-false, leb-true, le-leb, lt-leb, eq-eqb, ne-eqb}
+use borrow.Author.Tests.{not-true, not-false, leb-true, le-leb, lt-leb, lt-ltb, le-ltb, eq-eqb, ne-eqb}
 use Rattle.words.proofs.Cases.{by-lt, and-left, and-right}
-use Rattle.text.specs.declared.Num.{Num}
 use Rattle.text.specs.declared.Num.the-variants.{Value, Refused}
 use Rattle.text.specs.declared.Pushed.{Pushed}
 use Rattle.text.specs.declared.Pushed.the-variants.{Fits, Over}
-use Rattle.text.specs.Number.{isDigit, pushed, digitStep, digitsFrom, numberStep, numberAt}
+use Rattle.text.specs.Number.{isDigit, pushed, digitsFrom, numberAt, lastDigits}
 
 pub digit-low : (b : ℕ) → isDigit b ≡ true → 48 ≤ b
 unfolding isDigit
@@ -68,19 +67,19 @@ module _ (text : List ℕ) (at bound b : ℕ) (d : Bool) (eb : b ≡ getD text a
   number-2 n z h p q e = sym (digits-over bound 0 at text b d h eb ed n p q e) ∙ number-digits n z
 
   -- the others carry its value on
-  pub number-5 : not d ≡ false → (b ≡ 48 → ⊥) → at < length text → (p : Pushed) → p ≡ pushed 0 b bound → (w : ℕ) → p ≡ Fits w
+  pub number-3 : not d ≡ false → (b ≡ 48 → ⊥) → at < length text → (p : Pushed) → p ≡ pushed 0 b bound → (w : ℕ) → p ≡ Fits w
       → digitsFrom bound w (at + 1) (drop (at + 1) text) ≡ numberAt text at bound
-  number-5 n z h p q w e = sym (digits-next bound 0 at text b d h eb ed n p q w e) ∙ number-digits n z
+  number-3 n z h p q w e = sym (digits-next bound 0 at text b d h eb ed n p q w e) ∙ number-digits n z
 
 module _ (text : List ℕ) (at bound b : ℕ) (d : Bool) (f : ℕ) (e : Bool) (eb : b ≡ getD text at 256) (ed : d ≡ isDigit b) (n : not d ≡ false) (z : b ≡ 48)
     (ef : f ≡ getD text (at + 1) 256) (ee : e ≡ isDigit f) where
-  pub number-3 : e ≡ true → Refused ≡ numberAt text at bound
-  unfolding numberAt
-  number-3 t = rw (← eb, ← ed, not-false d n, eq-eqb b 48 z, ← ef, ← ee, t)
-
-  pub number-4 : e ≡ false → Value 0 (at + 1) ≡ numberAt text at bound
+  pub number-4 : e ≡ true → Refused ≡ numberAt text at bound
   unfolding numberAt
   number-4 t = rw (← eb, ← ed, not-false d n, eq-eqb b 48 z, ← ef, ← ee, t)
+
+  pub number-5 : e ≡ false → Value 0 (at + 1) ≡ numberAt text at bound
+  unfolding numberAt
+  number-5 t = rw (← eb, ← ed, not-false d n, eq-eqb b 48 z, ← ef, ← ee, t)
 
 digit-within : (text : List ℕ) (at : ℕ) → isDigit (getD text at 256) ≡ true → at < length text
 digit-within text at h =
@@ -90,3 +89,12 @@ digit-within text at h =
 -- the same over the values that the code has
 pub digit-here : (text : List ℕ) (at b : ℕ) (d : Bool) → b ≡ getD text at 256 → d ≡ isDigit b → not d ≡ false → at < length text
 digit-here text at b d eb ed n = digit-within text at (sym (ed ∙ ap isDigit eb) ∙ not-false d n)
+
+-- the last digit of a number, and those before it
+pub last-small : (r v : ℕ) → v < 10 → lastDigits (suc r) v ≡ (48 + v) ∷ []
+unfolding lastDigits
+last-small r v h = rw (lt-ltb v 10 h)
+
+pub last-more : (r v : ℕ) → 10 ≤ v → lastDigits (suc r) v ≡ lastDigits r (v / 10) ++ (48 + v % 10) ∷ []
+unfolding lastDigits
+last-more r v h = rw (le-ltb v 10 h)

@@ -195,7 +195,7 @@ fn four(text: &[u8], at: usize) -> u32
         + 16777216 * (text[at + 3] as u32)
 }
 
-// Whether the key's bytes from one on stand in the text, where the key as a whole would begin at a place; byte by byte.
+// Whether the rest of a key, from its byte `from` on, stands in the text where the whole key would stand at a place; byte by byte.
 fn key_singly(text: &[u8], at: usize, key: &[u8], from: usize) -> bool
     requires { ⌜ (from ≤ length (now key)) × (at + length (now key) ≤ length (now text)) ⌝ }
     ensures { λ r. ⌜ r ≡ startsWith (drop (at + from) (now (text .entry))) (drop from (now (key .entry))) ⌝ }

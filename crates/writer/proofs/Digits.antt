@@ -9,6 +9,7 @@ use borrow.Author.Tests.{lt-ltb, le-ltb}
 use Rattle.writer.specs.Buffer.{Puts}
 use Rattle.writer.proofs.Buffers.{then, same-bytes}
 use Rattle.text.specs.Number.{lastDigits, decimal}
+use Rattle.text.proofs.Numbers.{last-small, last-more}
 
 drop-set : (l : List ℕ) (j a : ℕ) → j < length l → drop j (set l j a) ≡ a ∷ drop (suc j) l
 drop-set l j a h =
@@ -56,14 +57,6 @@ digit-slice n r d before after at next l e h =
     same-bytes (take (20 - r) (drop r d)) (decimal n) before after at next (q ∙ e) h
 
 -- ---- Numbers below 1,000
-
-last-small : (r v : ℕ) → v < 10 → lastDigits (suc r) v ≡ (48 + v) ∷ []
-unfolding lastDigits
-last-small r v h = rw (lt-ltb v 10 h)
-
-last-more : (r v : ℕ) → 10 ≤ v → lastDigits (suc r) v ≡ lastDigits r (v / 10) ++ (48 + v % 10) ∷ []
-unfolding lastDigits
-last-more r v h = rw (le-ltb v 10 h)
 
 abbrev lastTwo : ℕ → List ℕ
 lastTwo n = (48 + n / 10 % 10) ∷ (48 + n % 10) ∷ []

@@ -3,7 +3,7 @@ use mathlib.Core.Path.{sym, _∙_}
 use Rattle.table.specs.Held.{held}
 use Rattle.theory.proofs.Refusals.{line-fit}
 use Rattle.line.specs.Given.{lineIn}
-use Rattle.recovery.proofs.Given.{step-within, given}
+use Rattle.recovery.proofs.Given.{given}
 use Rattle.recovery.proofs.Preparing.{failure-first, line-number}
 use borrow.Author.Needs.{needs}
 use Rattle.recovery.proofs.prepare.Statement.{statement}
@@ -16,24 +16,24 @@ returns c =
     let if1 = c .if1 in
     (failure-first (args .table .now) (args .room) (args .step) (args .set) (args .line) _ (fill-table .ensures .0) (if1 .taken), λ z. absurd ((if1 .taken) z))
 
-numbers-fault-requires : tie.Need-numbers-fault-requires
-numbers-fault-requires c κs =
+line-fault-requires : tie.Need-line-fault-requires
+line-fault-requires c κs =
     let fill-table = c .before .before .before .before .fill-table in
     let if1 = c .before .if1 in
     let args = c .before .before .before .before .before .before .before .before .before .args in
     let F = (fill-table .ensures .1) (if1 .left) in
-    (held (args .table .now), F .tabled, step-within _ _ _ _ _ F)
+    (held (args .table .now), F .tabled)
 
 gates-requires : tie.Need-gates-requires
 gates-requires c κs =
     let fill-table = c .before .before .before .before .before .before .before .before .fill-table in
     let if1 = c .before .before .before .before .before .if1 in
-    let numbers-fault = c .before .before .before .numbers-fault in
+    let line-fault = c .before .before .before .line-fault in
     let args = c .before .before .before .before .before .before .before .before .before .before .before .before .before .args in
     let if2 = c .before .before .if2 in
     let pre = c .before .before .before .before .before .before .before .before .before .before .before .before .before .pre in
     let F = (fill-table .ensures .1) (if1 .left) in
-    let e = (numbers-fault .ensures) (held (args .table .now)) (F .tabled) (F .fit) in
+    let e = (line-fault .ensures) (held (args .table .now)) (F .tabled) in
     let q = line-fit (held (args .table .now)) (args .step) (args .set) _ _ .0 (sym e ∙ (if2 .taken)) in
     ((pre .1), (held (args .table .now), F .tabled, q .failure .step-most, q .count-is))
 
@@ -41,12 +41,12 @@ returns-2 : tie.Need-returns-2
 returns-2 c =
     let fill-table = c .before .before .before .before .before .before .before .before .before .before .before .fill-table in
     let if1 = c .before .before .before .before .before .before .before .before .if1 in
-    let numbers-fault = c .before .before .before .before .before .before .numbers-fault in
+    let line-fault = c .before .before .before .before .before .before .line-fault in
     let args = c .before .before .before .before .before .before .before .before .before .before .before .before .before .before .before .before .args in
     let if2 = c .before .before .before .before .before .if2 in
     let gates = c .before .before .gates in
     let F = (fill-table .ensures .1) (if1 .left) in
-    let e = (numbers-fault .ensures) (held (args .table .now)) (F .tabled) (F .fit) in
+    let e = (line-fault .ensures) (held (args .table .now)) (F .tabled) in
     let q = line-fit (held (args .table .now)) (args .step) (args .set) _ _ .0 (sym e ∙ (if2 .taken)) in
     let g = given (held (args .table .now)) _ (F .tabled) (args .step) (q .failure .step-most) (lineIn (args .line)) _ ((gates .ensures) (held (args .table .now)) (F .tabled) (q .failure .step-most) (q .count-is)) in
     (e ∙ sym (line-number (args .table .now) (args .room) (args .step) (args .set) (args .line) (F .enough) (F .holds)), λ z. record { enough = F .enough; holds = F .holds; given = g })
@@ -55,14 +55,14 @@ returns-3 : tie.Need-returns-3
 returns-3 c =
     let fill-table = c .before .before .before .before .before .before .fill-table in
     let if1 = c .before .before .before .if1 in
-    let numbers-fault = c .before .numbers-fault in
+    let line-fault = c .before .line-fault in
     let args = c .before .before .before .before .before .before .before .before .before .before .before .args in
     let if2 = c .if2 in
     let F = (fill-table .ensures .1) (if1 .left) in
-    let e = (numbers-fault .ensures) (held (args .table .now)) (F .tabled) (F .fit) in
+    let e = (line-fault .ensures) (held (args .table .now)) (F .tabled) in
     (e ∙ sym (line-number (args .table .now) (args .room) (args .step) (args .set) (args .line) (F .enough) (F .holds)), λ z. absurd ((if2 .left) z))
 
 pub prepare-spec : {M : Type 1} → statement M
 prepare-spec =
     tie.close
-    (tie.spec (λ c κs. search needs) (λ c. search needs) returns numbers-fault-requires gates-requires (λ c. search needs) (λ c. search needs) returns-2 (λ c. search needs) returns-3)
+    (tie.spec (λ c κs. search needs) (λ c. search needs) returns line-fault-requires gates-requires (λ c. search needs) (λ c. search needs) returns-2 (λ c. search needs) returns-3)

@@ -50,7 +50,7 @@ returns-3 c =
     let args = c .before .before .before .before .before .before .before .before .before .before .args in
     let push = c .before .before .before .before .push in
     let v = c .before .before .v in
-    (digits .ensures) ∙ number-5 _ _ _ _ _ (byte .ensures) (is-digit .ensures) (if1 .left) (if2 .taken) (digit-here (args .text .now) (args .at) (byte .result) (is-digit .result) (byte .ensures) (is-digit .ensures) (if1 .left)) _ (push .ensures) _ (v .given .1)
+    (digits .ensures) ∙ number-3 _ _ _ _ _ (byte .ensures) (is-digit .ensures) (if1 .left) (if2 .taken) (digit-here (args .text .now) (args .at) (byte .result) (is-digit .result) (byte .ensures) (is-digit .ensures) (if1 .left)) _ (push .ensures) _ (v .given .1)
 
 add-byte : tie.Need-add-byte
 add-byte c =
@@ -70,7 +70,7 @@ returns-4 c =
     let byte2 = c .before .before .byte2 in
     let is-digit2 = c .before .is-digit2 in
     let if3 = c .if3 in
-    number-3 _ _ _ _ _ _ _ (byte .ensures) (is-digit .ensures) (if1 .left) (if2 .left) (byte2 .ensures) (is-digit2 .ensures) (if3 .taken)
+    number-4 _ _ _ _ _ _ _ (byte .ensures) (is-digit .ensures) (if1 .left) (if2 .left) (byte2 .ensures) (is-digit2 .ensures) (if3 .taken)
 
 add-t11 : tie.Need-add-t11
 add-t11 c =
@@ -90,7 +90,7 @@ returns-5 c =
     let byte2 = c .before .before .byte2 in
     let is-digit2 = c .before .is-digit2 in
     let if3 = c .if3 in
-    number-4 _ _ _ _ _ _ _ (byte .ensures) (is-digit .ensures) (if1 .left) (if2 .left) (byte2 .ensures) (is-digit2 .ensures) (if3 .left)
+    number-5 _ _ _ _ _ _ _ (byte .ensures) (is-digit .ensures) (if1 .left) (if2 .left) (byte2 .ensures) (is-digit2 .ensures) (if3 .left)
 
 pub number-spec : {M : Type 1} → statement M
 number-spec =
