@@ -107,12 +107,18 @@ module _ (t : List ℕ) where
   unfolding lowOf
   low-top a n = let e : 0 + n ≡ n = omega arith in rw e at (low-down a 0 n)
 
+  low-upon : (a : List ℕ) (z : ℕ) → lowOf t a (z + 1) ≤ lowerW t (orpW a z) noPhase
+  unfolding lowOf
+  low-upon a z =
+      rw (add-one z) (lower-from (orpW a z) _ _ (omega (arith, low-top a z, lower-le (orpW a z) (lowOf t a z))) (λ x. lower-phase (orpW a z) (lowOf t a z) x))
+
   -- where a phase that none is below is found, it is the least
-  pub low-found : (a : List ℕ) (z n low least : ℕ) → z < n → low ≡ lowOf t a (z + 1) → low ≤ least → least ≤ lowOf t a n → low ≡ lowOf t a n
-  low-found a z n low least h e j k =
+  pub low-found : (a : List ℕ) (z n o low least : ℕ) → z < n → o ≡ orpW a z → low ≡ lowerW t o noPhase → low ≤ least → least ≤ lowOf t a n → least ≡ lowOf t a n
+  low-found a z n o low least h eo e j k =
       let f : z + 1 + (n - (z + 1)) ≡ n = omega arith in
       let d : lowOf t a n ≤ lowOf t a (z + 1) = (rw f at (low-down a (z + 1) (n - (z + 1)))) in
-      omega (arith, e, j, k, d)
+      let u : low ≡ lowerW t (orpW a z) noPhase = e ∙ rw eo in
+      omega (arith, u, j, k, d, low-upon a z)
 
   -- one process has another orphan next: none is below the least so far and that one
   pub low-from : (a : List ℕ) (z v m n : ℕ) → orphanBase + z < length a → m ≤ lowOf t a n → lowerW t v m ≤ lowOf t (set a (orphanBase + z) v) n

@@ -170,22 +170,33 @@ fn lower(full: &[u32], o: usize, low: u32) -> u32
     lesser(full[PHASE_BASE + o], low)
 }
 
-// The least phase of an orphan that is not sent again: of each process the next one is looked at, since its phases never fall. None is
-// below the one given, so that the search ends where that is found.
-fn lowest_phase(full: &[u32], area: &[u32], procs: usize, least: u32) -> u32
-    requires { ⌜ (procs ≤ 64) × (length (now full) ≡ areaWords) × (length (now area) ≡ areaWords) × Bounded (now area) × (least ≤ lowOf (now full) (now area) procs) ⌝ }
+// The least phase of an orphan that is not sent again: of each process the next one is looked at, since its phases never fall.
+fn lowest_phase(full: &[u32], area: &[u32], procs: usize) -> u32
+    requires { ⌜ (procs ≤ 64) × (length (now full) ≡ areaWords) × (length (now area) ≡ areaWords) × Bounded (now area) ⌝ }
     ensures { λ r. ⌜ r ≡ lowOf (now (full .entry)) (now (area .entry)) procs ⌝ }
 {
     let mut low: u32 = NO_PHASE;
     let mut z = 0;
     while z < procs {
         low = lower(full, pointer(area, ORPHAN + z), low);
-        if low <= least {
-            return low;
-        }
         z += 1;
     }
     low
+}
+
+// The same where none is below the one given: an orphan of that phase is looked for from one process on, before all are looked at.
+fn lowest_phase_from(full: &[u32], area: &[u32], from: usize, procs: usize, least: u32) -> u32
+    requires { ⌜ (procs ≤ 64) × (length (now full) ≡ areaWords) × (length (now area) ≡ areaWords) × Bounded (now area) × (least ≤ lowOf (now full) (now area) procs) ⌝ }
+    ensures { λ r. ⌜ r ≡ lowOf (now (full .entry)) (now (area .entry)) procs ⌝ }
+{
+    let mut z = from;
+    while z < procs {
+        if lower(full, pointer(area, ORPHAN + z), NO_PHASE) <= least {
+            return least;
+        }
+        z += 1;
+    }
+    lowest_phase(full, area, procs)
 }
 
 // A message goes into channel c, by its send or handed over.
@@ -209,7 +220,7 @@ fn take_out(full: &[u32], links: &[u32], area: &mut [u32], c: usize, e: usize)
 }
 
 // The send e of process z is an orphan's: its message is dropped, and counts as sent again. No orphan has a phase below the least so far,
-// except perhaps the next of process z, and mostly another one has the least.
+// except perhaps the next of process z. Mostly that one has the least again, or one of a later process, since in the lowest order those wait.
 fn drop_orphan(full: &[u32], links: &[u32], area: &mut [u32], z: usize, e: usize)
     requires { ⌜ (z < 64) × (e < 2049) × Movable (now full) (now links) (now area) ⌝ }
     ensures { λ _. ⌜ now (area .exit) ≡ dropW (now (full .entry)) (now (links .entry)) (now (area .entry)) z e ⌝ }
@@ -217,7 +228,7 @@ fn drop_orphan(full: &[u32], links: &[u32], area: &mut [u32], z: usize, e: usize
     area[ORPHAN + z] = links[4 * e + 2];
     let procs = full[0] as usize;
     let least = lower(full, wide(links[4 * e + 2]), area[LOW]);
-    let low = lowest_phase(full, area, procs, least);
+    let low = lowest_phase_from(full, area, z, procs, least);
     area[LOW] = low;
 }
 
@@ -569,7 +580,7 @@ fn begin(full: &[u32], gates: &[u32], links: &mut [u32], area: &mut [u32], cut: 
     let n = wide(full[1]);
     link_all(full, gates, links, area, cut, n);
     let procs = wide(full[0]);
-    let low = lowest_phase(full, area, procs, 0);
+    let low = lowest_phase(full, area, procs);
     area[LOW] = low;
 }
 

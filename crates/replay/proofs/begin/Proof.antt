@@ -18,7 +18,7 @@ lowest-phase-requires c κs =
     let pre = c .before .before .before .before .before .before .before .before .before .before .before .before .before .before .before .before .pre in
     let link-all = c .before .before .before .before .before .before .before .link-all in
     let wide = c .before .before .before .before .before .before .before .before .before .before .wide in
-    (rw (wide2 .ensures) ((pre .4) .0), (pre .0), (link-all .kept .1 .1 .1 .0) ∙ (pre .3), rw ((link-all .ensures .1), (wide .ensures)) ((pre .4) .3), omega arith)
+    (rw (wide2 .ensures) ((pre .4) .0), (pre .0), (link-all .kept .1 .1 .1 .0) ∙ (pre .3), rw ((link-all .ensures .1), (wide .ensures)) ((pre .4) .3))
 
 returns : tie.Need-returns
 returns c =

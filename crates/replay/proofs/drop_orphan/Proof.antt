@@ -17,8 +17,8 @@ lower-requires c κs =
     let args = c .before .before .before .before .before .before .before .before .args in
     (omega (arith, (wide .ensures), (pre .2 .3) (4 * (args .e) + 2)), (pre .2 .0))
 
-lowest-phase-requires : tie.Need-lowest-phase-requires
-lowest-phase-requires c κs =
+lowest-phase-from-requires : tie.Need-lowest-phase-from-requires
+lowest-phase-from-requires c κs =
     let slice-known2 = c .before .before .slice-known2 in
     let pre = c .before .before .before .before .before .before .before .before .before .before .pre in
     let lower = c .before .lower in
@@ -30,10 +30,10 @@ lowest-phase-requires c κs =
 returns : tie.Need-returns
 unfolding dropW
 returns c =
-    let lowest-phase = c .lowest-phase in
-    rw (lowest-phase .ensures)
+    let lowest-phase-from = c .lowest-phase-from in
+    rw (lowest-phase-from .ensures)
 
 pub drop-orphan-spec : {M : Type 1} → statement M
 drop-orphan-spec =
     tie.close
-    (tie.spec (λ c. search needs) (λ c. search needs) (λ c. search needs) (λ c. search needs) (λ c. search needs) (λ c. search needs) (λ c. search needs) (λ c. search needs) (λ c. search needs) (λ c. search needs) (λ c. search needs) (λ c. search needs) (λ c. search needs) (λ c κs. search needs) (λ c. search needs) lower-requires lowest-phase-requires (λ c. search needs) (λ c. search needs) returns)
+    (tie.spec (λ c. search needs) (λ c. search needs) (λ c. search needs) (λ c. search needs) (λ c. search needs) (λ c. search needs) (λ c. search needs) (λ c. search needs) (λ c. search needs) (λ c. search needs) (λ c. search needs) (λ c. search needs) (λ c. search needs) (λ c κs. search needs) (λ c. search needs) lower-requires lowest-phase-from-requires (λ c. search needs) (λ c. search needs) returns)
