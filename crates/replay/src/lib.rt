@@ -599,7 +599,7 @@ pub fn replay(full: &[u32], gates: &[u32], order: &[u16], area: &mut [u32], cut:
 // The lowest choice is looked for where something can have changed: in a set of processes outside of which none may run, and in a set of
 // senders outside of which none has a kept message that may be handed over. A step gives back to the sets whom it may let go on; where the
 // least phase of an orphan not sent again is new, these are the processes that have an event left and the senders that keep a message. Of
-// each sender a phase is known that those of its kept messages are not below, and a set of receivers outside of which it keeps none for anyone,
+// each sender a phase is known that those of its kept messages are not below, and a set of receivers outside of which it keeps no message,
 // so that its channels are looked at only where one may have become ready. Sets may have members too many, never too few.
 const EVERYONE: u64 = 18446744073709551615;
 
@@ -816,8 +816,8 @@ fn unless_new(was: u32, is: u32, set: u64, other: u64) -> u64
     other
 }
 
-// Carries out the lowest choices, one after another, at most so many: how many there were. Only a new least phase lets others run, or
-// be handed over, than a step itself names.
+// Carries out the lowest choices, one after another, at most so many: how many there were. A step can let run only the processes that it
+// names, and make no kept message ready, unless the least phase is new after it.
 fn carry_lowest(full: &[u32], links: &[u32], gates: &[u32], area: &mut [u32], most: usize) -> usize
     requires { ⌜ (length (now full) ≡ areaWords) × (128 ≤ length (now gates)) × (length (now area) ≡ areaWords) × Small (now links) × ((R : Run) × Started R (now full) (now links) (now gates) (now area)) ⌝ }
     ensures { λ r. ⌜ ((R : Run) → Started R (now (full .entry)) (now (links .entry)) (now (gates .entry)) (now (area .entry)) → Lowered R (now (area .exit)) most r) ⌝ }
