@@ -1,8 +1,8 @@
--- The search for the lowest choice: what the sets of processes, senders and receivers rule out, and what a step leaves of that. A process step can let run only
+-- The search for the lowest choice: what sets of processes and of senders rule out, and what a step leaves of that. A process step can let run only
 -- that process and its peer, a message handed over only the two ends of its channel, unless the least phase of an orphan not sent again changes.
 use mathlib.Core.Path.{_≡_, refl, sym, _∙_, ap}
 use mathlib.Core.Logic.{_≢_}
-use mathlib.Core.Bool.{Bool, true, false}
+use mathlib.Core.Bool.{true, false}
 use mathlib.Core.List.{List, [], _∷_}
 use Prim.Native.Nat.{ℕ, _+_, _-_, _*_, _/_, _%_, _^_, _≤_, _<_}
 use native.Mathlib.Omega.{arith}

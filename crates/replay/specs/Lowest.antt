@@ -12,7 +12,7 @@ use Rattle.theory.specs.Line.{Run, inSet}
 use Rattle.theory.specs.Replay.{State, start}
 use Rattle.theory.specs.Order.{carriedOut, run, lowestFrom}
 use Rattle.theory.proofs.Flow.{Inv}
-use Rattle.simulation.specs.Words.{noPhase, phaseW, curW, putW, lowW, sendOk, processOk, handOk, allowedW}
+use Rattle.simulation.specs.Words.{noPhase, phaseW, curW, putW, sendOk, processOk, handOk, allowedW}
 use Rattle.simulation.specs.Related.{Rel}
 
 -- sets of processes, as numbers of 64 bits: all of them, the first member, the set without it, the set with process z

@@ -1,5 +1,5 @@
 -- `replay::begin` meets its contract: the pass, then the least phase by the area that it leaves.
-use mathlib.Core.Path.{_≡_, sym, _∙_}
+use mathlib.Core.Path.{sym, _∙_}
 use Rattle.replay.proofs.Beginning.{low-set}
 use native.Mathlib.Omega.{arith}
 use borrow.Author.Needs.{needs}

@@ -1,5 +1,4 @@
 -- `replay::drop_orphan` meets its contract: the stores themselves, the phase by the area after the first.
-use mathlib.Core.Path.{_≡_}
 use Prim.Native.Nat.{_+_, _*_}
 use lib.ListN.{length-set}
 use Rattle.replay.proofs.Steps.{bounded-set, low-bound}

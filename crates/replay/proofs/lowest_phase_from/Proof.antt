@@ -1,5 +1,4 @@
 -- `replay::lowest_phase_from` meets its contract: what is found is not below the least, and the least is not below what none is below.
-use mathlib.Core.Path.{_≡_}
 use Prim.Native.Nat.{_-_, _≤_}
 use Rattle.replay.proofs.Steps.{low-found}
 use Rattle.simulation.specs.Words.{lowOf}

@@ -1,5 +1,5 @@
 -- `replay::next_hand` meets its contract: no kept message of a sender that is not left so far.
-use mathlib.Core.Path.{_≡_, refl, sym, _∙_}
+use mathlib.Core.Path.{_≡_, refl, _∙_}
 use Prim.Native.Nat.{_+_, _*_, _/_, _^_, _<_}
 use lib.ListN.{length}
 use Rattle.replay.specs.Lowest.{Shut, Under, Keeps}

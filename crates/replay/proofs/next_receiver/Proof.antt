@@ -1,9 +1,7 @@
 -- `replay::next_receiver` meets its contract: no receiver that was looked at is ready, the least phase of those that wait, and the set of those that keep a message.
 use mathlib.Core.Path.{_≡_, refl, sym, _∙_}
 use Prim.Native.Nat.{_^_, _<_}
-use Prim.Native.Nat.{_≤_}
 use lib.ListN.{length}
-use lib.Bits.{bitOr}
 use lib.Seq.{getD-set-same}
 use borrow.Author.Tests.{lt-ltb}
 use Rattle.replay.proofs.Steps.{hand-kept}

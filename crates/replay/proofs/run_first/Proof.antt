@@ -1,5 +1,4 @@
 -- `replay::run_first` meets its contract: the peer is looked at before the step.
-use mathlib.Core.Path.{_≡_}
 use native.Mathlib.Omega.{arith}
 use borrow.Author.Needs.{needs}
 use Rattle.replay.proofs.run_first.Statement.{statement}

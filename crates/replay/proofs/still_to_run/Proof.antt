@@ -1,7 +1,6 @@
 -- `replay::still_to_run` meets its contract: what was looked at and has no event left is in neither set.
-use mathlib.Core.Path.{_≡_, refl, sym, _∙_}
+use mathlib.Core.Path.{_≡_, sym, _∙_}
 use Prim.Native.Nat.{_^_, _<_}
-use mathlib.Core.Bool.{Bool}
 use borrow.Author.Tests.{eqb-true}
 use Rattle.simulation.specs.Words.{curW}
 use Rattle.replay.specs.Lowest.{ToRun}

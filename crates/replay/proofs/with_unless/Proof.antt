@@ -1,5 +1,4 @@
 -- `replay::with_unless` meets its contract.
-use mathlib.Core.Path.{_≡_, sym, _∙_}
 use Rattle.replay.proofs.Sets.{with-out}
 use native.Mathlib.Omega.{arith}
 use borrow.Author.Needs.{needs}
