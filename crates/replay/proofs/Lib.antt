@@ -7,6 +7,5 @@ pub mod Ordering
 -- the first state
 pub mod Beginning
 -- the order of the lowest choices
-pub mod Sets
 pub mod Lowering
 pub mod Searching

@@ -19,9 +19,10 @@ use Rattle.simulation.specs.Words.{takenBase, currentBase, orphanBase, takeBase
 use Rattle.simulation.specs.Related.{head0, Rel, Started}
 use Rattle.simulation.proofs.Facts.{left-none, left-some}
 use Rattle.simulation.proofs.Moves.{at-next}
-use Rattle.replay.specs.Lowest.{everyone, firstIn, restOf, withIn, Outside, keptPhase, Idle, Shut, NoneTo, Under, Keeps, ToRun, ToKeep, NoneBefore, unlessNew, Lowered}
+use Rattle.sets.specs.Sets.{everyone, firstIn, restOf, withIn, Outside}
+use Rattle.replay.specs.Lowest.{keptPhase, Idle, Shut, NoneTo, Under, Keeps, ToRun, ToKeep, NoneBefore, unlessNew, Lowered}
 use Rattle.replay.proofs.Steps.{process-none, allowed-process, allowed-hand, apply-process, apply-hand}
-use Rattle.replay.proofs.Sets.{none-in, everyone-in, lower-out, first-lt, first-in, rest-out, with-out, with-lt, Pruned, pruned-start, pruned-next, rest-outside}
+use Rattle.sets.proofs.Sets.{none-in, everyone-in, lower-out, first-lt, first-in, rest-out, with-out, with-lt, Pruned, pruned-start, pruned-next, rest-outside}
 use Rattle.replay.proofs.Lowering.{Next, is-allowed, Going, going-start, going-bound, going-end, going-next}
 
 -- ---- Words that a step leaves alone
@@ -203,8 +204,8 @@ module _ (t l g a : List ℕ) (bound : Bounded a) where
     pub hand-idle : Idle t g a 0 → Idle t g (putInW l a c) (withIn (withIn 0 (c / 64)) (c % 64))
     unfolding Idle
     hand-idle h z hz o =
-        let v = with-out (withIn 0 (c / 64)) (c % 64) z o in
-        let w = with-out 0 (c / 64) z (v .0) in
+        let v = with-out (withIn 0 (c / 64)) (c % 64) z (omega arith) o in
+        let w = with-out 0 (c / 64) z (omega arith) (v .0) in
         process-same t g a (putInW l a c) hand-low z (put-other t l a c (currentBase + z) (λ q. omega arith))
         (λ p k. put-other t l a c (putBase + (64 * z + p)) (λ q. w .1 (omega arith)))
         (λ p k. put-other t l a c (takeBase + (64 * p + z)) (λ q. omega arith))
@@ -246,7 +247,7 @@ module _ (t l g a : List ℕ) (bound : Bounded a) where
     pub run-idle : Idle t g a m → Idle t g (processW t l a z) (withIn m (peerW t (curW a z)))
     unfolding Idle
     run-idle h y hy o =
-        let v = with-out m (peerW t (curW a z)) y o in
+        let v = with-out m (peerW t (curW a z)) y (omega arith) o in
         let n : y ≢ z = λ e. clash (rw e member) (v .0) in
         let other = process-other t l a z bound hz in
         process-same t g a (processW t l a z) low y
@@ -498,7 +499,7 @@ module _ (t l g a₀ : List ℕ) (most : ℕ) where
           let bound = going-bound R t l g a₀ S most a i (v R S) in
           rw em (
             lb ∙ la,
-            with-lt (withIn 0 (c / 64)) (c % 64) (with-lt 0 (c / 64) (omega arith) (omega arith)) (omega arith),
+            with-lt (withIn 0 (c / 64)) (c % 64) (with-lt 0 (c / 64) (omega arith)),
             hand-idle-still R t l g a₀ S most a i (v R S) lt b c hc h k ok eb,
             hand-shut-still R t l g a₀ S most a i (v R S) lt b c hc h k ok eb senders member shut,
             (λ R S. hand-going R t l g a₀ S most a i (v R S) lt b c hc h k ok eb),
@@ -528,7 +529,7 @@ module _ (t l g a₀ : List ℕ) (most : ℕ) where
             by-eq (lowW b) (lowW a)
             (λ e. rw (em, es, eq-eqb (lowW b) (lowW a) e) (
               lb ∙ la,
-              with-lt m (peerW t (curW a (firstIn m))) lm (omega arith),
+              with-lt m (peerW t (curW a (firstIn m))) lm,
               run-idle-still R t l g a₀ S most a i (v R S) lt b m p lm h ok eb e,
               run-shut-still R t l g a₀ S most a i (v R S) lt b m p lm h ok eb e s k,
               go,

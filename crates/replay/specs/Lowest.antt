@@ -4,33 +4,15 @@ use mathlib.Core.Path.{_≡_}
 use mathlib.Core.Bool.{false}
 use mathlib.Core.List.{List}
 use lib.ListN.{length, getD}
-use lib.Bits.{bitAnd, bitOr}
-use lib.Count.{trailingZeros}
 use lib.Dec.{eqb}
 use Rattle.theory.specs.Lists.{pick}
-use Rattle.theory.specs.Line.{Run, inSet}
+use Rattle.sets.specs.Sets.{Outside}
+use Rattle.theory.specs.Line.{Run}
 use Rattle.theory.specs.Replay.{State, start}
 use Rattle.theory.specs.Order.{carriedOut, run, lowestFrom}
 use Rattle.theory.proofs.Flow.{Inv}
 use Rattle.simulation.specs.Words.{noPhase, phaseW, curW, putW, sendOk, processOk, handOk, allowedW}
 use Rattle.simulation.specs.Related.{Rel}
-
--- sets of processes, as numbers of 64 bits: all of them, the first member, the set without it, the set with process z
-abbrev pub everyone : ℕ
-everyone = 18446744073709551615
-
-unfoldable pub firstIn : ℕ → ℕ
-firstIn m = trailingZeros 64 m
-
-unfoldable pub restOf : ℕ → ℕ
-restOf m = bitAnd m (m - 1)
-
-unfoldable pub withIn : ℕ → ℕ → ℕ
-withIn m z = bitOr m (2 ^ z)
-
--- what holds of every process that is no member of a set
-abbrev pub Outside : (ℕ → Type 0) → ℕ → Type 0
-Outside P m = (z : ℕ) → z < 64 → inSet m z ≡ false → P z
 
 -- the choices are the numbers before this
 abbrev pub noChoice : ℕ

@@ -17,12 +17,14 @@ ghost use Rattle.trace.specs.Trace.{Trace};
 ghost use Rattle.theory.specs.Epochs.{past};
 ghost use Rattle.replay.specs.Left.{Left};
 ghost use Rattle.replay.specs.Given.{Given};
-ghost use Rattle.replay.specs.Lowest.{everyone, firstIn, restOf, withIn, keptPhase, Idle, Shut, NoneTo, Under, Keeps, Outside, ToRun, unlessNew, Lowered};
+ghost use Rattle.sets.specs.Sets.{firstIn, withIn, Outside};
+ghost use Rattle.replay.specs.Lowest.{keptPhase, Idle, Shut, NoneTo, Under, Keeps, ToRun, unlessNew, Lowered};
 ghost use Rattle.replay.specs.Answer.{answerOf, wordsOf};
 use protocol::EPOCH_BASE;
 use protocol::MATCH_BASE;
 use protocol::NUMBER_BASE;
 use protocol::PHASE_BASE;
+use sets::EVERYONE;
 use trace::EVENT_BASE;
 use trace::VALUE_BASE;
 
@@ -601,34 +603,9 @@ pub fn replay(full: &[u32], gates: &[u32], order: &[u16], area: &mut [u32], cut:
 // least phase of an orphan not sent again is new, these are the processes that have an event left and the senders that keep a message. Of
 // each sender a phase is known that those of its kept messages are not below, and a set of receivers outside of which it keeps no message,
 // so that its channels are looked at only where one may have become ready. Sets may have members too many, never too few.
-const EVERYONE: u64 = 18446744073709551615;
-
 const CHANNELS: usize = 4096;
 
 const PROCESSES: usize = 64;
-
-// The first member of a set of processes.
-fn first(set: u64) -> usize
-    ensures { λ r. ⌜ r ≡ firstIn set ⌝ }
-{
-    u64::trailing_zeros(set) as usize
-}
-
-// A set of processes that has a member, without its first.
-fn rest(set: u64) -> u64
-    requires { ⌜ 0 < set ⌝ }
-    ensures { λ r. ⌜ r ≡ restOf set ⌝ }
-{
-    set & (set - 1)
-}
-
-// A set of processes with process z.
-fn with(set: u64, z: usize) -> u64
-    requires { ⌜ z < 64 ⌝ }
-    ensures { λ r. ⌜ r ≡ withIn set z ⌝ }
-{
-    set | 1u64 << z
-}
 
 // A set of processes with process z, unless that has nothing left.
 fn with_unless(set: u64, z: usize, none: bool) -> u64
@@ -638,7 +615,7 @@ fn with_unless(set: u64, z: usize, none: bool) -> u64
     if none {
         return set;
     }
-    with(set, z)
+    sets::with(set, z)
 }
 
 // The set from its first member that may run.
@@ -650,10 +627,10 @@ fn runnable(full: &[u32], gates: &[u32], area: &[u32], set: u64) -> u64
 {
     let mut left = set;
     while left != 0 {
-        if process_ok(full, gates, area, first(left)) {
+        if process_ok(full, gates, area, sets::first(left)) {
             return left;
         }
-        left = rest(left);
+        left = sets::rest(left);
     }
     0
 }
@@ -683,7 +660,7 @@ fn next_receiver(
     let mut some: u64 = 0;
     let mut left = keeping[p];
     while left != 0 {
-        let q = first(left);
+        let q = sets::first(left);
         let phase = kept_phase(full, gates, area, p, 64 * p + q);
         if phase < low {
             phases[p] = 0;
@@ -692,7 +669,7 @@ fn next_receiver(
         }
         some = with_unless(some, q, phase == NO_PHASE);
         least = lesser(phase, least);
-        left = rest(left);
+        left = sets::rest(left);
     }
     phases[p] = least;
     keeping[p] = some;
@@ -723,7 +700,7 @@ fn next_hand(
 {
     let mut left = senders;
     while left != 0 {
-        let p = first(left);
+        let p = sets::first(left);
         let q = next_receiver(full, gates, area, p, phases, keeping);
         if q < PROCESSES {
             return Hand {
@@ -731,7 +708,7 @@ fn next_hand(
                 senders: left,
             };
         }
-        left = rest(left);
+        left = sets::rest(left);
     }
     Hand {
         channel: CHANNELS,
@@ -755,7 +732,7 @@ fn hand_over(links: &[u32], area: &mut [u32], c: usize) -> u64
     ensures ends { λ r. ⌜ r ≡ withIn (withIn 0 (c / 64)) (c % 64) ⌝ }
 {
     put_in(links, area, c);
-    with(with(0, c / 64), c % 64)
+    sets::with(sets::with(0, c / 64), c % 64)
 }
 
 // The first member of a set does its next event: the set with whom that may let run where the least phase stays.
@@ -764,10 +741,10 @@ fn run_first(full: &[u32], links: &[u32], area: &mut [u32], set: u64) -> u64
     ensures words { λ _. ⌜ now (area .exit) ≡ processW (now (full .entry)) (now (links .entry)) (now (area .entry)) (firstIn set) ⌝ }
     ensures set { λ r. ⌜ r ≡ withIn set (peerW (now (full .entry)) (curW (now (area .entry)) (firstIn set))) ⌝ }
 {
-    let z = first(set);
+    let z = sets::first(set);
     let peer = peer_of_next(full, area, z);
     do_process(full, links, area, z);
-    with(set, peer)
+    sets::with(set, peer)
 }
 
 // A set of processes outside of which none has an event left: where the least phase is new, those of them that have one.
@@ -781,9 +758,9 @@ fn still_to_run(area: &[u32], was: u32, set: u64) -> u64
     let mut some: u64 = 0;
     let mut left = set;
     while left != 0 {
-        let z = first(left);
+        let z = sets::first(left);
         some = with_unless(some, z, pointer(area, CURRENT + z) == 0);
-        left = rest(left);
+        left = sets::rest(left);
     }
     some
 }
@@ -799,9 +776,9 @@ fn still_keeping(phases: &[u32], was: u32, is: u32, set: u64) -> u64
     let mut some: u64 = 0;
     let mut left = set;
     while left != 0 {
-        let p = first(left);
+        let p = sets::first(left);
         some = with_unless(some, p, phases[p] == NO_PHASE);
-        left = rest(left);
+        left = sets::rest(left);
     }
     some
 }

@@ -6,8 +6,8 @@ use Prim.Native.Nat.{_-_, _≤_, _<_}
 use lib.ListN.{getD-replicate}
 use Rattle.replay.proofs.Ordering.{low-is, procs-few, links-long}
 use Rattle.replay.proofs.Lowering.{going-bound, going-out}
-use Rattle.replay.proofs.Sets.{first-lt}
-use Rattle.replay.specs.Lowest.{everyone}
+use Rattle.sets.proofs.Sets.{first-lt}
+use Rattle.sets.specs.Sets.{everyone}
 use Rattle.replay.proofs.Searching.{Looking, looking-start, looking-same, looking-hand, looking-run, still-to-run, run-going, search-end}
 use native.Mathlib.Omega.{arith}
 use borrow.Author.Needs.{needs}

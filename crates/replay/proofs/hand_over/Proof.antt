@@ -13,4 +13,4 @@ returns c =
     ((put-in .ensures), rw ((with2 .ensures), (with .ensures)))
 
 pub hand-over-spec : {M : Type 1} → statement M
-hand-over-spec = tie.close (tie.spec (λ c κs. search needs) (λ c κs. omega arith) (λ c κs. omega arith) (λ c. search needs) returns)
+hand-over-spec = tie.close (tie.spec (λ c κs. search needs) (λ c κs. search needs) (λ c κs. search needs) (λ c. search needs) returns)

@@ -3,7 +3,7 @@ use mathlib.Core.Path.{_≡_, refl, _∙_}
 use Prim.Native.Nat.{_+_, _*_, _/_, _^_, _<_}
 use lib.ListN.{length}
 use Rattle.replay.specs.Lowest.{Shut, Under, Keeps}
-use Rattle.replay.proofs.Sets.{first-lt, first-in, rest-less}
+use Rattle.sets.proofs.Sets.{first-lt, first-in, rest-less}
 use Rattle.replay.proofs.Searching.{shut-to, shut-all, shut-rest}
 use native.Mathlib.Omega.{arith}
 use borrow.Author.Needs.{needs}
@@ -74,11 +74,6 @@ returns c =
       ),
     )
 
-rest-requires : tie.Need-rest-requires Inv-loop μ-loop
-rest-requires c κs =
-    let loop-test = c .before .before .before .before .before .before .before .before .before .loop-test in
-    omega (arith, (loop-test .taken))
-
 loop-less : tie.Need-loop-less Inv-loop μ-loop
 loop-less c =
     let rest = c .rest in
@@ -123,4 +118,4 @@ returns-2 c =
 pub next-hand-spec : {M : Type 1} → statement M
 next-hand-spec =
     tie.close
-    (tie.spec Inv-loop μ-loop loop-holds (λ c κs. search needs) next-receiver-requires mul-t15 add-t16 same-length same-length-2 returns rest-requires loop-less loop-again same-length-3 same-length-4 returns-2)
+    (tie.spec Inv-loop μ-loop loop-holds (λ c κs. search needs) next-receiver-requires mul-t15 add-t16 same-length same-length-2 returns (λ c κs. search needs) loop-less loop-again same-length-3 same-length-4 returns-2)

@@ -5,7 +5,7 @@ use lib.ListN.{length}
 use lib.Seq.{getD-set-same}
 use borrow.Author.Tests.{lt-ltb}
 use Rattle.replay.proofs.Steps.{hand-kept}
-use Rattle.replay.proofs.Sets.{none-in, lower-out, first-lt, rest-less, pruned-or, pruned-end}
+use Rattle.sets.proofs.Sets.{none-in, lower-out, first-lt, rest-less, pruned-or, pruned-end}
 use Rattle.replay.proofs.Searching.{under-shut, under-set, keeps-set, Waits, waits-start, waits-next, ready-kept}
 use native.Mathlib.Omega.{arith}
 use borrow.Author.Needs.{needs}
@@ -96,11 +96,6 @@ with-unless-requires c κs =
     let loop-test = c .before .before .before .loop-test in
     omega (arith, (first .ensures), first-lt (loop .left) (omega (arith, (loop-test .taken))) (loop .inv .0))
 
-rest-requires : tie.Need-rest-requires Inv-loop μ-loop
-rest-requires c κs =
-    let loop-test = c .before .before .before .before .before .loop-test in
-    omega (arith, (loop-test .taken))
-
 loop-less : tie.Need-loop-less Inv-loop μ-loop
 loop-less c =
     let rest = c .rest in
@@ -155,4 +150,4 @@ returns-3 c =
 pub next-receiver-spec : {M : Type 1} → statement M
 next-receiver-spec =
     tie.close
-    (tie.spec Inv-loop μ-loop (λ c. search needs) (λ c. search needs) (λ c. search needs) returns (λ c. search needs) slice-read-left loop-holds (λ c κs. search needs) (λ c. search needs) add-kept-phase kept-phase-requires (λ c. search needs) slice-write-phases (λ c. search needs) slice-write-keeping (λ c. search needs) (λ c. search needs) returns-2 with-unless-requires (λ c κs. search needs) rest-requires loop-less loop-again (λ c. search needs) slice-write-phases-2 (λ c. search needs) slice-write-keeping-2 (λ c. search needs) (λ c. search needs) returns-3)
+    (tie.spec Inv-loop μ-loop (λ c. search needs) (λ c. search needs) (λ c. search needs) returns (λ c. search needs) slice-read-left loop-holds (λ c κs. search needs) (λ c. search needs) add-kept-phase kept-phase-requires (λ c. search needs) slice-write-phases (λ c. search needs) slice-write-keeping (λ c. search needs) (λ c. search needs) returns-2 with-unless-requires (λ c κs. search needs) (λ c κs. search needs) loop-less loop-again (λ c. search needs) slice-write-phases-2 (λ c. search needs) slice-write-keeping-2 (λ c. search needs) (λ c. search needs) returns-3)

@@ -16,11 +16,6 @@ do-process-requires c κs =
     let pre = c .before .before .before .before .before .before .before .pre in
     (omega (arith, (first .ensures), (pre .0)), (pre .1))
 
-with-requires : tie.Need-with-requires
-with-requires c κs =
-    let peer-of-next = c .before .before .before .before .peer-of-next in
-    omega (arith, (peer-of-next .ensures))
-
 returns : tie.Need-returns
 returns c =
     let first = c .before .before .before .before .before .before .before .first in
@@ -32,4 +27,4 @@ returns c =
 pub run-first-spec : {M : Type 1} → statement M
 run-first-spec =
     tie.close
-    (tie.spec (λ c κs. search needs) peer-of-next-requires do-process-requires with-requires (λ c. search needs) returns)
+    (tie.spec (λ c κs. search needs) peer-of-next-requires do-process-requires (λ c κs. search needs) (λ c. search needs) returns)

@@ -3,7 +3,7 @@ use mathlib.Core.Path.{_≡_, sym, _∙_}
 use Prim.Native.Nat.{_^_, _≤_, _<_}
 use native.Mathlib.Omega.{arith}
 use Rattle.replay.specs.Lowest.{Idle}
-use Rattle.replay.proofs.Sets.{first-lt, rest-less}
+use Rattle.sets.proofs.Sets.{first-lt, rest-less}
 use Rattle.replay.proofs.Searching.{rest-idle}
 use borrow.Author.Needs.{needs}
 use Rattle.replay.proofs.runnable.Statement.{statement}

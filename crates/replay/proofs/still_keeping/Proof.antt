@@ -7,7 +7,7 @@ use borrow.Author.Tests.{eqb-true}
 use Rattle.words.proofs.Cases.{clash}
 use Rattle.theory.specs.Line.{inSet}
 use Rattle.simulation.specs.Words.{noPhase}
-use Rattle.replay.proofs.Sets.{first-lt, rest-less, Pruned, pruned-start, pruned-next, pruned-end}
+use Rattle.sets.proofs.Sets.{first-lt, rest-less, Pruned, pruned-start, pruned-next, pruned-end}
 use native.Mathlib.Omega.{arith}
 use borrow.Author.Needs.{needs}
 use Rattle.replay.proofs.still_keeping.Statement.{statement}

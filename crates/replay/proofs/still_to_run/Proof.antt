@@ -4,7 +4,7 @@ use Prim.Native.Nat.{_^_, _<_}
 use borrow.Author.Tests.{eqb-true}
 use Rattle.simulation.specs.Words.{curW}
 use Rattle.replay.specs.Lowest.{ToRun}
-use Rattle.replay.proofs.Sets.{first-lt, rest-less, Pruned, pruned-start, pruned-next, pruned-end}
+use Rattle.sets.proofs.Sets.{first-lt, rest-less, Pruned, pruned-start, pruned-next, pruned-end}
 use native.Mathlib.Omega.{arith}
 use borrow.Author.Needs.{needs}
 use Rattle.replay.proofs.still_to_run.Statement.{statement}

@@ -11,7 +11,7 @@ use lib.Pow.{shr-shr, pow-pos, pow-lt}
 use borrow.Author.Tests.{eq-eqb, ne-eqb}
 use Rattle.words.proofs.Cases.{by-eq, clash}
 use Rattle.theory.specs.Line.{inSet}
-use Rattle.replay.specs.Lowest.{everyone, firstIn, restOf, withIn, Outside}
+use Rattle.sets.specs.Sets.{everyone, firstIn, restOf, withIn, Outside}
 
 -- bit z of m
 abbrev bit : ℕ → ℕ → ℕ
@@ -125,10 +125,11 @@ module _ (m : ℕ) (p : 0 < m) (l : m < 2 ^ 64) where
       let c = less-one 64 m z p l n in
       bit-out m z (omega (arith, a, b, c))
 
-pub with-out : (m q z : ℕ) → inSet (withIn m q) z ≡ false → (inSet m z ≡ false) × (z ≡ q → ⊥)
+pub with-out : (m q z : ℕ) → q < 64 → inSet (withIn m q) z ≡ false → (inSet m z ≡ false) × (z ≡ q → ⊥)
 unfolding withIn
-with-out m q z o =
-    let a = out-bit (bitOr m (2 ^ q)) z o in
+with-out m q z l o =
+    let s : q % 64 ≡ q = omega arith in
+    let a = out-bit (bitOr m (2 ^ q)) z (rw s at o) in
     let b = bit-or m (2 ^ q) z in
     (bit-out m z (omega (arith, a, b)), λ e. let c : bit (2 ^ q) z ≡ 1 = rw (e, div-self (pow-pos q)) in omega (arith, a, b, c))
 
@@ -169,6 +170,6 @@ pub rest-less : (m : ℕ) → 0 < m → restOf m < m
 unfolding restOf
 rest-less m p = omega (arith, and-le-r m (m - 1))
 
-pub with-lt : (m q : ℕ) → m < 2 ^ 64 → q < 64 → withIn m q < 2 ^ 64
+pub with-lt : (m q : ℕ) → m < 2 ^ 64 → withIn m q < 2 ^ 64
 unfolding withIn
-with-lt m q l k = or-lt 64 m (2 ^ q) l (pow-lt k)
+with-lt m q l = let k : q % 64 < 64 = omega arith in or-lt 64 m (2 ^ (q % 64)) l (pow-lt k)

@@ -1,10 +1,10 @@
--- `replay::first` meets its contract.
+-- `sets::first` meets its contract.
 use mathlib.Core.Path.{refl}
 use lib.Count.{trailing-le}
 use native.Mathlib.Omega.{arith}
-use Rattle.replay.specs.Lowest.{firstIn}
-use Rattle.replay.proofs.first.Statement.{statement}
-use Rattle.replay.proofs.first.Tie as tie
+use Rattle.sets.specs.Sets.{firstIn}
+use Rattle.sets.proofs.first.Statement.{statement}
+use Rattle.sets.proofs.first.Tie as tie
 
 cast-result : tie.Need-cast-result
 cast-result c = record { fits = omega (arith, trailing-le 64 (c .args .set)) }

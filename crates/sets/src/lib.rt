@@ -1,0 +1,30 @@
+// Sets of processes, as numbers of 64 bits whose bit z says that process z is a member: the first member, the set without it, the set with
+// one more. The definitions are in specs/Sets, laws on them in proofs/Sets. No public function has a `requires`. Assumes nothing.
+ghost use mathlib.Core.Path.{_≡_};
+ghost use Rattle.sets.specs.Sets.{firstIn, restOf, withIn};
+
+pub const EVERYONE: u64 = 18446744073709551615;
+
+// The first member of a set; 64 where it has none.
+pub fn first(set: u64) -> usize
+    ensures { λ r. ⌜ r ≡ firstIn set ⌝ }
+{
+    u64::trailing_zeros(set) as usize
+}
+
+// A set without its first member.
+pub fn rest(set: u64) -> u64
+    ensures { λ r. ⌜ r ≡ restOf set ⌝ }
+{
+    if set == 0 {
+        return 0;
+    }
+    set & (set - 1)
+}
+
+// A set with process z; of a number past the last process, its place among 64.
+pub fn with(set: u64, z: usize) -> u64
+    ensures { λ r. ⌜ r ≡ withIn set z ⌝ }
+{
+    set | 1u64 << (z % 64)
+}
