@@ -1,6 +1,6 @@
 -- One law for each way out of a function and each way round a loop, over the values that the code has there.
 use mathlib.Core.Path.{_≡_, refl, sym, _∙_, ap, ap₂}
-use mathlib.Core.Bool.{Bool, true, false, and-false}
+use mathlib.Core.Bool.{Bool, true, false, _||_, and-false}
 use mathlib.Core.List.{List}
 use Prim.Native.Nat.{ℕ, _+_, _-_, _/_, _%_, _^_, _≤_, _<_}
 use native.Mathlib.Omega.{arith}
@@ -11,7 +11,8 @@ use borrow.Author.Tests.{lt-ltb, le-ltb, le-leb, lt-leb, eq-eqb, ne-eqb}
 use Rattle.words.proofs.Cases.{by-bool, by-eq}
 use Rattle.theory.specs.Lists.{pick}
 use Rattle.theory.specs.Line.{inSet}
-use Rattle.line.specs.Words.{atW, peerW, kindW, epochW, phaseW, matchW, lostE, lostW, lowerAt, undoneW, betterW, Found, Planes, staysW, restartW, gateW, Gated}
+use Rattle.sets.specs.Sets.{withIn}
+use Rattle.line.specs.Words.{atW, peerW, kindW, epochW, phaseW, matchW, lostE, lostW, lowerAt, joinedBy, undoneW, phaseAfter, restartPhase, Planes, staysW, restartW, gateW, Gated}
 
 -- ---- `lower_at`
 
@@ -58,7 +59,7 @@ pub not-lowered : (t m : List ℕ) (e : ℕ) → lostW t m e ≡ false → m ≡
 unfolding lowerAt
 not-lowered t m e h = rw h
 
--- ---- `undoes`, `lowest`, `next`
+-- ---- `undoes`
 
 pub undoes-none : (t m latest : List ℕ) (z : ℕ) → getD latest z 0 ≡ 0 → false ≡ undoneW t m latest z
 undoes-none t m latest z h = rw h
@@ -66,38 +67,21 @@ undoes-none t m latest z h = rw h
 pub undoes-some : (t m latest : List ℕ) (z : ℕ) → (getD latest z 0 ≡ 0 → ⊥) → leb (getD m z 0) (epochW t (getD latest z 0)) ≡ undoneW t m latest z
 undoes-some t m latest z n = rw (lt-ltb 0 (getD latest z 0) (let h : 0 < getD latest z 0 = omega arith in h))
 
-module _ (t m latest : List ℕ) where
-  pub found-none : Found t m latest 0 64
-  found-none = record {
-    within = omega arith;
-    one = λ h. absurd (let y : ⊥ = omega arith in y);
-    none = λ h z q. absurd (let y : ⊥ = omega arith in y);
-  }
+-- ---- `look`
 
-  pub found-at : (n z : ℕ) (b : Bool) → z < 64 → b ≡ undoneW t m latest z → b ≡ true → Found t m latest n z
-  found-at n z b l eb h = record {
-    within = omega arith;
-    one = λ k. sym eb ∙ h;
-    none = λ e. absurd (let y : ⊥ = omega arith in y);
-  }
+pub joined-lost : (t m : List ℕ) (e pending p : ℕ) → lostW t m e ≡ true → p ≡ peerW t e → withIn pending p ≡ joinedBy t m e pending
+joined-lost t m e pending p h ep = rw (h, ep)
 
-  module _ (n r : ℕ) (b : Bool) (F : Found t m latest n r) (eb : b ≡ undoneW t m latest n) where
-    pub found-skips : b ≡ false → Found t m latest (n + 1) r
-    found-skips h = record {
-      within = F .within;
-      one = F .one;
-      none = λ e z q. by-eq z n (λ i. rw i (sym eb ∙ h)) (λ d. F .none e z (omega arith));
-    }
+pub joined-kept : (t m : List ℕ) (e pending : ℕ) → lostW t m e ≡ false → pending ≡ joinedBy t m e pending
+joined-kept t m e pending h = rw h
 
-    -- each of the two has an undone event
-    pub found-next : n < 64 → b ≡ true → Found t m latest (n + 1) (betterW m r n)
-    found-next l h =
-        by-eq r 64
-        (λ e. rw (eq-eqb r 64 e) (found-at (n + 1) n b l eb h))
-        (λ d. let k : r < 64 = omega (arith, F .within) in
-        by-bool (ltb (getD m n 0) (getD m r 0))
-        (λ c. rw (ne-eqb r 64 d, c) (found-at (n + 1) n b l eb h))
-        (λ c. rw (ne-eqb r 64 d, c) (found-at (n + 1) r true k (sym (F .one k)) refl)))
+-- ---- `restart_phase`
+
+pub phase-kept : (t : List ℕ) (n e p : ℕ) → p ≡ phaseAfter t e → (eqb n 32 || eqb n 1) ≡ true → p ≡ restartPhase t n e
+phase-kept t n e p h b = rw b (omega (arith, h))
+
+pub phase-raised : (t : List ℕ) (n e p : ℕ) → p ≡ phaseAfter t e → (n ≡ 32 → ⊥) → (n ≡ 1 → ⊥) → p + 1 ≡ restartPhase t n e
+phase-raised t n e p h a b = rw (ne-eqb n 32 a, ne-eqb n 1 b) (omega (arith, h))
 
 -- ---- Loops over the processes
 
@@ -109,6 +93,10 @@ module _ (f : ℕ → ℕ) (l : List ℕ) (i v : ℕ) (h : i < length l) (e : v 
       (λ x. rw x (getD-set-same l i v 0 h ∙ e))
       (λ n. getD-set-other l i k v 0 n ∙ below k (omega arith))
 
+-- and the later ones stay
+pub rest-next : (d l : List ℕ) (i v : ℕ) → ((k : ℕ) → i ≤ k → getD l k 0 ≡ getD d k 0) → (k : ℕ) → i + 1 ≤ k → getD (set l i v) k 0 ≡ getD d k 0
+rest-next d l i v rest k q = getD-set-other l i k v 0 (λ x. omega arith) ∙ rest k (omega arith)
+
 -- ---- `first_number`
 
 pub is-failed : (set z epoch : ℕ) → set / 2 ^ z % 2 ≡ 1 → epoch ≡ pick (inSet set z) epoch 32
@@ -116,19 +104,6 @@ is-failed set z epoch h = rw (eq-eqb (set / 2 ^ z % 2) 1 h)
 
 pub not-failed : (set z epoch : ℕ) → (set / 2 ^ z % 2 ≡ 1 → ⊥) → 32 ≡ pick (inSet set z) epoch 32
 not-failed set z epoch h = rw (ne-eqb (set / 2 ^ z % 2) 1 h)
-
--- ---- `first_line`
-
-module _ (d l : List ℕ) (m i v : ℕ) (h : i < length l) (e : v ≡ pick (inSet m i) (getD l i 0) 32) (rest : (k : ℕ) → i ≤ k → getD l k 0 ≡ getD d k 0) where
-  same-number : v ≡ pick (inSet m i) (getD d i 0) 32
-  same-number = e ∙ ap (λ (x : ℕ). pick (inSet m i) x 32) (rest i (omega arith))
-
-  pub first-next : ((k : ℕ) → k < i → getD l k 0 ≡ pick (inSet m k) (getD d k 0) 32) → (k : ℕ) → k < i + 1
-      → getD (set l i v) k 0 ≡ pick (inSet m k) (getD d k 0) 32
-  first-next = rule-next (λ k. pick (inSet m k) (getD d k 0) 32) l i v h same-number
-
-  pub first-rest : (k : ℕ) → i + 1 ≤ k → getD (set l i v) k 0 ≡ getD d k 0
-  first-rest k q = getD-set-other l i k v 0 (λ x. omega arith) ∙ rest k (omega arith)
 
 -- ---- `stays`, `gate`
 

@@ -249,7 +249,7 @@ module _ (t : Trace) (full : List ℕ) (G : Tabled t full) (cut : ℕ) (cl : cut
 
 module _ (t : Trace) (full : List ℕ) (cut set count : ℕ) (d m r : List ℕ) (G : Tabled t full) (cl : cut ≤ size t) (ec : count ≡ getD full 0 0)
     (ed : d ≡ wordsFrom (each t (current t past cut)) 0 64) (len : length m ≡ 64)
-    (below : (z : ℕ) → z < count → getD m z 0 ≡ pick (inSet set z) (getD d z 0) 32) (others : (z : ℕ) → count ≤ z → getD m z 0 ≡ getD d z 0) (L : Lowered full cut m r) where
+    (below : (z : ℕ) → z < count → getD m z 0 ≡ pick (inSet set z) (getD d z 0) 32) (others : (z : ℕ) → count ≤ z → getD m z 0 ≡ 0) (L : Lowered full cut m r) where
   count-is : count ≡ t .procs
   count-is = ec ∙ procs-is t full G
 
@@ -262,10 +262,7 @@ module _ (t : Trace) (full : List ℕ) (cut set count : ℕ) (d m r : List ℕ) 
       below z (omega (arith, count-is)) ∙ ap (λ (x : ℕ). pick (inSet set z) x 32) (cut-at z (omega (arith, fit t full G .few)) ∙ rw s)
 
   past-is : (z : ℕ) → t .procs ≤ z → getD m z 0 ≡ 0
-  past-is z h =
-      by-lt z 64
-      (λ l. others z (omega (arith, count-is)) ∙ cut-at z l ∙ rw (le-ltb z (t .procs) h))
-      (λ l. List·getD-eq-default m 0 {n = z} (omega (arith, len)))
+  past-is z h = others z (omega (arith, count-is))
 
   abbrev made : Line
   made = record { epochs = r; count = count }

@@ -3,14 +3,17 @@
 use mathlib.Core.Path.{_≡_, refl, sym, _∙_, ap, subst}
 use mathlib.Core.Bool.{true, false, _&&_, not}
 use mathlib.Core.List.{List, [], _∷_}
-use Prim.Native.Nat.{ℕ, zero, suc, _+_, _-_, _≤_, _<_}
+use Prim.Native.Nat.{ℕ, zero, suc, _+_, _-_, _*_, _^_, _≤_, _<_}
 use native.Mathlib.Omega.{arith}
 use lib.ListN.{length, getD, set, length-set}
 use lib.Seq.{getD-set-same, getD-set-other}
 use lib.Dec.{leb, ltb, eqb}
 use borrow.Author.Tests.{ltb-true, leb-true, le-leb, lt-ltb}
 use Rattle.words.proofs.Cases.{by-bool, by-lt, by-eq, clash, and-left, and-right, and-both}
-use Rattle.line.specs.Words.{atW, peerW, kindW, epochW, matchW, lostE, lostW, lowerAt, Sized, Lowerable, Lowers, Lowered, Newest, Linked, Pending, Found}
+use Rattle.theory.specs.Line.{inSet}
+use Rattle.sets.specs.Sets.{firstIn, Outside}
+use Rattle.sets.proofs.Sets.{none-in, first-in, with-out, with-lt}
+use Rattle.line.specs.Words.{atW, peerW, kindW, epochW, matchW, lostE, lostW, lowerAt, Sized, Lowerable, Lowers, Lowered, Newest, Linked, Pending, undoneW, joinedBy, Before}
 use Rattle.line.specs.Words.Lowers.{more}
 use Rattle.line.proofs.Laws.{no-receive, received-early, sent-late, is-logged, is-lost}
 
@@ -113,12 +116,13 @@ lower-settles t m e len u k l =
 
 -- ---- `lower`
 
--- What is known between two looks: the events after `latest` are settled.
+-- What is known between two looks: the events after `latest` are undone and settled.
 pub record Looking (t : List ℕ) (cut : ℕ) (m latest : List ℕ) : Type 0 where
   pub long : length m ≡ 64
   pub wide : length latest ≡ 64
   pub within : (z : ℕ) → z < 64 → getD latest z 0 ≤ cut
   pub own : (z : ℕ) → z < 64 → 0 < getD latest z 0 → atW t (getD latest z 0) ≡ z
+  pub undone : (e : ℕ) → 0 < e → e ≤ cut → getD latest (atW t e) 0 < e → getD m (atW t e) 0 ≤ epochW t e
   pub looked : (e : ℕ) → 0 < e → e ≤ cut → getD latest (atW t e) 0 < e → Settled t m e
 
 pub looking-begins : (t : List ℕ) (cut : ℕ) (m earlier latest : List ℕ) → length m ≡ 64 → Linked t cut earlier latest → Looking t cut m latest
@@ -127,8 +131,22 @@ looking-begins t cut m earlier latest len L = record {
   wide = L .wide;
   within = λ z l. L .last z l .within;
   own = λ z l. L .last z l .own;
+  undone = λ e a b h. absurd (L .last (atW t e) (omega arith) .others e h b refl);
   looked = λ e a b h. absurd (L .last (atW t e) (omega arith) .others e h b refl);
 }
+
+-- the same, and where it comes from; no process that is not pending has an undone event that was not looked at
+pub record Working (t : List ℕ) (cut : ℕ) (l m latest : List ℕ) (pending : ℕ) : Type 0 where
+  pub lowers : Lowers t cut l m
+  pub looking : Looking t cut m latest
+  pub idle : Outside (λ z. undoneW t m latest z ≡ false) pending
+
+pub working-ends : (t : List ℕ) (cut : ℕ) (l m latest : List ℕ) (pending : ℕ) → Working t cut l m latest pending → pending ≡ 0
+    → (z : ℕ) → z < 64 → undoneW t m latest z ≡ false
+working-ends t cut l m latest pending W e z h = W .idle z h (rw e (none-in z))
+
+pub joined-lt : (t m : List ℕ) (e pending after : ℕ) → after ≡ joinedBy t m e pending → pending < 2 ^ 64 → after < 2 ^ 64
+joined-lt t m e pending after i h = by-bool (lostW t m e) (λ k. rw (i, k) (with-lt pending (peerW t e) h)) (λ k. rw (i, k) h)
 
 -- looking takes from the sum of `latest`
 unfoldable pub sumL : List ℕ → ℕ
@@ -150,9 +168,20 @@ module _ (t : List ℕ) (cut : ℕ) (m latest : List ℕ) (L : Looking t cut m l
     few = λ z l. omega (arith, L .within z l, S .cut-few);
   }
 
-  -- the end: an event not looked at is no newer than one before its process's restart
-  pub looking-ends : (l : List ℕ) (z : ℕ) → Lowers t cut l m → Found t m latest 64 z → 64 ≤ z → Lowered t cut l m
-  looking-ends l z s F g = record {
+  -- where the line undoes none of the newest events that are left, they are those before the restarts
+  pub looking-stops : ((z : ℕ) → z < 64 → undoneW t m latest z ≡ false) → Before t cut m latest
+  looking-stops none = record {
+    within = L .within;
+    own = L .own;
+    done = λ z l p. by-lt (epochW t (getD latest z 0)) (getD m z 0) (λ h. h)
+        (λ h. let e = getD latest z 0 in
+        clash (and-both (ltb 0 e) (leb (getD m z 0) (epochW t e)) (lt-ltb 0 e p) (le-leb (getD m z 0) (epochW t e) h)) (none z l));
+    undone = L .undone;
+  }
+
+  -- and nothing is lost: an event not looked at is no newer than one before its process's restart
+  pub looking-ends : (l : List ℕ) → Lowers t cut l m → Before t cut m latest → Lowered t cut l m
+  looking-ends l s B = record {
     steps = s;
     none-lost = λ R e a b.
         let q = atW t e in
@@ -160,15 +189,12 @@ module _ (t : List ℕ) (cut : ℕ) (m latest : List ℕ) (L : Looking t cut m l
         let ql : q < 64 = omega arith in
         by-lt x e
         (λ h. settled-safe t m e (L .looked e a b h))
-        (λ h. by-lt (epochW t e) (getD m q 0)
-        (λ k. early-safe t m e k)
-        (λ k. let r : epochW t e ≤ epochW t x = R e x a h (L .within q ql) (sym (L .own q ql (omega arith))) in
-        clash (and-both (ltb 0 x) (leb (getD m q 0) (epochW t x)) (lt-ltb 0 x (omega arith)) (le-leb (getD m q 0) (epochW t x) (omega arith)))
-        (F .none (omega (arith, F .within)) q ql)));
+        (λ h. let p : 0 < x = omega arith in
+        early-safe t m e (omega (arith, R e x a h (L .within q ql) (sym (L .own q ql p)), B .done q ql p)));
   }
 
   -- a look at process z
-  module _ (earlier latest₀ : List ℕ) (z : ℕ) (S : Sized t cut) (K : Linked t cut earlier latest₀) (lz : z < 64) (F : Found t m latest 64 z) where
+  module _ (earlier latest₀ : List ℕ) (z : ℕ) (S : Sized t cut) (K : Linked t cut earlier latest₀) (lz : z < 64) (u : undoneW t m latest z ≡ true) where
     -- its newest event that was not looked at yet, and the one before that
     abbrev e : ℕ
     e = getD latest z 0
@@ -177,10 +203,10 @@ module _ (t : List ℕ) (cut : ℕ) (m latest : List ℕ) (L : Looking t cut m l
     d = getD earlier e 0
 
     some : 0 < e
-    some = ltb-true 0 e (and-left (ltb 0 e) (leb (getD m z 0) (epochW t e)) (F .one lz))
+    some = ltb-true 0 e (and-left (ltb 0 e) (leb (getD m z 0) (epochW t e)) u)
 
-    undone : getD m z 0 ≤ epochW t e
-    undone = leb-true (getD m z 0) (epochW t e) (and-right (ltb 0 e) (leb (getD m z 0) (epochW t e)) (F .one lz))
+    undone-e : getD m z 0 ≤ epochW t e
+    undone-e = leb-true (getD m z 0) (epochW t e) (and-right (ltb 0 e) (leb (getD m z 0) (epochW t e)) u)
 
     in-cut : e ≤ cut
     in-cut = L .within z lz
@@ -216,8 +242,11 @@ module _ (t : List ℕ) (cut : ℕ) (m latest : List ℕ) (L : Looking t cut m l
       still : (x : ℕ) → Settled t m x → Settled t n x
       still x s = rw en (settled-stays t m e x (L .long) s)
 
+      falls : (x : ℕ) → getD m (atW t x) 0 ≤ epochW t x → getD n (atW t x) 0 ≤ epochW t x
+      falls x h = rw en (omega (arith, lower-falls t m e (atW t x) (L .long), h))
+
       now-settled : Settled t n e
-      now-settled = rw en (lower-settles t m e (L .long) (rw own-e undone))
+      now-settled = rw en (lower-settles t m e (L .long) (rw own-e undone-e))
 
       pub looking-next : Looking t cut n rest
       looking-next = record {
@@ -225,6 +254,13 @@ module _ (t : List ℕ) (cut : ℕ) (m latest : List ℕ) (L : Looking t cut m l
         wide = ap length er ∙ simp length-set (L .wide);
         within = λ y l. by-eq y z (λ i. rw (i, at-z) (omega (arith, newest .within, in-cut))) (λ h. rw (other y h) (L .within y l));
         own = λ y l. by-eq y z (λ i. rw (i, at-z) (newest .own)) (λ h. rw (other y h) (L .own y l));
+        undone = λ x a b h. by-eq (atW t x) z
+            (λ i. by-eq x e
+            (λ j. falls x (rw (j, own-e) undone-e))
+            (λ g. by-lt e x
+            (λ l. falls x (L .undone x a b (rw i l)))
+            (λ l. absurd (newest .others x (rw (i, at-z) at h) (omega arith) i))))
+            (λ g. falls x (L .undone x a b (rw (other (atW t x) g) at h)));
         looked = λ x a b h. by-eq (atW t x) z
             (λ i. by-eq x e
             (λ j. rw j now-settled)
@@ -233,3 +269,16 @@ module _ (t : List ℕ) (cut : ℕ) (m latest : List ℕ) (L : Looking t cut m l
             (λ l. absurd (newest .others x (rw (i, at-z) at h) (omega arith) i))))
             (λ g. still x (L .looked x a b (rw (other (atW t x) g) at h)));
       }
+
+      -- a process that is not pending has no undone event left: its number and its newest event are what they were
+      pub look-idle : (pending after : ℕ) → z ≡ firstIn pending → 0 < pending → pending < 2 ^ 64 → after ≡ joinedBy t m e pending
+          → Outside (λ y. undoneW t m latest y ≡ false) pending → Outside (λ y. undoneW t n rest y ≡ false) after
+      unfolding lowerAt
+      look-idle pending after ez p l ea w y ly o =
+          by-bool (lostW t m e)
+          (λ h. let v = with-out pending (peerW t e) y (omega arith) (rw (ea, h) at o) in
+          let i : y ≡ z → ⊥ = λ i. clash (rw (← ez, ← i) at (first-in pending p l)) (v .0) in
+          rw (other y i, en, h, getD-set-other m (peerW t e) y (epochW t (matchW t e)) 0 (v .1)) (w y ly (v .0)))
+          (λ h. let v : inSet pending y ≡ false = rw (ea, h) at o in
+          let i : y ≡ z → ⊥ = λ i. clash (rw (← ez, ← i) at (first-in pending p l)) v in
+          rw (other y i, en, h) (w y ly v))

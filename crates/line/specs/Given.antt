@@ -41,10 +41,14 @@ planes a b c k = pick (ltb k 64) (a k) (pick (ltb k 128) (b (k - 64)) (c (k - 12
 abbrev pub stayWord : (ℕ → ℕ) → ℕ → ℕ
 stayWord line z = pick (staysIn line z) 1 0
 
--- with the phase at the restart, "or at the cut for 32"
+-- "phase is at the restart, or at the cut for 32"
+abbrev pub restartPhaseIn : Trace → ℕ → (ℕ → ℕ) → ℕ → ℕ
+restartPhaseIn t cut line z = phaseAt t past z (restartIn t cut line z)
+
+-- with the phase at the restart
 abbrev pub restartWord : Trace → ℕ → (ℕ → ℕ) → ℕ → ℕ
 restartWord t cut line =
-    planes (each t (λ z. phaseAt t past z (restartIn t cut line z))) (each t (restartIn t cut line)) (each t (stayWord line))
+    planes (each t (restartPhaseIn t cut line)) (each t (restartIn t cut line)) (each t (stayWord line))
 
 -- with the gate
 abbrev pub gateWord : Trace → ℕ → (ℕ → ℕ) → ℕ → ℕ

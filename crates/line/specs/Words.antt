@@ -10,6 +10,7 @@ use Rattle.trace.specs.Table.{eventBase}
 use Rattle.protocol.specs.Columns.{epochBase, phaseBase, matchBase}
 use Rattle.theory.specs.Lists.{pick}
 use Rattle.theory.specs.Line.{inSet}
+use Rattle.sets.specs.Sets.{withIn}
 
 -- of event e: its process, its peer, its kind (1 send, 2 receive, 3 checkpoint), its epoch, its phase, and the event it is matched with
 abbrev pub atW : List ℕ → ℕ → ℕ
@@ -95,15 +96,27 @@ pub record Pending (t m latest : List ℕ) : Type 0 where
 abbrev pub undoneW : List ℕ → List ℕ → List ℕ → ℕ → Bool
 undoneW t m latest z = ltb 0 (getD latest z 0) && leb (getD m z 0) (epochW t (getD latest z 0))
 
--- of process z and the best one so far, the one with the lower number
-abbrev pub betterW : List ℕ → ℕ → ℕ → ℕ
-betterW m best z = pick (eqb best 64) z (pick (ltb (getD m z 0) (getD m best 0)) z best)
+-- the processes that may have an undone event not looked at, after event e was: its sender, where that was lowered, may have one more
+abbrev pub joinedBy : List ℕ → List ℕ → ℕ → ℕ → ℕ
+joinedBy t m e pending = pick (lostW t m e) (withIn pending (peerW t e)) pending
 
--- r is a process with such an undone event, or 64, and then none of the first n has one
-pub record Found (t m latest : List ℕ) (n r : ℕ) : Type 0 where
-  pub within : r ≤ 64
-  pub one : r < 64 → undoneW t m latest r ≡ true
-  pub none : r ≡ 64 → (z : ℕ) → z < n → undoneW t m latest z ≡ false
+-- of each process the newest event before its restart, 0 where there is none: of another epoch than the line undoes, and all later ones are undone
+pub record Before (t : List ℕ) (cut : ℕ) (m latest : List ℕ) : Type 0 where
+  pub within : (z : ℕ) → z < 64 → getD latest z 0 ≤ cut
+  pub own : (z : ℕ) → z < 64 → 0 < getD latest z 0 → atW t (getD latest z 0) ≡ z
+  pub done : (z : ℕ) → z < 64 → 0 < getD latest z 0 → epochW t (getD latest z 0) < getD m z 0
+  pub undone : (e : ℕ) → 0 < e → e ≤ cut → getD latest (atW t e) 0 < e → getD m (atW t e) 0 ≤ epochW t e
+
+-- of a process whose newest event is e, 0 where it has none: its epoch and its phase
+abbrev pub epochAfter : List ℕ → ℕ → ℕ
+epochAfter t e = pick (eqb e 0) 1 (epochW t e)
+
+abbrev pub phaseAfter : List ℕ → ℕ → ℕ
+phaseAfter t e = pick (eqb e 0) 1 (phaseW t e)
+
+-- its phase at the restart, where e is the newest event before that: a checkpoint that it goes back to raised it by one
+abbrev pub restartPhase : List ℕ → ℕ → ℕ → ℕ
+restartPhase t number e = phaseAfter t e + pick (eqb number 32 || eqb number 1) 0 1
 
 -- 1 for each of so many processes, and 0 past the last
 pub record Begun (count : ℕ) (l : List ℕ) : Type 0 where

@@ -14,12 +14,13 @@ ghost use Rattle.theory.specs.Lists.{pick, all-below};
 ghost use Rattle.theory.specs.Refusals.{failureFault, lineFault};
 ghost use Rattle.theory.specs.Events.{size};
 ghost use Rattle.theory.specs.Epochs.{past};
-ghost use Rattle.theory.specs.Line.{inSet, staysIn, current, reached, Greatest, highest, greatestLine};
-ghost use Rattle.line.specs.Given.{Tabled, each, lineIn, lineTo, restartWord, gateWord, numbersOf, backOf, backOnes};
-ghost use Rattle.line.specs.Words.{matchW, Sized, lowerAt, Lowered, Linked, Pending, undoneW, betterW, Found, Lowerable, Begun, staysW, RestartsBegun, restartW, gateW, Gated, reachedW, mayStayW, mayW};
+ghost use Rattle.theory.specs.Line.{inSet, staysIn, current, reached, Greatest, greatestLine};
+ghost use Rattle.line.specs.Given.{Tabled, each, lineIn, lineTo, restartPhaseIn, restartWord, gateWord, numbersOf, backOf, backOnes};
+ghost use Rattle.line.specs.Words.{matchW, Sized, lostW, lowerAt, Lowered, joinedBy, Linked, Pending, undoneW, Before, epochAfter, phaseW, phaseAfter, restartPhase, Lowerable, Begun, staysW, RestartsBegun, restartW, gateW, Gated, reachedW, mayStayW, mayW};
 use protocol::EPOCH_BASE;
 use protocol::MATCH_BASE;
 use protocol::PHASE_BASE;
+use sets::EVERYONE;
 use trace::EVENT_BASE;
 
 // A recovery line: for each process the epoch that it restarts in, or STAYS, and how many processes there are.
@@ -84,6 +85,12 @@ fn one_if(yes: bool) -> u32
     if yes { 1 } else { 0 }
 }
 
+fn or_zero(yes: bool, v: u32) -> u32
+    ensures { λ r. ⌜ r ≡ pick yes v 0 ⌝ }
+{
+    if yes { v } else { 0 }
+}
+
 // Every process begins in epoch 1; places past the last are 0.
 fn begin(epochs: &mut [u32], count: usize)
     requires { ⌜ length (now epochs) ≡ 64 ⌝ }
@@ -97,7 +104,7 @@ fn begin(epochs: &mut [u32], count: usize)
 }
 
 // The epochs of the processes at the cut.
-pub fn epochs_at(full: &[u32], cut: usize, epochs: &mut [u32])
+fn epochs_at(full: &[u32], cut: usize, epochs: &mut [u32])
     requires { ⌜ (length (now epochs) ≡ 64) × ((t : Trace) × Tabled t (now full) × (cut ≤ size t)) ⌝ }
     ensures { λ _. ⌜ ((t : Trace) → Tabled t (now (full .entry)) → cut ≤ size t → now (epochs .exit) ≡ wordsFrom (each t (current t past cut)) 0 64) ⌝ }
 {
@@ -119,26 +126,27 @@ fn first_number(set: u64, z: u32, epoch: u32) -> u32
 }
 
 // The first line, from the epochs at the cut.
-fn first_line(epochs: &mut [u32], count: usize, set: u64)
-    requires { ⌜ (length (now epochs) ≡ 64) × (count ≤ 64) ⌝ }
-    ensures below { λ _. ⌜ ((z : ℕ) → z < count → getD (now (epochs .exit)) z 0 ≡ pick (inSet set z) (getD (now (epochs .entry)) z 0) 32) ⌝ }
-    ensures others { λ _. ⌜ ((z : ℕ) → count ≤ z → getD (now (epochs .exit)) z 0 ≡ getD (now (epochs .entry)) z 0) ⌝ }
+fn first_line(epochs: &[u32], count: usize, set: u64, numbers: &mut [u32])
+    requires { ⌜ (length (now epochs) ≡ 64) × (length (now numbers) ≡ 64) × (count ≤ 64) ⌝ }
+    ensures below { λ _. ⌜ ((z : ℕ) → z < count → getD (now (numbers .exit)) z 0 ≡ pick (inSet set z) (getD (now (epochs .entry)) z 0) 32) ⌝ }
+    ensures others { λ _. ⌜ ((z : ℕ) → count ≤ z → getD (now (numbers .exit)) z 0 ≡ getD (now (numbers .entry)) z 0) ⌝ }
 {
     let mut z: usize = 0;
     while z < count {
-        epochs[z] = first_number(set, z as u32, epochs[z]);
+        numbers[z] = first_number(set, z as u32, epochs[z]);
         z += 1;
     }
 }
 
-// Where event e receives a message that the line loses, its sender is lowered to the epoch of the send.
-fn lower_at(full: &[u32], epochs: &mut [u32], e: usize)
+// Where event e receives a message that the line loses, its sender is lowered to the epoch of the send; whether that is so.
+fn lower_at(full: &[u32], epochs: &mut [u32], e: usize) -> bool
     requires { ⌜ Lowerable (now full) (now epochs) e ⌝ }
-    ensures { λ _. ⌜ now (epochs .exit) ≡ lowerAt (now (full .entry)) (now (epochs .entry)) e ⌝ }
+    ensures line { λ _. ⌜ now (epochs .exit) ≡ lowerAt (now (full .entry)) (now (epochs .entry)) e ⌝ }
+    ensures lost { λ r. ⌜ r ≡ lostW (now (full .entry)) (now (epochs .entry)) e ⌝ }
 {
     let w = full[EVENT_BASE + e];
     if kind(w) != RECEIVE {
-        return;
+        return false;
     }
     let q = process(w);
     let p = peer(w);
@@ -146,15 +154,16 @@ fn lower_at(full: &[u32], epochs: &mut [u32], e: usize)
     let taken = full[EPOCH_BASE + e];
     let sent = full[EPOCH_BASE + d];
     if epochs[q] > taken {
-        return;
+        return false;
     }
     if epochs[p] <= sent {
-        return;
+        return false;
     }
     if sent < taken {
-        return;
+        return false;
     }
     epochs[p] = sent;
+    true
 }
 
 // Links the events of each process up to the cut, from the newest back: for each event the one of its process before it, and for each process
@@ -184,84 +193,130 @@ fn undoes(full: &[u32], epochs: &[u32], latest: &[u16], z: usize) -> bool
     epochs[z] <= full[EPOCH_BASE + e]
 }
 
-// Of process z and the best one so far (64: none), the one with the lower number.
-fn better(epochs: &[u32], best: usize, z: usize) -> usize
-    requires { ⌜ (length (now epochs) ≡ 64) × (best ≤ 64) × (z < 64) ⌝ }
-    ensures { λ r. ⌜ r ≡ betterW (now (epochs .entry)) best z ⌝ }
-{
-    if best == 64 {
-        return z;
-    }
-    if epochs[z] < epochs[best] { z } else { best }
-}
-
-// A process with an undone event that was not looked at yet, or 64 if there is none. It has the lowest number of all these, which saves time:
-// a lost message lowers its sender to no less than its receiver's number, so a process looked at is not lowered later, and none comes twice.
-// (Argued, not proved: any such process would do.)
-fn lowest(full: &[u32], epochs: &[u32], latest: &[u16]) -> usize
-    requires { ⌜ Pending (now full) (now epochs) (now latest) ⌝ }
-    ensures { λ r. ⌜ Found (now (full .entry)) (now (epochs .entry)) (now (latest .entry)) 64 r ⌝ }
-{
-    let mut best: usize = 64;
-    let mut z: usize = 0;
-    while z < 64 {
-        if undoes(full, epochs, latest, z) {
-            best = better(epochs, best, z);
-        }
-        z += 1;
-    }
-    best
-}
-
-// The same, but process z again while it has such an event: all of its undone events are looked at before another process is looked for.
-fn next(full: &[u32], epochs: &[u32], latest: &[u16], z: usize) -> usize
-    requires { ⌜ Pending (now full) (now epochs) (now latest) × (z < 64) ⌝ }
-    ensures { λ r. ⌜ Found (now (full .entry)) (now (epochs .entry)) (now (latest .entry)) 64 r ⌝ }
-{
-    if undoes(full, epochs, latest, z) {
-        return z;
-    }
-    lowest(full, epochs, latest)
-}
-
-// Looks at the newest event of process z that was not looked at yet.
-fn look(full: &[u32], earlier: &[u16], epochs: &mut [u32], latest: &mut [u16], z: usize)
+// Looks at the newest event of process z that was not looked at yet. A sender that is lowered joins those that may have undone events not
+// looked at.
+fn look(
+    full: &[u32],
+    earlier: &[u16],
+    epochs: &mut [u32],
+    latest: &mut [u16],
+    pending: u64,
+    z: usize,
+) -> u64
     requires { ⌜ (length (now earlier) ≡ 2049) × (length (now latest) ≡ 64) × (z < 64) × Lowerable (now full) (now epochs) (getD (now latest) z 0) ⌝ }
     ensures line { λ _. ⌜ now (epochs .exit) ≡ lowerAt (now (full .entry)) (now (epochs .entry)) (getD (now (latest .entry)) z 0) ⌝ }
     ensures rest { λ _. ⌜ now (latest .exit) ≡ set (now (latest .entry)) z (getD (now (earlier .entry)) (getD (now (latest .entry)) z 0) 0) ⌝ }
+    ensures pending { λ r. ⌜ r ≡ joinedBy (now (full .entry)) (now (epochs .entry)) (getD (now (latest .entry)) z 0) pending ⌝ }
 {
     let e = latest[z] as usize;
-    lower_at(full, epochs, e);
     latest[z] = earlier[e];
+    if lower_at(full, epochs, e) {
+        return sets::with(pending, peer(full[EVENT_BASE + e]));
+    }
+    pending
 }
 
-// Lowers the line until it loses no message. An undone event is looked at once: then its message is logged, or its sender restarts no later
-// than the send, and since numbers only fall that stays so. An event that is not undone receives no lost message.
-fn lower(full: &[u32], epochs: &mut [u32], cut: usize)
-    requires { ⌜ Sized (now full) cut × (length (now epochs) ≡ 64) ⌝ }
-    ensures { λ _. ⌜ Lowered (now (full .entry)) cut (now (epochs .entry)) (now (epochs .exit)) ⌝ }
+// Lowers the line until it loses no message, where the events up to the cut are linked. An undone event is looked at once: then its message is
+// logged, or its sender restarts no later than the send, and since numbers only fall that stays so. An event that is not undone receives no
+// lost message. `latest` is left with the newest event of each process before its restart.
+fn lower(full: &[u32], earlier: &[u16], epochs: &mut [u32], latest: &mut [u16])
+    requires { ⌜ (length (now epochs) ≡ 64) × ((cut : ℕ) × Sized (now full) cut × Linked (now full) cut (now earlier) (now latest)) ⌝ }
+    ensures line { λ _. ⌜ ((cut : ℕ) → Sized (now (full .entry)) cut → Linked (now (full .entry)) cut (now (earlier .entry)) (now (latest .entry)) → Lowered (now (full .entry)) cut (now (epochs .entry)) (now (epochs .exit))) ⌝ }
+    ensures left { λ _. ⌜ ((cut : ℕ) → Sized (now (full .entry)) cut → Linked (now (full .entry)) cut (now (earlier .entry)) (now (latest .entry)) → Before (now (full .entry)) cut (now (epochs .exit)) (now (latest .exit))) ⌝ }
 {
-    let mut earlier = [0u16; 2049];
-    let mut latest = [0u16; 64];
-    link(full, cut, &mut earlier, &mut latest);
-    let mut z = lowest(full, epochs, &latest);
-    while z < 64 {
-        look(full, &earlier, epochs, &mut latest, z);
-        z = next(full, epochs, &latest, z);
+    let mut pending = EVERYONE;
+    while pending != 0 {
+        let z = sets::first(pending);
+        if undoes(full, epochs, latest, z) {
+            pending = look(full, earlier, epochs, latest, pending, z);
+        } else {
+            pending = sets::rest(pending);
+        }
     }
 }
 
-// The greatest permitted line without a lost message, for a failure of a set of processes right after event `cut`, from the epochs at the
-// cut: a caller has them, and they are not computed again.
-pub fn greatest(full: &[u32], epochs: [u32; 64], cut: usize, set: u64) -> Line
-    requires { ⌜ ((t : Trace) → Tabled t (now full) → cut ≤ size t → epochs ≡ wordsFrom (each t (current t past cut)) 0 64) × ((t : Trace) × Tabled t (now full) × (cut ≤ size t)) ⌝ }
+// The epoch of a process after its newest event e; 1 where there is none.
+fn epoch_after(full: &[u32], e: usize) -> u32
+    requires { ⌜ (length (now full) ≡ areaWords) × (e ≤ 2048) ⌝ }
+    ensures { λ r. ⌜ r ≡ epochAfter (now (full .entry)) e ⌝ }
+{
+    if e == 0 {
+        return 1;
+    }
+    full[EPOCH_BASE + e]
+}
+
+// The epochs of the first processes after their newest events; 0 past the last.
+fn newest_epochs(full: &[u32], latest: &[u16], count: usize, epochs: &mut [u32])
+    requires { ⌜ Pending (now full) (now epochs) (now latest) ⌝ }
+    ensures { λ _. ⌜ ((z : ℕ) → z < 64 → getD (now (epochs .exit)) z 0 ≡ pick (ltb z count) (epochAfter (now (full .entry)) (getD (now (latest .entry)) z 0)) 0) ⌝ }
+{
+    let mut z: usize = 0;
+    while z < 64 {
+        epochs[z] = or_zero(z < count, epoch_after(full, latest[z] as usize));
+        z += 1;
+    }
+}
+
+// The phase of a process after its newest event e; 1 where there is none.
+fn phase_after(full: &[u32], e: usize) -> u32
+    requires { ⌜ (length (now full) ≡ areaWords) × (e ≤ 2048) ⌝ }
+    ensures { λ r. ⌜ r ≡ phaseAfter (now (full .entry)) e ⌝ }
+{
+    if e == 0 {
+        return 1;
+    }
+    full[PHASE_BASE + e]
+}
+
+// The phase of a process at its restart, from its newest event e before that: the checkpoint that it goes back to has raised it by one.
+fn restart_phase(full: &[u32], number: u32, e: usize) -> u32
+    requires { ⌜ (length (now full) ≡ areaWords) × (e ≤ 2048) × (0 < e → phaseW (now full) e < 65536) ⌝ }
+    ensures { λ r. ⌜ r ≡ restartPhase (now (full .entry)) number e ⌝ }
+{
+    let phase = phase_after(full, e);
+    if number == STAYS {
+        return phase;
+    }
+    if number == 1 {
+        return phase;
+    }
+    phase + 1
+}
+
+// The phases of the first processes at their restarts; 0 past the last.
+fn restart_phases(full: &[u32], latest: &[u16], numbers: &[u32], count: usize, phases: &mut [u32])
+    requires { ⌜ Pending (now full) (now phases) (now latest) × (length (now numbers) ≡ 64) × ((z : ℕ) → z < 64 → 0 < getD (now latest) z 0 → phaseW (now full) (getD (now latest) z 0) < 65536) ⌝ }
+    ensures { λ _. ⌜ ((z : ℕ) → z < 64 → getD (now (phases .exit)) z 0 ≡ pick (ltb z count) (restartPhase (now (full .entry)) (getD (now (numbers .entry)) z 0) (getD (now (latest .entry)) z 0)) 0) ⌝ }
+{
+    let mut z: usize = 0;
+    while z < 64 {
+        phases[z] = or_zero(
+            z < count,
+            restart_phase(full, numbers[z], latest[z] as usize),
+        );
+        z += 1;
+    }
+}
+
+// The greatest permitted line without a lost message, for a failure of a set of processes right after event `cut`. Leaves the epochs of the
+// processes at the cut, and their phases at the line's restarts, or at the cut for those that stay.
+pub fn greatest(full: &[u32], cut: usize, set: u64, epochs: &mut [u32], phases: &mut [u32]) -> Line
+    requires { ⌜ (length (now epochs) ≡ 64) × (length (now phases) ≡ 64) × ((t : Trace) × Tabled t (now full) × (cut ≤ size t)) ⌝ }
     ensures line { λ r. ⌜ ((t : Trace) → Tabled t (now (full .entry)) → cut ≤ size t → r ≡ lineTo t (greatestLine t past cut (reached t past cut) (inSet set))) ⌝ }
     ensures means { λ r. ⌜ ((t : Trace) → Tabled t (now (full .entry)) → cut ≤ size t → Greatest t past cut (reached t past cut) (inSet set) (lineIn r)) ⌝ }
+    ensures epochs { λ _. ⌜ ((t : Trace) → Tabled t (now (full .entry)) → cut ≤ size t → now (epochs .exit) ≡ wordsFrom (each t (current t past cut)) 0 64) ⌝ }
+    ensures phases { λ r. ⌜ ((t : Trace) → Tabled t (now (full .entry)) → cut ≤ size t → now (phases .exit) ≡ wordsFrom (each t (restartPhaseIn t cut (lineIn r))) 0 64) ⌝ }
 {
     let count = processes(full);
-    let mut numbers = epochs;
-    first_line(&mut numbers, count, set);
-    lower(full, &mut numbers, cut);
+    let mut earlier = [0u16; 2049];
+    let mut latest = [0u16; 64];
+    link(full, cut, &mut earlier, &mut latest);
+    newest_epochs(full, &latest, count, epochs);
+    let mut numbers = [0u32; 64];
+    first_line(epochs, count, set, &mut numbers);
+    lower(full, &earlier, &mut numbers, &mut latest);
+    restart_phases(full, &latest, &numbers, count, phases);
     Line {
         epochs: numbers,
         count: count,
@@ -278,12 +333,6 @@ fn stays(numbers: &[u32], count: usize, z: usize) -> bool
     } else {
         false
     }
-}
-
-fn or_zero(yes: bool, v: u32) -> u32
-    ensures { λ r. ⌜ r ≡ pick yes v 0 ⌝ }
-{
-    if yes { v } else { 0 }
 }
 
 // Before the first event: phase 1, the cut for a process that stays, the start for others.
@@ -324,7 +373,7 @@ fn note_restart(full: &[u32], numbers: &[u32], gates: &mut [u32], e: usize)
 }
 
 // Of each process its phase at the restart, or at the cut where it stays, the event that it restarts after, and whether it stays.
-pub fn restarts(full: &[u32], line: Line, cut: usize, gates: &mut [u32])
+fn restarts(full: &[u32], line: Line, cut: usize, gates: &mut [u32])
     requires { ⌜ (length (now gates) ≡ 192) × ((t : Trace) × Tabled t (now full) × (cut ≤ size t) × (line .count ≡ t .procs)) ⌝ }
     ensures { λ _. ⌜ ((t : Trace) → Tabled t (now (full .entry)) → cut ≤ size t → line .count ≡ t .procs → now (gates .exit) ≡ wordsFrom (restartWord t cut (lineIn line)) 0 192) ⌝ }
 {

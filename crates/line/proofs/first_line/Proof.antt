@@ -1,31 +1,34 @@
 -- `line::first_line` meets its contract: after z turns the first z numbers are those of the first line, the others as they were.
 use mathlib.Core.Path.{_≡_, refl}
 use Prim.Native.Nat.{ℕ, _-_, _≤_, _<_}
-use lib.ListN.{length, getD, set, length-set}
+use lib.ListN.{length, getD, length-set}
 use Rattle.theory.specs.Lists.{pick}
 use Rattle.theory.specs.Line.{inSet}
-use Rattle.line.proofs.Laws.{first-next, first-rest}
+use Rattle.line.proofs.Laws.{rule-next, rest-next}
 use native.Mathlib.Omega.{arith}
 use borrow.Author.Needs.{needs}
 use Rattle.line.proofs.first_line.Statement.{statement}
 use Rattle.line.proofs.first_line.Tie as tie
 
 abbrev Inv-loop : tie.InvT-loop
-Inv-loop epochs₀ count set z₀ epochs z = (z ≤ count) × (length epochs ≡ length epochs₀) × ((k : ℕ) → k < z → getD epochs k 0 ≡ pick (inSet set k) (getD epochs₀ k 0) 32) × ((k : ℕ) → z ≤ k → getD epochs k 0 ≡ getD epochs₀ k 0)
+Inv-loop epochs count set numbers₀ z₀ numbers z =
+    (z ≤ count) × (length numbers ≡ length numbers₀) × ((k : ℕ) → k < z → getD numbers k 0 ≡ pick (inSet set k) (getD epochs k 0) 32) × ((k : ℕ) → z ≤ k → getD numbers k 0 ≡ getD numbers₀ k 0)
 
 abbrev μ-loop : tie.MeasureT-loop
-μ-loop epochs₀ count set z₀ epochs z = count - z
+μ-loop epochs count set numbers₀ z₀ numbers z =
+    count - z
 
 loop-holds : tie.Need-loop-holds Inv-loop μ-loop
-loop-holds c = (omega arith, refl, λ k h. absurd (let y : ⊥ = omega arith in y), λ k h. refl)
+loop-holds c =
+    (omega arith, refl, λ k h. absurd (let y : ⊥ = omega arith in y), λ k h. refl)
 
 loop-again : tie.Need-loop-again Inv-loop μ-loop
 loop-again c =
     let loop = c .before .before .before .loop in
-    let pre = c .before .before .before .before .before .pre in
-    let args = c .before .before .before .before .before .args in
+    let pre = c .before .before .before .before .before .before .pre in
+    let args = c .before .before .before .before .before .before .args in
     let first-number = c .first-number in
-    let l : (loop .z) < length (loop .epochs) = omega (arith, (loop .inv .1), (pre .0), (pre .1)) in (omega arith, simp length-set (loop .inv .1), first-next (args .epochs .now) (loop .epochs) _ _ _ l (first-number .ensures) (loop .inv .3) (loop .inv .2), first-rest (args .epochs .now) (loop .epochs) _ _ _ l (first-number .ensures) (loop .inv .3))
+    let l : (loop .z) < length (loop .numbers) = omega (arith, (loop .inv .1), (pre .1), (pre .2)) in (omega arith, simp length-set (loop .inv .1), rule-next (λ k. pick (inSet (args .set) k) (getD (args .epochs .now) k 0) 32) (loop .numbers) _ _ l (first-number .ensures) (loop .inv .2), rest-next (args .numbers .now) (loop .numbers) _ _ (loop .inv .3))
 
 returns : tie.Need-returns Inv-loop μ-loop
 returns c =

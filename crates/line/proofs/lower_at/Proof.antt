@@ -9,7 +9,7 @@ returns : tie.Need-returns
 returns c =
     let kind = c .before .kind in
     let if1 = c .if1 in
-    not-lowered _ _ _ (no-receive _ _ _ _ (kind .ensures) (if1 .taken))
+    let n = no-receive _ _ _ _ (kind .ensures) (if1 .taken) in (not-lowered _ _ _ n, sym n)
 
 matched-requires : tie.Need-matched-requires
 matched-requires c κs =
@@ -26,7 +26,7 @@ returns-2 c =
     let peer = c .before .before .before .before .before .peer in
     let matched = c .before .before .before .before .matched in
     let if2 = c .if2 in
-    not-lowered _ _ _ (received-early _ _ _ _ (kind .ensures) _ _ _ (if1 .left) (process .ensures .0) (peer .ensures .0) (matched .ensures .0) (if2 .taken))
+    let n = received-early _ _ _ _ (kind .ensures) _ _ _ (if1 .left) (process .ensures .0) (peer .ensures .0) (matched .ensures .0) (if2 .taken) in (not-lowered _ _ _ n, sym n)
 
 returns-3 : tie.Need-returns-3
 returns-3 c =
@@ -36,7 +36,7 @@ returns-3 c =
     let peer = c .before .before .before .before .before .before .before .peer in
     let matched = c .before .before .before .before .before .before .matched in
     let if3 = c .if3 in
-    not-lowered _ _ _ (sent-late _ _ _ _ (kind .ensures) _ _ _ (if1 .left) (process .ensures .0) (peer .ensures .0) (matched .ensures .0) (if3 .taken))
+    let n = sent-late _ _ _ _ (kind .ensures) _ _ _ (if1 .left) (process .ensures .0) (peer .ensures .0) (matched .ensures .0) (if3 .taken) in (not-lowered _ _ _ n, sym n)
 
 returns-4 : tie.Need-returns-4
 returns-4 c =
@@ -46,7 +46,7 @@ returns-4 c =
     let peer = c .before .before .before .before .before .before .before .before .peer in
     let matched = c .before .before .before .before .before .before .before .matched in
     let if4 = c .if4 in
-    not-lowered _ _ _ (is-logged _ _ _ _ (kind .ensures) _ _ _ (if1 .left) (process .ensures .0) (peer .ensures .0) (matched .ensures .0) (if4 .taken))
+    let n = is-logged _ _ _ _ (kind .ensures) _ _ _ (if1 .left) (process .ensures .0) (peer .ensures .0) (matched .ensures .0) (if4 .taken) in (not-lowered _ _ _ n, sym n)
 
 returns-5 : tie.Need-returns-5
 returns-5 c =
@@ -58,7 +58,8 @@ returns-5 c =
     let if2 = c .before .before .before .if2 in
     let if3 = c .before .if3 in
     let if4 = c .if4 in
-    is-lowered _ _ _ _ (kind .ensures) _ _ _ (if1 .left) (process .ensures .0) (peer .ensures .0) (matched .ensures .0) (is-lost _ _ _ _ (kind .ensures) _ _ _ (if1 .left) (process .ensures .0) (peer .ensures .0) (matched .ensures .0) (if2 .left) (if3 .left) (if4 .left))
+    let l = is-lost _ _ _ _ (kind .ensures) _ _ _ (if1 .left) (process .ensures .0) (peer .ensures .0) (matched .ensures .0) (if2 .left) (if3 .left) (if4 .left) in
+    (is-lowered _ _ _ _ (kind .ensures) _ _ _ (if1 .left) (process .ensures .0) (peer .ensures .0) (matched .ensures .0) l, sym l)
 
 pub lower-at-spec : {M : Type 1} → statement M
 lower-at-spec =
