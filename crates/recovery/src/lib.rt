@@ -16,7 +16,7 @@ ghost use Rattle.replay.specs.Given.{Given};
 ghost use Rattle.recovery.specs.Answers.{runOf, faultOf, refusal, replayAnswer, replayArea, Equal, Completed};
 ghost use Rattle.recovery.specs.Prepared.{failureFaultIn, Filled, Prepared, Recovering};
 ghost use Rattle.recovery.specs.Messages.{countsOf, messagesRefusal, messagesAnswer, messagesArea};
-ghost use Rattle.recovery.specs.Recover.{restartWith, recoverRefusal, Succeeds};
+ghost use Rattle.recovery.specs.Recover.{recoverRefusal, Succeeds};
 ghost use Rattle.recovery.specs.Restart.{restartRefusal, restartOf, restartAnswer, Restarts};
 use line::Line;
 use replay::Replayed;
@@ -283,18 +283,19 @@ fn recover_from(full: &[u32], cut: usize, set: u64, area: &mut [u32]) -> Recover
     }
 }
 
-// All that a failure asks for, from one table: the restart, the replay of its line in the lowest order, and the list of the line's messages.
-pub fn recover(table: &[u32], step: u64, set: u64, area: &mut [u32]) -> Recovered
-    ensures restart { λ r. ⌜ r .restarted ≡ restartWith (now (table .entry)) (length (now (area .entry))) step set ⌝ }
-    ensures replay { λ r. ⌜ r .replayed ≡ replayAnswer (now (table .entry)) (now (area .entry)) step set (r .restarted .line) (lowestOrder (runOf (now (table .entry)) step (r .restarted .line))) ⌝ }
-    ensures messages { λ r. ⌜ r .counted ≡ messagesAnswer (now (table .entry)) (now (area .entry)) step set (r .restarted .line) ⌝ }
-    ensures words { λ r. ⌜ now (area .exit) ≡ messagesArea (now (table .entry)) (now (area .entry)) step set (r .restarted .line) ⌝ }
-    ensures means { λ r. ⌜ (r .restarted .number ≡ 0 → Succeeds (now (table .entry)) (length (now (area .entry))) step set r) ⌝ }
+// All that a failure asks for, from one table: the restart, the replay of its line in the lowest order, and the list of the line's messages,
+// which takes the place of the table. A refusal leaves the table as it was.
+pub fn recover(table: &mut [u32], step: u64, set: u64) -> Recovered
+    ensures restart { λ r. ⌜ r .restarted ≡ restartAnswer (now (table .entry)) step set ⌝ }
+    ensures replay { λ r. ⌜ r .replayed ≡ replayAnswer (now (table .entry)) (now (table .entry)) step set (r .restarted .line) (lowestOrder (runOf (now (table .entry)) step (r .restarted .line))) ⌝ }
+    ensures messages { λ r. ⌜ r .counted ≡ messagesAnswer (now (table .entry)) (now (table .entry)) step set (r .restarted .line) ⌝ }
+    ensures words { λ r. ⌜ now (table .exit) ≡ messagesArea (now (table .entry)) (now (table .entry)) step set (r .restarted .line) ⌝ }
+    ensures means { λ r. ⌜ (r .restarted .number ≡ 0 → Succeeds (now (table .entry)) step set r) ⌝ }
 {
     let mut full = [0u32; AREA_WORDS];
-    let fault = fill_table(table, area.len(), step, set, &mut full);
+    let fault = fill_table(table, AREA_WORDS, step, set, &mut full);
     if fault != 0 {
         return not_recovered(fault);
     }
-    recover_from(&full, step as usize, set, &mut area[..AREA_WORDS])
+    recover_from(&full, step as usize, set, &mut table[..AREA_WORDS])
 }
