@@ -1,4 +1,4 @@
--- What `recover` answers: the restart, and with its line what `lowest` and `messages` answer (Answers, Messages).
+-- What `recover` answers: the restart, and with its line what `lowest` and `messages` answer (Answers, Messages) with the table lent as the run area.
 use Prim.Native.Nat.{ℕ, _+_, _≤_}
 use mathlib.Core.Path.{_≡_}
 use mathlib.Core.List.{List}
