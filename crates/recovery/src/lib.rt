@@ -2,7 +2,7 @@
 // Answers and Recover say what each function answers and leaves, for every input; no public function has a `requires`. Assumes nothing.
 ghost use mathlib.Core.Path.{_≡_};
 ghost use Prim.Native.Nat.{ℕ, _+_, _<_, _≤_};
-ghost use lib.ListN.{length, getD};
+ghost use lib.ListN.{length, getD, replicate};
 ghost use Rattle.words.specs.Area.{areaWords, wordsFrom};
 ghost use Rattle.trace.specs.Trace.{Trace};
 ghost use Rattle.table.specs.Held.{held};
@@ -16,7 +16,7 @@ ghost use Rattle.replay.specs.Given.{Given};
 ghost use Rattle.recovery.specs.Answers.{runOf, faultOf, refusal, replayAnswer, replayArea, Equal, Completed};
 ghost use Rattle.recovery.specs.Prepared.{failureFaultIn, Filled, Prepared, Recovering};
 ghost use Rattle.recovery.specs.Messages.{countsOf, messagesRefusal, messagesAnswer, messagesArea};
-ghost use Rattle.recovery.specs.Recover.{restartWith, recoverRefusal, Succeeds};
+ghost use Rattle.recovery.specs.Recover.{recoverRefusal, Succeeds};
 ghost use Rattle.recovery.specs.Restart.{restartRefusal, restartOf, restartAnswer, Restarts};
 use line::Line;
 use replay::Replayed;
@@ -139,9 +139,9 @@ fn no_messages(number: u32) -> Counted
 // Where the restarts of the processes begin in the gates.
 const RESTARTS: usize = 64;
 
-// The orphans, kept and lost messages listed in a run area, from the full table and the gates of a line: how many there are.
+// The orphans, kept and lost messages listed in a run area of zeros, from the full table and the gates of a line: how many there are.
 fn list_from(full: &[u32], gates: &[u32], cut: usize, area: &mut [u32]) -> Counted
-    requires { ⌜ (length (now area) ≡ areaWords) × (length (now gates) ≡ 192) × ((t : Trace) × (line : (ℕ → ℕ)) × Given t line cut (now full) (now gates)) ⌝ }
+    requires { ⌜ (now area ≡ replicate areaWords 0) × (length (now gates) ≡ 192) × ((t : Trace) × (line : (ℕ → ℕ)) × Given t line cut (now full) (now gates)) ⌝ }
     ensures answer { λ r. ⌜ ((t : Trace) (line : ℕ → ℕ) → Given t line cut (now (full .entry)) (now (gates .entry)) → r ≡ countsOf (recorded t past cut line)) ⌝ }
     ensures words { λ _. ⌜ ((t : Trace) (line : ℕ → ℕ) → Given t line cut (now (full .entry)) (now (gates .entry)) → now (area .exit) ≡ wordsFrom (listWord (recorded t past cut line)) 0 areaWords) ⌝ }
     ensures few { λ r. ⌜ r .orphans + (r .kept + r .lost) ≤ 2048 ⌝ }
@@ -168,6 +168,7 @@ pub fn messages(table: &[u32], step: u64, set: u64, line: Line, area: &mut [u32]
     if fault != 0 {
         return no_messages(fault);
     }
+    words::zero(&mut area[..AREA_WORDS]);
     list_from(&full, &gates, step as usize, &mut area[..AREA_WORDS])
 }
 
@@ -266,6 +267,9 @@ fn not_recovered(number: u32) -> Recovered
     }
 }
 
+// How many words of the run area a replay's record takes up; those after it are 0.
+const RECORD_WORDS: usize = 4098;
+
 // The answers for a failure that is not refused, from the full table. The list of the messages takes the place of the replay's record.
 fn recover_from(full: &[u32], cut: usize, set: u64, area: &mut [u32]) -> Recovered
     requires { ⌜ (length (now area) ≡ areaWords) × ((t : Trace) × Tabled t (now full) × (cut ≤ size t)) ⌝ }
@@ -275,6 +279,7 @@ fn recover_from(full: &[u32], cut: usize, set: u64, area: &mut [u32]) -> Recover
     let mut gates = [0u32; line::GATE_WORDS];
     line::gates(full, restarted.line, cut, &mut gates);
     let replayed = replay::lowest(full, &gates, area, cut);
+    words::zero(&mut area[..RECORD_WORDS]);
     let counted = list_from(full, &gates, cut, area);
     Recovered {
         restarted: restarted,
@@ -283,18 +288,19 @@ fn recover_from(full: &[u32], cut: usize, set: u64, area: &mut [u32]) -> Recover
     }
 }
 
-// All that a failure asks for, from one table: the restart, the replay of its line in the lowest order, and the list of the line's messages.
-pub fn recover(table: &[u32], step: u64, set: u64, area: &mut [u32]) -> Recovered
-    ensures restart { λ r. ⌜ r .restarted ≡ restartWith (now (table .entry)) (length (now (area .entry))) step set ⌝ }
-    ensures replay { λ r. ⌜ r .replayed ≡ replayAnswer (now (table .entry)) (now (area .entry)) step set (r .restarted .line) (lowestOrder (runOf (now (table .entry)) step (r .restarted .line))) ⌝ }
-    ensures messages { λ r. ⌜ r .counted ≡ messagesAnswer (now (table .entry)) (now (area .entry)) step set (r .restarted .line) ⌝ }
-    ensures words { λ r. ⌜ now (area .exit) ≡ messagesArea (now (table .entry)) (now (area .entry)) step set (r .restarted .line) ⌝ }
-    ensures means { λ r. ⌜ (r .restarted .number ≡ 0 → Succeeds (now (table .entry)) (length (now (area .entry))) step set r) ⌝ }
+// All that a failure asks for, from one table: the restart, the replay of its line in the lowest order, and the list of the line's messages,
+// which takes the place of the table. A refusal leaves the table as it was.
+pub fn recover(table: &mut [u32], step: u64, set: u64) -> Recovered
+    ensures restart { λ r. ⌜ r .restarted ≡ restartAnswer (now (table .entry)) step set ⌝ }
+    ensures replay { λ r. ⌜ r .replayed ≡ replayAnswer (now (table .entry)) (now (table .entry)) step set (r .restarted .line) (lowestOrder (runOf (now (table .entry)) step (r .restarted .line))) ⌝ }
+    ensures messages { λ r. ⌜ r .counted ≡ messagesAnswer (now (table .entry)) (now (table .entry)) step set (r .restarted .line) ⌝ }
+    ensures words { λ r. ⌜ now (table .exit) ≡ messagesArea (now (table .entry)) (now (table .entry)) step set (r .restarted .line) ⌝ }
+    ensures means { λ r. ⌜ (r .restarted .number ≡ 0 → Succeeds (now (table .entry)) step set r) ⌝ }
 {
     let mut full = [0u32; AREA_WORDS];
-    let fault = fill_table(table, area.len(), step, set, &mut full);
+    let fault = fill_table(table, AREA_WORDS, step, set, &mut full);
     if fault != 0 {
         return not_recovered(fault);
     }
-    recover_from(&full, step as usize, set, &mut area[..AREA_WORDS])
+    recover_from(&full, step as usize, set, &mut table[..AREA_WORDS])
 }

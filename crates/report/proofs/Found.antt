@@ -152,13 +152,13 @@ module _ (a : List ℕ) (step set : ℕ) (r : Restarted) (G : Ready a step set r
   pub steps-are : (room : ℕ) (y : Replayed) → faultOf a room step set (r .line) ≡ 0 → Completed a room step set (r .line) y → y .steps ≡ steps (lowestOrder R)
   steps-are room y ok c = c ok .2 ∙ ap (λ (Q : Run). steps (lowestOrder Q)) run-same
 
-  module _ (y : Replayed) (c : Counted) (run₀ run : List ℕ) (hc : c ≡ messagesAnswer a run₀ step set (r .line))
-      (hw : run ≡ messagesArea a run₀ step set (r .line)) (S : Succeeds a (length run₀) step set (record { restarted = r; replayed = y; counted = c })) where
+  module _ (y : Replayed) (c : Counted) (run : List ℕ) (hc : c ≡ messagesAnswer a a step set (r .line))
+      (hw : run ≡ messagesArea a a step set (r .line)) (S : Succeeds a step set (record { restarted = r; replayed = y; counted = c })) where
     counted : c ≡ countsOf R
-    counted = counts-are a run₀ step set (r .line) (S .taken) c hc ∙ ap countsOf run-same
+    counted = counts-are a a step set (r .line) (S .taken) c hc ∙ ap countsOf run-same
 
     words : (k : ℕ) → k < 16384 → getD run k 0 ≡ listWord R k
-    words k h = listed-at a run₀ step set (r .line) (S .taken) run hw k h ∙ ap (λ (Q : Run). listWord Q k) run-same
+    words k h = listed-at a a step set (r .line) (S .taken) run hw k h ∙ ap (λ (Q : Run). listWord Q k) run-same
 
     few-rows : length (orphans R) + (length (keptOnes R) + length (lostOnes R)) ≤ 2048
     few-rows = rw counted at (S .few)
@@ -170,7 +170,7 @@ module _ (a : List ℕ) (step set : ℕ) (r : Restarted) (G : Ready a step set r
     pub rows-are : recoveryRows (record { restarted = r; replayed = y; counted = c }) run ≡ printedOf (given found)
     unfolding recoveryRows printedOf recoveryBy
     rows-are =
-        let n = steps-are (length run₀) y (S .taken) (S .completed) in
+        let n = steps-are (length a) y (S .taken) (S .completed) in
         rw (counted, n, back-is, process-lines, orphan-lines R few run words few-rows _ refl, kept-lines R few run words few-rows _ refl)
 
     pub rows-few : length (recoveryRows (record { restarted = r; replayed = y; counted = c }) run) ≤ reportBytes

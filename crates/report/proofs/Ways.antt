@@ -19,9 +19,7 @@ use Rattle.table.proofs.Claims.{failing-held, held-iff}
 use Rattle.theory.specs.Refusals.{failureFault}
 use Rattle.recovery.specs.declared.Restarted.{Restarted}
 use Rattle.recovery.specs.Restart.{failureFaultOf, restartOf, restartRefusal, restartAnswer, Restarts}
-use Rattle.recovery.specs.Recover.{restartWith}
 use Rattle.recovery.proofs.Restarting.{Ready}
-use Rattle.recovery.proofs.Recovering.{long-enough}
 use Rattle.writer.specs.Buffer.{Puts, room, written}
 use Rattle.writer.proofs.Buffers.{same-bytes, whole}
 use Rattle.report.specs.Report.{Answer, refused, given, unless, failureOf, recoveryFor, recovery, refusalLine, printedOf, printed, reportBytes}
@@ -86,15 +84,12 @@ module _ (text : List ℕ) (short : length text ≤ 65536) (before : List ℕ) (
     unfolding failureFaultOf
     fault-is = rw (le-ltb (length a) 16384 long, holds)
 
-    module _ (run : List ℕ) (run-is : length run ≡ 16384) (s : Restarted) (hs : s ≡ restartWith a (length run) (r .step) (r .set)) where
-      same-restart : s ≡ restartAnswer a (r .step) (r .set)
-      same-restart = hs ∙ long-enough a (length run) (r .step) (r .set) (omega arith)
-
+    module _ (s : Restarted) (hs : s ≡ restartAnswer a (r .step) (r .set)) where
       number-is : s .number ≡ F
       unfolding restartAnswer restartOf
       number-is = by-eq F 0
-          (λ e. let q : s ≡ restartOf (held a) (r .step) (r .set) = same-restart ∙ rw (fault-is, e) in ap (λ (x : Restarted). x .number) q ∙ sym e)
-          (λ e. let q : s ≡ restartRefusal F = same-restart ∙ rw (fault-is, ne-eqb F 0 e) in ap (λ (x : Restarted). x .number) q)
+          (λ e. let q : s ≡ restartOf (held a) (r .step) (r .set) = hs ∙ rw (fault-is, e) in ap (λ (x : Restarted). x .number) q ∙ sym e)
+          (λ e. let q : s ≡ restartRefusal F = hs ∙ rw (fault-is, ne-eqb F 0 e) in ap (λ (x : Restarted). x .number) q)
 
       -- the failure is refused
       pub failure-refused : (s .number ≡ 0 → ⊥) → refusalLine (s .number) 0 ≡ printed text
@@ -105,7 +100,7 @@ module _ (text : List ℕ) (short : length text ≤ 65536) (before : List ℕ) (
 
       pub ready : s .number ≡ 0 → Restarts (held a) (r .step) (r .set) s → Ready a (r .step) (r .set) s
       unfolding restartAnswer
-      ready h m = record { holds = holds; fit = sym number-is ∙ h; answer = same-restart ∙ rw (fault-is, sym number-is ∙ h); means = m }
+      ready h m = record { holds = holds; fit = sym number-is ∙ h; answer = hs ∙ rw (fault-is, sym number-is ∙ h); means = m }
 
       pub found-printed : s .number ≡ 0 → printedOf (given (recoveryFor (held a) (r .step) (r .set))) ≡ printed text
       unfolding printed recovery failureOf

@@ -136,7 +136,7 @@ fn put_total(
     writer::put_bytes(out, end, b"\n")
 }
 
-// The report of a failure that is not refused, from the answers and the list in the run area.
+// The report of a failure that is not refused, from the answers and the list that `recover` leaves.
 fn put_recovery(out: &mut [u8], r: Recovered, run: &[u32]) -> usize
     requires { ⌜ (length (now run) ≡ areaWords) × (r .restarted .line .count ≤ 64) × (r .counted .orphans + r .counted .kept ≤ 2048) ⌝ }
     ensures { λ n. ⌜ Puts (recoveryRows r (now (run .entry))) (now (out .entry)) 0 (now (out .exit)) n ⌝ }
@@ -170,10 +170,9 @@ pub fn report(text: &[u8], out: &mut [u8]) -> usize
     if read.number != 0 {
         return put_refusal(out, read.number, read.place);
     }
-    let mut run = [0u32; AREA_WORDS];
-    let r = recovery::recover(&table, read.step, read.set, &mut run);
+    let r = recovery::recover(&mut table, read.step, read.set);
     if r.restarted.number != 0 {
         return put_refusal(out, r.restarted.number, 0);
     }
-    put_recovery(out, r, &run)
+    put_recovery(out, r, &table)
 }

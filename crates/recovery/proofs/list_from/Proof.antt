@@ -1,5 +1,5 @@
 -- `recovery::list_from` meets its contract: the counts are words of the list.
-use Rattle.recovery.proofs.Listing.{cut-fits, listable, counted, few-counted}
+use Rattle.recovery.proofs.Listing.{clear-length, cut-fits, listable, counted, few-counted}
 use native.Mathlib.Omega.{arith}
 use borrow.Author.Needs.{needs}
 use Rattle.recovery.proofs.list_from.Statement.{statement}
@@ -15,6 +15,27 @@ list-requires c κs =
     let pre = c .before .before .before .before .before .pre in
     ((pre .0), ((pre .2 .0), (pre .2 .1), listable _ _ _ _ _ (pre .2 .2) (pre .1)))
 
+slice-read-t10 : tie.Need-slice-read-t10
+slice-read-t10 c =
+    let list = c .before .before .before .list in
+    let args = c .before .before .before .before .before .before .before .before .before .args in
+    let pre = c .before .before .before .before .before .before .before .before .before .pre in
+    omega (arith, (list .kept .1 .1 .1 .0), clear-length (args .area .now) (pre .0))
+
+slice-read-t15 : tie.Need-slice-read-t15
+slice-read-t15 c =
+    let list = c .before .before .before .before .list in
+    let args = c .before .before .before .before .before .before .before .before .before .before .args in
+    let pre = c .before .before .before .before .before .before .before .before .before .before .pre in
+    omega (arith, (list .kept .1 .1 .1 .0), clear-length (args .area .now) (pre .0))
+
+slice-read-t17 : tie.Need-slice-read-t17
+slice-read-t17 c =
+    let list = c .before .before .before .before .before .list in
+    let args = c .before .before .before .before .before .before .before .before .before .before .before .args in
+    let pre = c .before .before .before .before .before .before .before .before .before .before .before .pre in
+    omega (arith, (list .kept .1 .1 .1 .0), clear-length (args .area .now) (pre .0))
+
 returns : tie.Need-returns
 returns c =
     let pre = c .before .before .before .before .before .before .before .before .before .before .before .pre in
@@ -24,4 +45,4 @@ returns c =
 pub list-from-spec : {M : Type 1} → statement M
 list-from-spec =
     tie.close
-    (tie.spec (λ c. search needs) (λ c. search needs) (λ c. search needs) cast-list list-requires (λ c. search needs) (λ c. search needs) (λ c. search needs) (λ c. search needs) returns)
+    (tie.spec (λ c. search needs) (λ c. search needs) (λ c. search needs) cast-list list-requires slice-read-t10 slice-read-t15 slice-read-t17 (λ c. search needs) returns)

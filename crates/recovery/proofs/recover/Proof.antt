@@ -1,7 +1,8 @@
--- `recovery::recover` meets its contract: a refusal changes nothing; otherwise the first 16,384 words are lent on.
+-- `recovery::recover` meets its contract: a refusal changes nothing; otherwise the list of the messages takes the place of the table.
 use lib.Seq.{length-take-le}
 use Rattle.words.specs.Area.{areaWords}
 use Rattle.table.specs.Held.{held}
+use Rattle.protocol.proofs.Passes.{held-long}
 use Rattle.recovery.proofs.Given.{step-within}
 use Rattle.recovery.proofs.Recovering.{refuses-recovery, recovers}
 use mathlib.Core.Path.{sym}
@@ -15,20 +16,21 @@ returns c =
     let fill-table = c .before .before .before .fill-table in
     let if1 = c .before .if1 in
     let not-recovered = c .not-recovered in
-    refuses-recovery (args .table .now) (args .area .now) (args .step) (args .set) _ _ (fill-table .ensures .0) (if1 .taken) (not-recovered .ensures)
+    refuses-recovery (args .table .now) (args .step) (args .set) _ _ (fill-table .ensures .0) (if1 .taken) (not-recovered .ensures)
 
 slice-relend-prefix-recover-from : tie.Need-slice-relend-prefix-recover-from
 slice-relend-prefix-recover-from c =
     let fill-table = c .before .before .before .fill-table in
     let if1 = c .before .if1 in
-    let F = (fill-table .ensures .1) (if1 .left) in F .enough
+    let args = c .before .before .before .before .before .before .before .args in
+    held-long (args .table .now) (((fill-table .ensures .1) (if1 .left)) .holds)
 
 slice-aggregate-recover-from-2 : tie.Need-slice-aggregate-recover-from-2
 slice-aggregate-recover-from-2 c =
     let fill-table = c .before .before .before .before .fill-table in
     let if1 = c .before .before .if1 in
     let args = c .before .before .before .before .before .before .before .before .args in
-    let F = (fill-table .ensures .1) (if1 .left) in sym (length-take-le areaWords (args .area .now) (F .enough))
+    let F = (fill-table .ensures .1) (if1 .left) in sym (length-take-le areaWords (args .table .now) (held-long (args .table .now) (F .holds)))
 
 recover-from-requires : tie.Need-recover-from-requires
 recover-from-requires c κs =
@@ -36,7 +38,7 @@ recover-from-requires c κs =
     let if1 = c .before .before .if1 in
     let args = c .before .before .before .before .before .before .before .before .args in
     let F = (fill-table .ensures .1) (if1 .left) in
-    (length-take-le areaWords (args .area .now) (F .enough), (held (args .table .now), F .tabled, step-within (args .table .now) _ (args .step) (args .set) _ F))
+    (length-take-le areaWords (args .table .now) (held-long (args .table .now) (F .holds)), (held (args .table .now), F .tabled, step-within (args .table .now) _ (args .step) (args .set) _ F))
 
 returns-2 : tie.Need-returns-2
 returns-2 c =
@@ -45,9 +47,9 @@ returns-2 c =
     let args = c .before .before .before .before .before .before .before .before .before .before .before .args in
     let recover-from = c .before .before .recover-from in
     let F = (fill-table .ensures .1) (if1 .left) in
-    recovers (args .table .now) (args .area .now) (args .step) (args .set) _ _ _ F ((recover-from .ensures) (held (args .table .now)) (F .tabled) (step-within (args .table .now) _ (args .step) (args .set) _ F))
+    recovers (args .table .now) (args .step) (args .set) _ _ _ _ _ (fill-table .ensures .0) (if1 .left) F ((recover-from .ensures) (held (args .table .now)) (F .tabled) (step-within (args .table .now) _ (args .step) (args .set) _ F))
 
 pub recover-spec : {M : Type 1} → statement M
 recover-spec =
     tie.close
-    (tie.spec (λ c. search needs) (λ c κs. search needs) (λ c κs. search needs) returns (λ c. search needs) slice-relend-prefix-recover-from slice-aggregate-recover-from-2 recover-from-requires (λ c. search needs) returns-2)
+    (tie.spec (λ c. search needs) (λ c κs. search needs) (λ c κs. search needs) (λ c. search needs) returns (λ c. search needs) slice-relend-prefix-recover-from slice-aggregate-recover-from-2 recover-from-requires (λ c. search needs) returns-2)

@@ -28,42 +28,42 @@ returns-2 c =
 
 returns-3 : tie.Need-returns-3
 returns-3 c =
-    let args = c .before .before .before .before .before .before .before .before .before .before .before .before .before .before .before .before .before .before .args in
-    let if1 = c .before .before .before .before .before .before .before .before .before .before .before .before .before .before .before .if1 in
-    let read-failure = c .before .before .before .before .before .before .before .before .before .before .before .before .before .read-failure in
-    let if2 = c .before .before .before .before .before .before .before .before .before .before .if2 in
+    let args = c .before .before .before .before .before .before .before .before .before .before .before .before .before .before .before .before .before .args in
+    let if1 = c .before .before .before .before .before .before .before .before .before .before .before .before .before .before .if1 in
+    let read-failure = c .before .before .before .before .before .before .before .before .before .before .before .before .read-failure in
+    let if2 = c .before .before .before .before .before .before .before .before .before .if2 in
     let recover = c .before .before .before .before .before .before .before .recover in
     let if3 = c .before .before .before .before .if3 in
     let put-refusal3 = c .before .before .put-refusal3 in
-    answered _ (args .text .now) _ _ _ (failure-refused (args .text .now) (if1 .left) (replicate areaWords 0) (length-replicate {A = ℕ} areaWords 0) (read-failure .result) (read-failure .ensures .0) (if2 .left) _ (read-failure .ensures .1) (replicate areaWords 0) (length-replicate {A = ℕ} areaWords 0) (recover .result .restarted) (recover .ensures .0) (if3 .taken)) (refusal-few _ _) (put-refusal3 .ensures)
+    answered _ (args .text .now) _ _ _ (failure-refused (args .text .now) (if1 .left) (replicate areaWords 0) (length-replicate {A = ℕ} areaWords 0) (read-failure .result) (read-failure .ensures .0) (if2 .left) _ (read-failure .ensures .1) (recover .result .restarted) (recover .ensures .0) (if3 .taken)) (refusal-few _ _) (put-refusal3 .ensures)
 
 put-recovery-requires : tie.Need-put-recovery-requires
 put-recovery-requires c κs =
     let recover = c .before .before .before .before .before .recover in
     let if3 = c .before .before .if3 in
-    let args = c .before .before .before .before .before .before .before .before .before .before .before .before .before .before .before .before .args in
-    let if1 = c .before .before .before .before .before .before .before .before .before .before .before .before .before .if1 in
-    let read-failure = c .before .before .before .before .before .before .before .before .before .before .before .read-failure in
-    let if2 = c .before .before .before .before .before .before .before .before .if2 in
+    let args = c .before .before .before .before .before .before .before .before .before .before .before .before .before .before .before .args in
+    let if1 = c .before .before .before .before .before .before .before .before .before .before .before .before .if1 in
+    let read-failure = c .before .before .before .before .before .before .before .before .before .before .read-failure in
+    let if2 = c .before .before .before .before .before .before .before .if2 in
     let S = (recover .ensures .1 .1 .1 .1) (if3 .left) in
-    let G = ready (args .text .now) (if1 .left) (replicate areaWords 0) (length-replicate {A = ℕ} areaWords 0) (read-failure .result) (read-failure .ensures .0) (if2 .left) _ (read-failure .ensures .1) (replicate areaWords 0) (length-replicate {A = ℕ} areaWords 0) (recover .result .restarted) (recover .ensures .0) (if3 .left) (S .restarts) in
-    let p = puttable _ _ _ (recover .result .restarted) G (recover .result .replayed) (recover .result .counted) _ _ (recover .ensures .1 .1 .0) (recover .ensures .1 .1 .1 .0) S in
+    let G = ready (args .text .now) (if1 .left) (replicate areaWords 0) (length-replicate {A = ℕ} areaWords 0) (read-failure .result) (read-failure .ensures .0) (if2 .left) _ (read-failure .ensures .1) (recover .result .restarted) (recover .ensures .0) (if3 .left) (S .restarts) in
+    let p = puttable _ _ _ (recover .result .restarted) G (recover .result .replayed) (recover .result .counted) _ (recover .ensures .1 .1 .0) (recover .ensures .1 .1 .1 .0) S in
     (search needs, p .0, p .1)
 
 returns-4 : tie.Need-returns-4
 returns-4 c =
     let recover = c .before .before .before .before .before .before .before .before .recover in
     let if3 = c .before .before .before .before .before .if3 in
-    let args = c .before .before .before .before .before .before .before .before .before .before .before .before .before .before .before .before .before .before .before .args in
-    let if1 = c .before .before .before .before .before .before .before .before .before .before .before .before .before .before .before .before .if1 in
-    let read-failure = c .before .before .before .before .before .before .before .before .before .before .before .before .before .before .read-failure in
-    let if2 = c .before .before .before .before .before .before .before .before .before .before .before .if2 in
+    let args = c .before .before .before .before .before .before .before .before .before .before .before .before .before .before .before .before .before .before .args in
+    let if1 = c .before .before .before .before .before .before .before .before .before .before .before .before .before .before .before .if1 in
+    let read-failure = c .before .before .before .before .before .before .before .before .before .before .before .before .before .read-failure in
+    let if2 = c .before .before .before .before .before .before .before .before .before .before .if2 in
     let put-recovery = c .before .before .put-recovery in
     let S = (recover .ensures .1 .1 .1 .1) (if3 .left) in
-    let G = ready (args .text .now) (if1 .left) (replicate areaWords 0) (length-replicate {A = ℕ} areaWords 0) (read-failure .result) (read-failure .ensures .0) (if2 .left) _ (read-failure .ensures .1) (replicate areaWords 0) (length-replicate {A = ℕ} areaWords 0) (recover .result .restarted) (recover .ensures .0) (if3 .left) (S .restarts) in
-    answered _ (args .text .now) _ _ _ (rows-are _ _ _ (recover .result .restarted) G (recover .result .replayed) (recover .result .counted) _ _ (recover .ensures .1 .1 .0) (recover .ensures .1 .1 .1 .0) S ∙ found-printed (args .text .now) (if1 .left) (replicate areaWords 0) (length-replicate {A = ℕ} areaWords 0) (read-failure .result) (read-failure .ensures .0) (if2 .left) _ (read-failure .ensures .1) (replicate areaWords 0) (length-replicate {A = ℕ} areaWords 0) (recover .result .restarted) (recover .ensures .0) (if3 .left)) (rows-few _ _ _ (recover .result .restarted) G (recover .result .replayed) (recover .result .counted) _ _ (recover .ensures .1 .1 .0) (recover .ensures .1 .1 .1 .0) S) (put-recovery .ensures)
+    let G = ready (args .text .now) (if1 .left) (replicate areaWords 0) (length-replicate {A = ℕ} areaWords 0) (read-failure .result) (read-failure .ensures .0) (if2 .left) _ (read-failure .ensures .1) (recover .result .restarted) (recover .ensures .0) (if3 .left) (S .restarts) in
+    answered _ (args .text .now) _ _ _ (rows-are _ _ _ (recover .result .restarted) G (recover .result .replayed) (recover .result .counted) _ (recover .ensures .1 .1 .0) (recover .ensures .1 .1 .1 .0) S ∙ found-printed (args .text .now) (if1 .left) (replicate areaWords 0) (length-replicate {A = ℕ} areaWords 0) (read-failure .result) (read-failure .ensures .0) (if2 .left) _ (read-failure .ensures .1) (recover .result .restarted) (recover .ensures .0) (if3 .left)) (rows-few _ _ _ (recover .result .restarted) G (recover .result .replayed) (recover .result .counted) _ (recover .ensures .1 .1 .0) (recover .ensures .1 .1 .1 .0) S) (put-recovery .ensures)
 
 pub report-spec : {M : Type 1} → statement M
 report-spec =
     tie.close
-    (tie.spec (λ c κs. search needs) (λ c. search needs) returns (λ c. search needs) (λ c κs. search needs) (λ c κs. search needs) (λ c. search needs) returns-2 (λ c. search needs) (λ c. search needs) (λ c κs. search needs) (λ c κs. search needs) (λ c. search needs) returns-3 (λ c. search needs) put-recovery-requires (λ c. search needs) returns-4)
+    (tie.spec (λ c κs. search needs) (λ c. search needs) returns (λ c. search needs) (λ c κs. search needs) (λ c κs. search needs) (λ c. search needs) returns-2 (λ c. search needs) (λ c κs. search needs) (λ c κs. search needs) (λ c. search needs) returns-3 (λ c. search needs) put-recovery-requires (λ c. search needs) returns-4)
