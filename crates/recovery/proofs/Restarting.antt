@@ -14,13 +14,13 @@ use Rattle.trace.specs.Trace.{Trace}
 use Rattle.table.specs.Held.{held, holdsTrace}
 use Rattle.theory.specs.Events.{size}
 use Rattle.theory.specs.Epochs.{past, phaseAt}
-use Rattle.theory.specs.Line.{inSet, staysIn, restartIn, current, reached, Greatest, greatestLine}
+use Rattle.theory.specs.Line.{inSet, staysIn, current, reached, Greatest, greatestLine}
 use Rattle.theory.specs.Refusals.{failureFault}
 use Rattle.theory.proofs.Claims.{floor-failed}
 use Rattle.theory.proofs.Refusals.{failure-fit, line-fit}
 use Rattle.theory.proofs.WellFormed.{valid}
 use Rattle.line.specs.declared.Line.{Line}
-use Rattle.line.specs.Given.{Tabled, each, lineIn, lineTo, restartWord, numbersOf, backOf, backOnes}
+use Rattle.line.specs.Given.{Tabled, each, lineIn, lineTo, restartPhaseIn, numbersOf, backOf, backOnes}
 use Rattle.recovery.specs.declared.Restarted.{Restarted}
 use Rattle.recovery.specs.Answers.{faultOf}
 use Rattle.recovery.specs.Restart.{failureFaultOf, engineLine, ofEach, restartBy, restartOf, restartRefusal, restartAnswer, Restarts}
@@ -36,18 +36,11 @@ module _ (t : Trace) (full : List ℕ) (G : Tabled t full) (cut set : ℕ) (cl :
   pub count-few : l .count ≤ 64
   count-few = omega (arith, count-of, valid t (G .formed) .few)
 
-  phases-are : (g p : List ℕ) → g ≡ wordsFrom (restartWord t cut (lineIn l)) 0 192 → length p ≡ 64 → ((z : ℕ) → z < 64 → getD p z 0 ≡ getD g z 0)
-      → p ≡ ofEach t (λ z. phaseAt t past z (restartIn t cut (lineIn l) z))
-  phases-are g p h n same =
-      words-ext (each t (λ z. phaseAt t past z (restartIn t cut (lineIn l) z))) 64 p n
-      (λ z b. same z b ∙ ap (λ (x : List ℕ). getD x z 0) h ∙ getD-words (restartWord t cut (lineIn l)) 0 192 z (omega arith)
-      ∙ ap (restartWord t cut (lineIn l)) (let q : 0 + z ≡ z = omega arith in q) ∙ rw (lt-ltb z 64 b))
-
-  pub made : (s b : ℕ) (x g p : List ℕ) → s ≡ backOf (numbersOf l) → b ≡ ones (backOf (numbersOf l)) → x ≡ ofEach t (current t past cut)
-      → g ≡ wordsFrom (restartWord t cut (lineIn l)) 0 192 → length p ≡ 64 → ((z : ℕ) → z < 64 → getD p z 0 ≡ getD g z 0)
+  pub made : (s b : ℕ) (x p : List ℕ) → s ≡ backOf (numbersOf l) → b ≡ ones (backOf (numbersOf l)) → x ≡ ofEach t (current t past cut)
+      → p ≡ ofEach t (restartPhaseIn t cut (lineIn l))
       → record { number = 0; place = 0; line = l; going = s; back = b; epochs = x; phases = p } ≡ restartOf t cut set
   unfolding restartOf engineLine
-  made s b x g p hs hb hx hg n same = rw (hs, hb, hx, phases-are g p hg n same) (ap (restartBy t cut) e)
+  made s b x p hs hb hx hp = rw (hs, hb, hx, hp) (ap (restartBy t cut) e)
 
   pub means : (s b : ℕ) (x p : List ℕ) → Greatest t past cut (reached t past cut) (inSet set) (lineIn l)
       → s ≡ backOf (numbersOf l) → ((z : ℕ) → inSet s z ≡ (ltb z (l .count) && not (staysIn (lineIn l) z)))

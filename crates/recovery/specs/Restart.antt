@@ -11,11 +11,11 @@ use Rattle.trace.specs.Trace.{Trace}
 use Rattle.trace.specs.Fit.{orElse}
 use Rattle.table.specs.Held.{held, holdsTrace}
 use Rattle.theory.specs.Lists.{pick}
-use Rattle.theory.specs.Epochs.{past, phaseAt}
-use Rattle.theory.specs.Line.{inSet, staysIn, restartIn, current, reached, Greatest, greatestLine}
+use Rattle.theory.specs.Epochs.{past}
+use Rattle.theory.specs.Line.{inSet, staysIn, current, reached, Greatest, greatestLine}
 use Rattle.theory.specs.Refusals.{failureFault}
 use Rattle.line.specs.declared.Line.{Line}
-use Rattle.line.specs.Given.{each, lineIn, lineTo, numbersOf, backOf, backOnes}
+use Rattle.line.specs.Given.{each, lineIn, lineTo, restartPhaseIn, numbersOf, backOf, backOnes}
 use Rattle.recovery.specs.declared.Restarted.{Restarted}
 
 -- what is wrong with the table area and the failure: 12, 13, 8, 9, or 0
@@ -40,7 +40,7 @@ restartBy t step l =
       going = backOf (numbersOf l);
       back = ones (backOf (numbersOf l));
       epochs = ofEach t (current t past step);
-      phases = ofEach t (λ z. phaseAt t past z (restartIn t step (lineIn l) z));
+      phases = ofEach t (restartPhaseIn t step (lineIn l));
     }
 
 unfoldable pub restartOf : Trace → ℕ → ℕ → Restarted

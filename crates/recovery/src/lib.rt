@@ -201,18 +201,6 @@ fn no_restart(number: u32) -> Restarted
     }
 }
 
-// The phases are the first words of the restarts.
-fn take_phases(restarts: &[u32], phases: &mut [u32])
-    requires { ⌜ (length (now restarts) ≡ 192) × (length (now phases) ≡ 64) ⌝ }
-    ensures { λ _. ⌜ ((z : ℕ) → z < 64 → getD (now (phases .exit)) z 0 ≡ getD (now (restarts .entry)) z 0) ⌝ }
-{
-    let mut z: usize = 0;
-    while z < 64 {
-        phases[z] = restarts[z];
-        z += 1;
-    }
-}
-
 // The answer for a failure that is not refused, from the full table.
 fn restart_from(full: &[u32], cut: usize, set: u64) -> Restarted
     requires { ⌜ ((t : Trace) × Tabled t (now full) × (cut ≤ size t)) ⌝ }
@@ -220,12 +208,8 @@ fn restart_from(full: &[u32], cut: usize, set: u64) -> Restarted
     ensures means { λ r. ⌜ ((t : Trace) → Tabled t (now (full .entry)) → cut ≤ size t → Restarts t cut set r) ⌝ }
 {
     let mut epochs = [0u32; 64];
-    line::epochs_at(full, cut, &mut epochs);
-    let line = line::greatest(full, epochs, cut, set);
-    let mut places = [0u32; line::GATE_WORDS];
-    line::restarts(full, line, cut, &mut places);
     let mut phases = [0u32; 64];
-    take_phases(&places, &mut phases);
+    let line = line::greatest(full, cut, set, &mut epochs, &mut phases);
     Restarted {
         number: 0,
         place: 0,

@@ -1,6 +1,6 @@
 -- `line::greatest` meets its contract: the first line, lowered until nothing is lost, is the theory's line; epochs and phases are those of the
 -- newest events before and after that.
-use mathlib.Core.Path.{_≡_, sym, _∙_}
+use mathlib.Core.Path.{_≡_, _∙_}
 use lib.ListN.{length}
 use Rattle.protocol.proofs.Passes.{zero-word}
 use Rattle.line.proofs.Table.{procs-most, sized}

@@ -1,7 +1,6 @@
 -- `line::look` meets its contract.
 use mathlib.Core.Path.{sym, _∙_}
 use Rattle.line.proofs.Laws.{joined-lost, joined-kept}
-use native.Mathlib.Omega.{arith}
 use borrow.Author.Needs.{needs}
 use Rattle.line.proofs.look.Statement.{statement}
 use Rattle.line.proofs.look.Tie as tie

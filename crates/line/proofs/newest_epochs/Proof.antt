@@ -1,5 +1,5 @@
 -- `line::newest_epochs` meets its contract: after z turns the first z words are those of the rule.
-use mathlib.Core.Path.{_≡_, refl, sym, _∙_}
+use mathlib.Core.Path.{_≡_, refl, _∙_}
 use Prim.Native.Nat.{ℕ, _-_, _≤_, _<_}
 use lib.ListN.{length, getD, length-set}
 use lib.Dec.{ltb}

@@ -1,6 +1,5 @@
 -- `line::phase_after` meets its contract.
 use borrow.Author.Tests.{eq-eqb, ne-eqb}
-use native.Mathlib.Omega.{arith}
 use borrow.Author.Needs.{needs}
 use Rattle.line.proofs.phase_after.Statement.{statement}
 use Rattle.line.proofs.phase_after.Tie as tie

@@ -1,6 +1,4 @@
 -- `line::restart_phase` meets its contract.
-use mathlib.Core.Bool.{_||_, or-true}
-use lib.Dec.{eqb}
 use borrow.Author.Tests.{eq-eqb, ne-eqb}
 use Rattle.words.proofs.Cases.{by-eq}
 use Rattle.line.proofs.Laws.{phase-kept, phase-raised}
