@@ -7,11 +7,12 @@ use Rattle.replay.proofs.do_process.Tie as tie
 
 returns : tie.Need-returns
 returns c =
-    let pointer = c .before .before .before .before .before .pointer in
-    let do-event = c .before .before .before .do-event in
-    process-done _ _ _ _ _ _ (pointer .ensures .0) (do-event .ensures)
+    let next = c .next in
+    let pointer = c .before .before .before .before .before .before .pointer in
+    let do-event = c .before .before .before .before .do-event in
+    rw (next .ensures) (process-done _ _ _ _ _ _ (pointer .ensures .0) (do-event .ensures))
 
 pub do-process-spec : {M : Type 1} → statement M
 do-process-spec =
     tie.close
-    (tie.spec (λ c. search needs) (λ c κs. search needs) (λ c κs. search needs) (λ c. search needs) (λ c. search needs) (λ c. search needs) (λ c. search needs) (λ c. search needs) (λ c. search needs) (λ c. search needs) returns)
+    (tie.spec (λ c. search needs) (λ c κs. search needs) (λ c κs. search needs) (λ c. search needs) (λ c. search needs) (λ c. search needs) (λ c κs. search needs) (λ c. search needs) (λ c. search needs) (λ c. search needs) (λ c. search needs) returns)
