@@ -6,7 +6,7 @@ ghost use mathlib.Core.Bool.{true, false};
 ghost use Prim.Native.Nat.{ℕ, _+_, _-_, _*_, _/_, _%_, _≤_, _<_};
 ghost use lib.ListN.{length, getD};
 ghost use Rattle.words.specs.Area.{areaWords};
-ghost use Rattle.simulation.specs.Words.{takenBase, currentBase, orphanBase, takeBase, putBase, lowPlace, noPhase, peerW, numberW, valueW, curW, lowW, sendOk, eventOk, processOk, handOk, allowedW, lesser, lowerW, lowOf, dropW, putInW, takeOutW, eventW, processW, applyW, Bounded, Small, noneFrom};
+ghost use Rattle.simulation.specs.Words.{takenBase, currentBase, orphanBase, takeBase, putBase, lowPlace, noPhase, peerW, numberW, valueW, curW, sendOk, eventOk, processOk, handOk, allowedW, lesser, lowerW, lowOf, dropW, putInW, takeOutW, eventW, processW, applyW, Bounded, Small, noneFrom};
 ghost use Rattle.simulation.specs.Linking.{pairW, backW, mineW, orphanW, goesW, earlyW, chainA, linkL, linkA, linkedL, linkedA, beginA};
 ghost use Rattle.theory.specs.Events.{size};
 ghost use Rattle.theory.specs.Line.{Run, recorded, inSet};
@@ -525,27 +525,27 @@ fn carry_out(full: &[u32], links: &[u16], gates: &[u32], order: &[u16], area: &m
     0
 }
 
-// Makes every word from a place on 0.
-fn clear(area: &mut [u32], from: usize)
-    requires { ⌜ from ≤ length (now area) ⌝ }
-    ensures below { λ _. ⌜ ((k : ℕ) → k < from → getD (now (area .exit)) k 0 ≡ getD (now (area .entry)) k 0) ⌝ }
-    ensures above { λ _. ⌜ ((k : ℕ) → from ≤ k → k < length (now (area .entry)) → getD (now (area .exit)) k 0 ≡ 0) ⌝ }
+// Makes every word from one place on 0, up to another.
+fn clear(area: &mut [u32], from: usize, to: usize)
+    requires { ⌜ (from ≤ to) × (to ≤ length (now area)) ⌝ }
+    ensures others { λ _. ⌜ ((k : ℕ) → (from ≤ k → to ≤ k) → getD (now (area .exit)) k 0 ≡ getD (now (area .entry)) k 0) ⌝ }
+    ensures zeros { λ _. ⌜ ((k : ℕ) → from ≤ k → k < to → getD (now (area .exit)) k 0 ≡ 0) ⌝ }
 {
     let mut i = from;
-    while i < area.len() {
+    while i < to {
         area[i] = 0;
         i += 1;
     }
 }
 
-// The answer to an order that was carried out; the area keeps the record, its working words are 0 again.
+// The answer to an order that was carried out; the area keeps the record, its working words are 0 again. Those after them were 0 all along.
 fn finish(area: &mut [u32], steps: usize, done: bool) -> Replayed
     requires { ⌜ length (now area) ≡ areaWords ⌝ }
     ensures answer { λ r. ⌜ r ≡ (record { number = 0; place = 0; steps = steps; complete = done }) ⌝ }
-    ensures kept { λ _. ⌜ ((k : ℕ) → k < currentBase → getD (now (area .exit)) k 0 ≡ getD (now (area .entry)) k 0) ⌝ }
-    ensures zeros { λ _. ⌜ ((k : ℕ) → currentBase ≤ k → k < areaWords → getD (now (area .exit)) k 0 ≡ 0) ⌝ }
+    ensures kept { λ _. ⌜ ((k : ℕ) → (currentBase ≤ k → lowPlace < k) → getD (now (area .exit)) k 0 ≡ getD (now (area .entry)) k 0) ⌝ }
+    ensures zeros { λ _. ⌜ ((k : ℕ) → currentBase ≤ k → k ≤ lowPlace → getD (now (area .exit)) k 0 ≡ 0) ⌝ }
 {
-    clear(area, CURRENT);
+    clear(area, CURRENT, LOW + 1);
     Replayed {
         number: 0,
         place: 0,

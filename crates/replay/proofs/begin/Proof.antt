@@ -1,7 +1,6 @@
 -- `replay::begin` meets its contract: the pass, then the least phase by the area that it leaves.
 use mathlib.Core.Path.{sym, _∙_}
 use Rattle.replay.proofs.Beginning.{low-set}
-use native.Mathlib.Omega.{arith}
 use borrow.Author.Needs.{needs}
 use Rattle.replay.proofs.begin.Statement.{statement}
 use Rattle.replay.proofs.begin.Tie as tie

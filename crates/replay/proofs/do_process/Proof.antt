@@ -1,5 +1,4 @@
 -- `replay::do_process` meets its contract: the event, then the store that moves the process on.
-use mathlib.Core.Path.{_≡_}
 use Rattle.replay.proofs.Steps.{process-done}
 use borrow.Author.Needs.{needs}
 use Rattle.replay.proofs.do_process.Statement.{statement}

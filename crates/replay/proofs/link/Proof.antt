@@ -1,5 +1,4 @@
 -- `replay::link` meets its contract: a case for each value of the test.
-use mathlib.Core.Path.{_≡_}
 use Rattle.replay.proofs.Passing.{chain-yes, chain-no}
 use borrow.Author.Needs.{needs}
 use Rattle.replay.proofs.link.Statement.{statement}

@@ -1,5 +1,5 @@
 -- `replay::link_words` meets its contract: the three links in turn.
-use mathlib.Core.Path.{_≡_, _∙_}
+use mathlib.Core.Path.{_∙_}
 use native.Mathlib.Omega.{arith}
 use borrow.Author.Needs.{needs}
 use Rattle.replay.proofs.link_words.Statement.{statement}

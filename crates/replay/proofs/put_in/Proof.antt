@@ -1,5 +1,4 @@
 -- `replay::put_in` meets its contract: the store itself.
-use mathlib.Core.Path.{_≡_}
 use Rattle.simulation.specs.Words.{putInW}
 use borrow.Author.Needs.{needs}
 use Rattle.replay.proofs.put_in.Statement.{statement}

@@ -1,5 +1,4 @@
 -- `replay::take_out` meets its contract: the stores themselves.
-use mathlib.Core.Path.{_≡_}
 use native.Mathlib.Omega.{arith}
 use lib.ListN.{length-set}
 use Rattle.simulation.specs.Words.{takeOutW}
