@@ -4,23 +4,19 @@ use mathlib.Core.List.{List}
 use Prim.Native.Nat.{ℕ, _+_, _≤_, _<_}
 use native.Mathlib.Omega.{arith}
 use lib.ListN.{length, getD, set, replicate, length-replicate}
-use lib.Seq.{getD-set-other}
 use borrow.Author.Tests.{eq-eqb}
 use Rattle.words.specs.Area.{areaWords}
 use Rattle.trace.specs.Trace.{Trace}
 use Rattle.theory.specs.Events.{send, size, at, kind, recvs, sent, recvOf}
 use Rattle.theory.specs.Epochs.{past}
 use Rattle.theory.specs.Line.{Run, recorded}
-use Rattle.theory.specs.Replay.{start}
 use Rattle.theory.proofs.Base.{place-le}
 use Rattle.theory.proofs.Events.{sends-of}
 use Rattle.theory.proofs.WellFormed.{valid}
 use Rattle.theory.proofs.Epochs.{laws}
-use Rattle.theory.proofs.Loss.{inv-start}
 use Rattle.simulation.specs.Words.{lowPlace, kindW, peerW, kindOf, lowOf, Bounded, Small}
 use Rattle.simulation.specs.Related.{Started}
 use Rattle.simulation.specs.Linking.{linkedL, linkedA, beginA}
-use Rattle.simulation.proofs.Orders.{rel-bounded}
 use Rattle.simulation.proofs.Passes.{linked-small}
 use Rattle.simulation.proofs.Columns.{few, count-is, kind-is, pair-lt, base, tested}
 use Rattle.simulation.proofs.Claims.{started}
@@ -33,11 +29,6 @@ zeros a b h e = e ∙ ap (λ n. replicate n 0) h
 
 pub links-long : 8197 ≤ length (replicate {A = ℕ} 8200 0)
 links-long = omega (arith, length-replicate {A = ℕ} 8200 0)
-
--- the least phase is no pointer
-bounded-back : (a : List ℕ) (v : ℕ) → Bounded (set a lowPlace v) → Bounded a
-unfolding Bounded
-bounded-back a v b k h j = rw (getD-set-other a lowPlace k v 0 (λ q. omega arith)) at (b k h j)
 
 pub low-set : (full a b : List ℕ) (procs low : ℕ) → procs ≡ getD full 0 0 → low ≡ lowOf full a procs → b ≡ a → set a lowPlace low ≡ beginA full b
 unfolding beginA
@@ -98,13 +89,13 @@ module _ (t : Trace) (line : ℕ → ℕ) (cut : ℕ) (full gates : List ℕ) (H
         rw count (linked-small R full gates cut few-events (tested t (H .formed) full (H .columns) cut line (H .cut-le) gates (H .gated)) l a l-long a-long l-zero a-zero
         (laws t past (valid t (H .formed)) cut line (H .cut-le)) (base t (H .formed) full (H .columns) cut line (H .cut-le) gates (H .gated)))
 
-    pub linkable : Linkable full gates cut a
-    unfolding beginA
+    pub linkable : Linkable full a
+    unfolding Bounded
     linkable = (
       omega (arith, begun .cols .base .procs-is, begun .laws .few),
       omega (arith, count, few-events),
       pairs,
-      bounded-back _ _ (rel-bounded R (begun .laws) full (linksOf (getD full 1 0)) gates (begun .cols) (beginA full (wordsAt (getD full 1 0))) (start R) (begun .rel) (inv-start R (begun .laws))),
+      λ k h j. rw (a-zero k) (omega arith),
     )
 
     pub small-in : (l′ : List ℕ) → l′ ≡ linksOf (getD full 1 0) → Small l′

@@ -17,7 +17,7 @@ use Rattle.theory.proofs.Base.{on, le?, clash}
 use Rattle.theory.proofs.Loss.{inv-start}
 use Rattle.theory.proofs.Orders.{none-high, choose-none, complete-iff}
 use Rattle.theory.proofs.Lowest.{lowest-none, lowest-some, lowest-iff, lowest-order}
-use Rattle.simulation.specs.Words.{currentBase, allowedW, applyW, Bounded}
+use Rattle.simulation.specs.Words.{currentBase, lowPlace, allowedW, applyW, Bounded}
 use Rattle.simulation.specs.Related.{Rel, Started}
 use Rattle.simulation.proofs.Choices.{Agrees, refuses, allows, choice-agrees}
 use Rattle.simulation.proofs.Orders.{rel-bounded, record-left}
@@ -152,6 +152,6 @@ module _ (R : Run) (t l g a₀ : List ℕ) (S : Started R t l g a₀) where
           e ∙ rw (o .1, complete-iff R (o .0) .1 (o .2), v .4 ∙ ap length whole)
 
       pub lowered-words : (a b : List ℕ) (n : ℕ) → Lowered R a most n → length b ≡ areaWords
-          → ((k : ℕ) → k < currentBase → getD b k 0 ≡ getD a k 0) → ((k : ℕ) → currentBase ≤ k → k < areaWords → getD b k 0 ≡ 0) → b ≡ wordsOf R (run R (lowestOrder R))
+          → ((k : ℕ) → (currentBase ≤ k → lowPlace < k) → getD b k 0 ≡ getD a k 0) → ((k : ℕ) → currentBase ≤ k → k ≤ lowPlace → getD b k 0 ≡ 0) → b ≡ wordsOf R (run R (lowestOrder R))
       unfolding wordsOf
-      lowered-words a b n v j low high = rw (← whole, v .3) (record-left R (S .laws) t l g (S .cols) a b (v .0) (v .1) j low high)
+      lowered-words a b n v j others zeros = rw (← whole, v .3) (record-left R (S .laws) t l g (S .cols) a b (v .0) (v .1) j others zeros)

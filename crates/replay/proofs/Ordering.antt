@@ -8,7 +8,7 @@ use lib.ListN.{length, getD, replicate}
 use Rattle.words.specs.Area.{areaWords}
 use Rattle.theory.specs.Line.{Run}
 use Rattle.theory.specs.Order.{Outcome, carriedOut, refused, run}
-use Rattle.simulation.specs.Words.{currentBase, allowedW, applyW, Bounded, noneFrom}
+use Rattle.simulation.specs.Words.{currentBase, lowPlace, allowedW, applyW, Bounded, noneFrom}
 use Rattle.simulation.specs.Record.{Live}
 use Rattle.simulation.proofs.Orders.{live-bad, live-next, live-end, live-start, none-same, rel-bounded, record-left}
 use Rattle.replay.specs.declared.Replayed.{Replayed}
@@ -78,7 +78,7 @@ module _ (R : Run) (t l g a₀ : List ℕ) (S : Started R t l g a₀) where
   went-answer a (refused i) r n x b v h d e = absurd (omega (arith, v .0, v .1))
 
   pub went-words : (a b : List ℕ) (w : Outcome) (r : ℕ) → Left R a w r → r ≡ 0 → length b ≡ areaWords
-      → ((k : ℕ) → k < currentBase → getD b k 0 ≡ getD a k 0) → ((k : ℕ) → currentBase ≤ k → k < areaWords → getD b k 0 ≡ 0) → b ≡ wordsOf R w
+      → ((k : ℕ) → (currentBase ≤ k → lowPlace < k) → getD b k 0 ≡ getD a k 0) → ((k : ℕ) → currentBase ≤ k → k ≤ lowPlace → getD b k 0 ≡ 0) → b ≡ wordsOf R w
   unfolding Left wordsOf
-  went-words a b (carriedOut s) r v h j low high = record-left R (S .laws) t l g (S .cols) a b s (v .1) j low high
-  went-words a b (refused i) r v h j low high = absurd (omega (arith, v .0, v .1))
+  went-words a b (carriedOut s) r v h j others zeros = record-left R (S .laws) t l g (S .cols) a b s (v .1) j others zeros
+  went-words a b (refused i) r v h j others zeros = absurd (omega (arith, v .0, v .1))

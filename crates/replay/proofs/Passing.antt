@@ -4,11 +4,13 @@ use mathlib.Core.Bool.{Bool, true, false}
 use mathlib.Core.List.{List}
 use Prim.Native.Nat.{ℕ, suc, _+_, _-_, _*_, _≤_, _<_}
 use native.Mathlib.Omega.{arith}
-use lib.ListN.{getD, set}
+use lib.ListN.{length, length-set, getD, set}
+use lib.Seq.{getD-set-same, getD-set-other}
 use lib.Dec.{leb, ltb, eqb}
 use borrow.Author.Tests.{eq-eqb, ne-eqb, lt-leb, le-leb, eqb-true}
-use Rattle.words.proofs.Cases.{by-bool, clash}
-use Rattle.simulation.specs.Words.{takenBase, currentBase, orphanBase, takeBase, putBase, kindW, peerW, valueW, numberW}
+use Rattle.words.proofs.Cases.{by-bool, by-eq, clash}
+use Rattle.words.specs.Area.{areaWords}
+use Rattle.simulation.specs.Words.{takenBase, currentBase, orphanBase, takeBase, putBase, kindW, peerW, valueW, numberW, Bounded}
 use Rattle.simulation.specs.Linking.{atW, epochW, pairW, backW, doneW, mineW, orphanW, goesW, earlyW, chainA, linkL, linkA, linkedA, linkedL}
 use Rattle.replay.specs.Shapes.{Paired, PairedTo}
 
@@ -111,6 +113,31 @@ module _ (t g : List ℕ) (cut n x : ℕ) (p : 0 < x) (q : x ≤ n) (l₀ a₀ l
   pub links-turn : a ≡ linkedA t g cut n (n - x) a₀ → l ≡ linkedL t g cut n (n - x) l₀ a₀ → l′ ≡ linkL t g cut l a x → l′ ≡ linkedL t g cut n (n - (x - 1)) l₀ a₀
   unfolding linkedL
   links-turn ea el e = rw (last, here, ← ea, ← el) e
+
+-- Every pointer that the pass writes is an event; the record is before the pointers.
+abbrev Pointed : List ℕ → Type 0
+Pointed a = (length a ≡ areaWords) × Bounded a
+
+pointed-chain : (b : Bool) (a : List ℕ) (k v : ℕ) → k < areaWords → (currentBase ≤ k → v < 2049) → Pointed a → Pointed (chainA b a k v)
+unfolding chainA Bounded
+pointed-chain true a k v h w p = (
+  length-set a k v ∙ p .0,
+  λ j l m. by-eq j k
+      (λ e. rw (e, getD-set-same a k v 0 (omega (arith, h, p .0))) (w (omega (arith, e, l))))
+      (λ n. rw (getD-set-other a k j v 0 n) (p .1 j l m)),
+)
+pointed-chain false a k v h w p = p
+
+pub bounded-turn : (t g : List ℕ) (cut e : ℕ) (a b : List ℕ) → e < 2049 → length a ≡ areaWords → Bounded a → b ≡ linkA t g cut a e → Bounded b
+unfolding linkA
+bounded-turn t g cut e a b h l p eb =
+    let z : atW t e < 64 = omega arith in
+    let c : 64 * atW t e + peerW t e < 4096 = omega arith in
+    let q : Pointed (linkA t g cut a e) =
+    pointed-chain _ _ _ _ (omega arith) (λ k. absurd (omega arith)) (pointed-chain _ _ _ _ (omega arith) (λ k. absurd (omega arith))
+    (pointed-chain _ _ _ _ (omega (arith, c)) (λ k. h) (pointed-chain _ _ _ _ (omega (arith, c)) (λ k. h)
+    (pointed-chain _ _ _ _ (omega (arith, z)) (λ k. h) (pointed-chain _ _ _ _ (omega (arith, z)) (λ k. h) (l, p)))))) in
+    rw eb (q .1)
 
 pub words-none : (t g : List ℕ) (cut n : ℕ) (a₀ : List ℕ) → a₀ ≡ linkedA t g cut n (n - n) a₀
 unfolding linkedA

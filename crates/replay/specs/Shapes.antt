@@ -5,7 +5,7 @@ use mathlib.Core.List.{List}
 use lib.ListN.{length, getD}
 use Rattle.words.specs.Area.{areaWords}
 use Rattle.simulation.specs.Words.{noPhase, kindW, lowW, lowOf, Bounded, Small}
-use Rattle.simulation.specs.Linking.{pairW, linkedA}
+use Rattle.simulation.specs.Linking.{pairW}
 
 -- what a test reads
 abbrev pub Readable : List ℕ → List ℕ → List ℕ → Type 0
@@ -27,7 +27,6 @@ Paired full e = (kindW full e ≡ 1 → pairW full e < 2049) × (kindW full e �
 unfoldable pub PairedTo : List ℕ → ℕ → Type 0
 PairedTo full n = (e : ℕ) → 0 < e → e ≤ n → Paired full e
 
--- the counts of the table and the matched events are in their ranges, and so is every pointer once all events are linked
-abbrev pub Linkable : List ℕ → List ℕ → ℕ → List ℕ → Type 0
-Linkable full gates cut area =
-    (getD full 0 0 ≤ 64) × (getD full 1 0 < 2049) × PairedTo full (getD full 1 0) × Bounded (linkedA full gates cut (getD full 1 0) (getD full 1 0) area)
+-- the counts of the table, the matched events and the pointers are in their ranges
+abbrev pub Linkable : List ℕ → List ℕ → Type 0
+Linkable full area = (getD full 0 0 ≤ 64) × (getD full 1 0 < 2049) × PairedTo full (getD full 1 0) × Bounded area

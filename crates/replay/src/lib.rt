@@ -6,7 +6,7 @@ ghost use mathlib.Core.Bool.{true, false};
 ghost use Prim.Native.Nat.{ℕ, _+_, _-_, _*_, _/_, _%_, _≤_, _<_};
 ghost use lib.ListN.{length, getD};
 ghost use Rattle.words.specs.Area.{areaWords};
-ghost use Rattle.simulation.specs.Words.{takenBase, currentBase, orphanBase, takeBase, putBase, lowPlace, noPhase, peerW, numberW, valueW, curW, lowW, sendOk, eventOk, processOk, handOk, allowedW, lesser, lowerW, lowOf, dropW, putInW, takeOutW, eventW, processW, applyW, Bounded, Small, noneFrom};
+ghost use Rattle.simulation.specs.Words.{takenBase, currentBase, orphanBase, takeBase, putBase, lowPlace, noPhase, peerW, numberW, valueW, curW, sendOk, eventOk, processOk, handOk, allowedW, lesser, lowerW, lowOf, dropW, putInW, takeOutW, eventW, processW, applyW, Bounded, Small, noneFrom};
 ghost use Rattle.simulation.specs.Linking.{pairW, backW, mineW, orphanW, goesW, earlyW, chainA, linkL, linkA, linkedL, linkedA, beginA};
 ghost use Rattle.theory.specs.Events.{size};
 ghost use Rattle.theory.specs.Line.{Run, recorded, inSet};
@@ -59,7 +59,7 @@ const NO_PHASE: u32 = 4294967295;
 const RESTART: usize = 64;
 
 // Words of the links: word 4 e is the next event of the process of event e, 4 e + 1 the next send whose message goes through its
-// channel, 4 e + 2 the next orphan's send of its process.
+// channel, 4 e + 2 the next orphan's send of its process. They have 16 bits, so that they take less to clear.
 const LINK_WORDS: usize = 8200;
 
 // Choices: below HANDS a process, then for each channel that its oldest kept message is handed over; CHOICES and above are none.
@@ -201,41 +201,49 @@ fn lowest_phase_from(full: &[u32], area: &[u32], from: usize, procs: usize, leas
     lowest_phase(full, area, procs)
 }
 
+// A link, as a pointer of the area.
+fn next(link: u16) -> u32
+    ensures { λ r. ⌜ r ≡ link ⌝ }
+{
+    link as u32
+}
+
 // A message goes into channel c, by its send or handed over.
-fn put_in(links: &[u32], area: &mut [u32], c: usize)
+fn put_in(links: &[u16], area: &mut [u32], c: usize)
     requires { ⌜ (c < 4096) × (8197 ≤ length (now links)) × (length (now area) ≡ areaWords) × Bounded (now area) ⌝ }
     ensures { λ _. ⌜ now (area .exit) ≡ putInW (now (links .entry)) (now (area .entry)) c ⌝ }
 {
     let m = pointer(area, PUT + c);
-    area[PUT + c] = links[4 * m + 1];
+    area[PUT + c] = next(links[4 * m + 1]);
 }
 
 // The receive e takes the oldest message of channel c: its number and value go on record.
-fn take_out(full: &[u32], links: &[u32], area: &mut [u32], c: usize, e: usize)
+fn take_out(full: &[u32], links: &[u16], area: &mut [u32], c: usize, e: usize)
     requires { ⌜ (c < 4096) × (e < 2049) × Movable (now full) (now links) (now area) ⌝ }
     ensures { λ _. ⌜ now (area .exit) ≡ takeOutW (now (full .entry)) (now (links .entry)) (now (area .entry)) c e ⌝ }
 {
     let m = pointer(area, TAKE + c);
-    area[TAKE + c] = links[4 * m + 1];
+    area[TAKE + c] = next(links[4 * m + 1]);
     area[e] = full[NUMBER_BASE + m];
     area[TAKEN + e] = full[VALUE_BASE + m];
 }
 
 // The send e of process z is an orphan's: its message is dropped, and counts as sent again. No orphan has a phase below the least so far,
 // except perhaps the next of process z. Mostly that one has the least again, or one of a later process, since in the lowest order those wait.
-fn drop_orphan(full: &[u32], links: &[u32], area: &mut [u32], z: usize, e: usize)
+fn drop_orphan(full: &[u32], links: &[u16], area: &mut [u32], z: usize, e: usize)
     requires { ⌜ (z < 64) × (e < 2049) × Movable (now full) (now links) (now area) ⌝ }
     ensures { λ _. ⌜ now (area .exit) ≡ dropW (now (full .entry)) (now (links .entry)) (now (area .entry)) z e ⌝ }
 {
-    area[ORPHAN + z] = links[4 * e + 2];
+    let o = next(links[4 * e + 2]);
+    area[ORPHAN + z] = o;
     let procs = full[0] as usize;
-    let least = lower(full, wide(links[4 * e + 2]), area[LOW]);
+    let least = lower(full, wide(o), area[LOW]);
     let low = lowest_phase_from(full, area, z, procs, least);
     area[LOW] = low;
 }
 
 // Process z does event e, which may be done.
-fn do_event(full: &[u32], links: &[u32], area: &mut [u32], z: usize, e: usize)
+fn do_event(full: &[u32], links: &[u16], area: &mut [u32], z: usize, e: usize)
     requires { ⌜ (z < 64) × (e < 2049) × Movable (now full) (now links) (now area) ⌝ }
     ensures { λ _. ⌜ now (area .exit) ≡ eventW (now (full .entry)) (now (links .entry)) (now (area .entry)) z e ⌝ }
 {
@@ -257,17 +265,17 @@ fn do_event(full: &[u32], links: &[u32], area: &mut [u32], z: usize, e: usize)
 }
 
 // Process z does its next event, which may be done, and moves on.
-fn do_process(full: &[u32], links: &[u32], area: &mut [u32], z: usize)
+fn do_process(full: &[u32], links: &[u16], area: &mut [u32], z: usize)
     requires { ⌜ (z < 64) × Movable (now full) (now links) (now area) ⌝ }
     ensures { λ _. ⌜ now (area .exit) ≡ processW (now (full .entry)) (now (links .entry)) (now (area .entry)) z ⌝ }
 {
     let e = pointer(area, CURRENT + z);
     do_event(full, links, area, z, e);
-    area[CURRENT + z] = links[4 * e];
+    area[CURRENT + z] = next(links[4 * e]);
 }
 
 // Carries out a choice that is allowed.
-fn apply(full: &[u32], links: &[u32], area: &mut [u32], c: usize)
+fn apply(full: &[u32], links: &[u16], area: &mut [u32], c: usize)
     requires { ⌜ (c < 4160) × Movable (now full) (now links) (now area) ⌝ }
     ensures { λ _. ⌜ now (area .exit) ≡ applyW (now (full .entry)) (now (links .entry)) (now (area .entry)) c ⌝ }
 {
@@ -386,12 +394,12 @@ fn early(full: &[u32], gates: &[u32], e: usize) -> bool
 }
 
 // A link is the pointer of the area, where the test holds.
-fn link(links: &mut [u32], area: &[u32], b: bool, slot: usize, k: usize)
-    requires { ⌜ (slot < length (now links)) × (k < length (now area)) ⌝ }
+fn link(links: &mut [u16], area: &[u32], b: bool, slot: usize, k: usize)
+    requires { ⌜ (slot < length (now links)) × (currentBase ≤ k) × (k < lowPlace) × (length (now area) ≡ areaWords) × Bounded (now area) ⌝ }
     ensures { λ _. ⌜ now (links .exit) ≡ chainA b (now (links .entry)) slot (getD (now (area .entry)) k 0) ⌝ }
 {
     if b {
-        links[slot] = area[k];
+        links[slot] = pointer(area, k) as u16;
     }
 }
 
@@ -407,7 +415,7 @@ fn mark(area: &mut [u32], b: bool, k: usize, v: u32)
 
 // The links of event e, of process z on channel c: to do, sending an orphan, sending a message that goes through.
 fn link_words(
-    links: &mut [u32],
+    links: &mut [u16],
     area: &[u32],
     z: usize,
     c: usize,
@@ -416,7 +424,7 @@ fn link_words(
     resends: bool,
     through: bool,
 )
-    requires { ⌜ (z < 64) × (c < 4096) × (e < 2049) × (8197 ≤ length (now links)) × (length (now area) ≡ areaWords) ⌝ }
+    requires { ⌜ (z < 64) × (c < 4096) × (e < 2049) × (8197 ≤ length (now links)) × (length (now area) ≡ areaWords) × Bounded (now area) ⌝ }
     ensures { λ _. ⌜ now (links .exit) ≡ chainA through (chainA resends (chainA listed (now (links .entry)) (4 * e) (getD (now (area .entry)) (currentBase + z) 0)) (4 * e + 2) (getD (now (area .entry)) (orphanBase + z) 0)) (4 * e + 1) (getD (now (area .entry)) (putBase + c) 0) ⌝ }
 {
     link(links, area, listed, 4 * e, CURRENT + z);
@@ -460,12 +468,12 @@ fn mark_record(full: &[u32], area: &mut [u32], e: usize, before: bool)
 fn link_event(
     full: &[u32],
     gates: &[u32],
-    links: &mut [u32],
+    links: &mut [u16],
     area: &mut [u32],
     cut: usize,
     e: usize,
 )
-    requires { ⌜ (e < 2049) × (length (now full) ≡ areaWords) × (128 ≤ length (now gates)) × (8197 ≤ length (now links)) × (length (now area) ≡ areaWords) × Paired (now full) e ⌝ }
+    requires { ⌜ (e < 2049) × (length (now full) ≡ areaWords) × (128 ≤ length (now gates)) × (8197 ≤ length (now links)) × (length (now area) ≡ areaWords) × Paired (now full) e × Bounded (now area) ⌝ }
     ensures links { λ _. ⌜ now (links .exit) ≡ linkL (now (full .entry)) (now (gates .entry)) cut (now (links .entry)) (now (area .entry)) e ⌝ }
     ensures words { λ _. ⌜ now (area .exit) ≡ linkA (now (full .entry)) (now (gates .entry)) cut (now (area .entry)) e ⌝ }
 {
@@ -482,10 +490,11 @@ fn link_event(
 }
 
 // All n events linked, from the last to the first.
-fn link_all(full: &[u32], gates: &[u32], links: &mut [u32], area: &mut [u32], cut: usize, n: usize)
-    requires { ⌜ (n < 2049) × (length (now full) ≡ areaWords) × (128 ≤ length (now gates)) × (8197 ≤ length (now links)) × (length (now area) ≡ areaWords) × PairedTo (now full) n ⌝ }
+fn link_all(full: &[u32], gates: &[u32], links: &mut [u16], area: &mut [u32], cut: usize, n: usize)
+    requires { ⌜ (n < 2049) × (length (now full) ≡ areaWords) × (128 ≤ length (now gates)) × (8197 ≤ length (now links)) × (length (now area) ≡ areaWords) × PairedTo (now full) n × Bounded (now area) ⌝ }
     ensures links { λ _. ⌜ now (links .exit) ≡ linkedL (now (full .entry)) (now (gates .entry)) cut n n (now (links .entry)) (now (area .entry)) ⌝ }
     ensures words { λ _. ⌜ now (area .exit) ≡ linkedA (now (full .entry)) (now (gates .entry)) cut n n (now (area .entry)) ⌝ }
+    ensures bound { λ _. ⌜ Bounded (now (area .exit)) ⌝ }
 {
     let mut x = n;
     while x > 0 {
@@ -501,7 +510,7 @@ fn choice(c: u16) -> usize
 }
 
 // Carries out an order: the place of its first choice that is not allowed, from 1, or 0.
-fn carry_out(full: &[u32], links: &[u32], gates: &[u32], order: &[u16], area: &mut [u32]) -> usize
+fn carry_out(full: &[u32], links: &[u16], gates: &[u32], order: &[u16], area: &mut [u32]) -> usize
     requires { ⌜ (length (now full) ≡ areaWords) × (128 ≤ length (now gates)) × (length (now area) ≡ areaWords) × Small (now links) × ((R : Run) × Started R (now full) (now links) (now gates) (now area)) ⌝ }
     ensures { λ r. ⌜ ((R : Run) → Started R (now (full .entry)) (now (links .entry)) (now (gates .entry)) (now (area .entry)) → Left R (now (area .exit)) (run R (now (order .entry))) r) ⌝ }
 {
@@ -518,27 +527,27 @@ fn carry_out(full: &[u32], links: &[u32], gates: &[u32], order: &[u16], area: &m
     0
 }
 
-// Makes every word from a place on 0.
-fn clear(area: &mut [u32], from: usize)
-    requires { ⌜ from ≤ length (now area) ⌝ }
-    ensures below { λ _. ⌜ ((k : ℕ) → k < from → getD (now (area .exit)) k 0 ≡ getD (now (area .entry)) k 0) ⌝ }
-    ensures above { λ _. ⌜ ((k : ℕ) → from ≤ k → k < length (now (area .entry)) → getD (now (area .exit)) k 0 ≡ 0) ⌝ }
+// Makes every word from one place on 0, up to another.
+fn clear(area: &mut [u32], from: usize, to: usize)
+    requires { ⌜ (from ≤ to) × (to ≤ length (now area)) ⌝ }
+    ensures others { λ _. ⌜ ((k : ℕ) → (from ≤ k → to ≤ k) → getD (now (area .exit)) k 0 ≡ getD (now (area .entry)) k 0) ⌝ }
+    ensures zeros { λ _. ⌜ ((k : ℕ) → from ≤ k → k < to → getD (now (area .exit)) k 0 ≡ 0) ⌝ }
 {
     let mut i = from;
-    while i < area.len() {
+    while i < to {
         area[i] = 0;
         i += 1;
     }
 }
 
-// The answer to an order that was carried out; the area keeps the record, its working words are 0 again.
+// The answer to an order that was carried out; the area keeps the record, its working words are 0 again. Those after them were 0 all along.
 fn finish(area: &mut [u32], steps: usize, done: bool) -> Replayed
     requires { ⌜ length (now area) ≡ areaWords ⌝ }
     ensures answer { λ r. ⌜ r ≡ (record { number = 0; place = 0; steps = steps; complete = done }) ⌝ }
-    ensures kept { λ _. ⌜ ((k : ℕ) → k < currentBase → getD (now (area .exit)) k 0 ≡ getD (now (area .entry)) k 0) ⌝ }
-    ensures zeros { λ _. ⌜ ((k : ℕ) → currentBase ≤ k → k < areaWords → getD (now (area .exit)) k 0 ≡ 0) ⌝ }
+    ensures kept { λ _. ⌜ ((k : ℕ) → (currentBase ≤ k → lowPlace < k) → getD (now (area .exit)) k 0 ≡ getD (now (area .entry)) k 0) ⌝ }
+    ensures zeros { λ _. ⌜ ((k : ℕ) → currentBase ≤ k → k ≤ lowPlace → getD (now (area .exit)) k 0 ≡ 0) ⌝ }
 {
-    clear(area, CURRENT);
+    clear(area, CURRENT, LOW + 1);
     Replayed {
         number: 0,
         place: 0,
@@ -550,7 +559,7 @@ fn finish(area: &mut [u32], steps: usize, done: bool) -> Replayed
 // Replays an order from the first state.
 fn replay_in(
     full: &[u32],
-    links: &[u32],
+    links: &[u16],
     gates: &[u32],
     order: &[u16],
     area: &mut [u32],
@@ -574,8 +583,8 @@ fn replay_in(
 }
 
 // The links and the first state: all events linked, then the least phase of an orphan.
-fn begin(full: &[u32], gates: &[u32], links: &mut [u32], area: &mut [u32], cut: usize)
-    requires { ⌜ (length (now full) ≡ areaWords) × (128 ≤ length (now gates)) × (8197 ≤ length (now links)) × (length (now area) ≡ areaWords) × Linkable (now full) (now gates) cut (now area) ⌝ }
+fn begin(full: &[u32], gates: &[u32], links: &mut [u16], area: &mut [u32], cut: usize)
+    requires { ⌜ (length (now full) ≡ areaWords) × (128 ≤ length (now gates)) × (8197 ≤ length (now links)) × (length (now area) ≡ areaWords) × Linkable (now full) (now area) ⌝ }
     ensures links { λ _. ⌜ now (links .exit) ≡ linkedL (now (full .entry)) (now (gates .entry)) cut (getD (now (full .entry)) 1 0) (getD (now (full .entry)) 1 0) (now (links .entry)) (now (area .entry)) ⌝ }
     ensures words { λ _. ⌜ now (area .exit) ≡ beginA (now (full .entry)) (linkedA (now (full .entry)) (now (gates .entry)) cut (getD (now (full .entry)) 1 0) (getD (now (full .entry)) 1 0) (now (area .entry))) ⌝ }
 {
@@ -592,7 +601,7 @@ pub fn replay(full: &[u32], gates: &[u32], order: &[u16], area: &mut [u32], cut:
     ensures answer { λ r. ⌜ ((t : Trace) (line : ℕ → ℕ) → Given t line cut (now (full .entry)) (now (gates .entry)) → r ≡ answerOf (recorded t past cut line) (run (recorded t past cut line) (now (order .entry))) (length (now (order .entry)))) ⌝ }
     ensures words { λ _. ⌜ ((t : Trace) (line : ℕ → ℕ) → Given t line cut (now (full .entry)) (now (gates .entry)) → now (area .exit) ≡ wordsOf (recorded t past cut line) (run (recorded t past cut line) (now (order .entry)))) ⌝ }
 {
-    let mut links = [0u32; LINK_WORDS];
+    let mut links = [0u16; LINK_WORDS];
     words::zero(area);
     begin(full, gates, &mut links, area, cut);
     replay_in(full, &links, gates, order, area)
@@ -726,7 +735,7 @@ fn peer_of_next(full: &[u32], area: &[u32], z: usize) -> usize
 }
 
 // The oldest kept message of channel c is handed over: the set of those whom that may let run.
-fn hand_over(links: &[u32], area: &mut [u32], c: usize) -> u64
+fn hand_over(links: &[u16], area: &mut [u32], c: usize) -> u64
     requires { ⌜ (c < 4096) × (8197 ≤ length (now links)) × (length (now area) ≡ areaWords) × Bounded (now area) ⌝ }
     ensures words { λ _. ⌜ now (area .exit) ≡ putInW (now (links .entry)) (now (area .entry)) c ⌝ }
     ensures ends { λ r. ⌜ r ≡ withIn (withIn 0 (c / 64)) (c % 64) ⌝ }
@@ -736,7 +745,7 @@ fn hand_over(links: &[u32], area: &mut [u32], c: usize) -> u64
 }
 
 // The first member of a set does its next event: the set with whom that may let run where the least phase stays.
-fn run_first(full: &[u32], links: &[u32], area: &mut [u32], set: u64) -> u64
+fn run_first(full: &[u32], links: &[u16], area: &mut [u32], set: u64) -> u64
     requires { ⌜ (firstIn set < 64) × Movable (now full) (now links) (now area) ⌝ }
     ensures words { λ _. ⌜ now (area .exit) ≡ processW (now (full .entry)) (now (links .entry)) (now (area .entry)) (firstIn set) ⌝ }
     ensures set { λ r. ⌜ r ≡ withIn set (peerW (now (full .entry)) (curW (now (area .entry)) (firstIn set))) ⌝ }
@@ -795,7 +804,7 @@ fn unless_new(was: u32, is: u32, set: u64, other: u64) -> u64
 
 // Carries out the lowest choices, one after another, at most so many: how many there were. A step can let run only the processes that it
 // names, and make no kept message ready, unless the least phase is new after it.
-fn carry_lowest(full: &[u32], links: &[u32], gates: &[u32], area: &mut [u32], most: usize) -> usize
+fn carry_lowest(full: &[u32], links: &[u16], gates: &[u32], area: &mut [u32], most: usize) -> usize
     requires { ⌜ (length (now full) ≡ areaWords) × (128 ≤ length (now gates)) × (length (now area) ≡ areaWords) × Small (now links) × ((R : Run) × Started R (now full) (now links) (now gates) (now area)) ⌝ }
     ensures { λ r. ⌜ ((R : Run) → Started R (now (full .entry)) (now (links .entry)) (now (gates .entry)) (now (area .entry)) → Lowered R (now (area .exit)) most r) ⌝ }
 {
@@ -830,7 +839,7 @@ fn carry_lowest(full: &[u32], links: &[u32], gates: &[u32], area: &mut [u32], mo
 }
 
 // Replays the order of the lowest choices from the first state. It is complete after twice as many steps as there are events, at most.
-fn lowest_in(full: &[u32], links: &[u32], gates: &[u32], area: &mut [u32], most: usize) -> Replayed
+fn lowest_in(full: &[u32], links: &[u16], gates: &[u32], area: &mut [u32], most: usize) -> Replayed
     requires { ⌜ (length (now full) ≡ areaWords) × (128 ≤ length (now gates)) × (length (now area) ≡ areaWords) × Small (now links) × ((R : Run) × Started R (now full) (now links) (now gates) (now area)) ⌝ }
     ensures answer { λ r. ⌜ ((R : Run) → Started R (now (full .entry)) (now (links .entry)) (now (gates .entry)) (now (area .entry)) → most ≡ size (R .trace) + size (R .trace) → r ≡ answerOf R (run R (lowestOrder R)) (length (lowestOrder R))) ⌝ }
     ensures words { λ _. ⌜ ((R : Run) → Started R (now (full .entry)) (now (links .entry)) (now (gates .entry)) (now (area .entry)) → most ≡ size (R .trace) + size (R .trace) → now (area .exit) ≡ wordsOf R (run R (lowestOrder R))) ⌝ }
@@ -846,7 +855,7 @@ pub fn lowest(full: &[u32], gates: &[u32], area: &mut [u32], cut: usize) -> Repl
     ensures answer { λ r. ⌜ ((t : Trace) (line : ℕ → ℕ) → Given t line cut (now (full .entry)) (now (gates .entry)) → r ≡ answerOf (recorded t past cut line) (run (recorded t past cut line) (lowestOrder (recorded t past cut line))) (length (lowestOrder (recorded t past cut line)))) ⌝ }
     ensures words { λ _. ⌜ ((t : Trace) (line : ℕ → ℕ) → Given t line cut (now (full .entry)) (now (gates .entry)) → now (area .exit) ≡ wordsOf (recorded t past cut line) (run (recorded t past cut line) (lowestOrder (recorded t past cut line)))) ⌝ }
 {
-    let mut links = [0u32; LINK_WORDS];
+    let mut links = [0u16; LINK_WORDS];
     words::zero(area);
     begin(full, gates, &mut links, area, cut);
     let n = wide(full[1]);

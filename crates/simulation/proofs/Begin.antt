@@ -135,6 +135,7 @@ module _ (R : Run) (L : Laws R) where
           num = λ e h. far e (λ q. omega arith) ∙ H .num e h ∙ slot e (numberAt R (start R)) (n0 e);
           val = λ e h. far (takenBase + e) (λ q. omega arith) ∙ H .val e h ∙ slot e (valueAt R (start R)) (v0 e);
           gap = λ k h j. far k (λ q. omega arith) ∙ H .gap k h j;
+          beyond = λ k h. far k (λ q. omega arith) ∙ H .beyond k h;
         }
       where
         slot : (e : ℕ) (f : ℕ → ℕ) → (ltb 0 e ≡ false → f e ≡ 0) → pick (ltb 0 e) (f e) 0 ≡ f e

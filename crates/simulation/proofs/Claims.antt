@@ -18,7 +18,7 @@ use Rattle.theory.proofs.WellFormed.{valid}
 use Rattle.theory.proofs.Flow.{Inv}
 use Rattle.theory.proofs.Epochs.{laws}
 use Rattle.protocol.specs.Columns.{Columns}
-use Rattle.simulation.specs.Words.{currentBase, allowedW, applyW, noneFrom, Bounded}
+use Rattle.simulation.specs.Words.{currentBase, lowPlace, allowedW, applyW, noneFrom, Bounded}
 use Rattle.simulation.specs.Related.{Gated, Rel, Started}
 use Rattle.simulation.specs.Record.{recordAt, Live, faultlessAt}
 use Rattle.simulation.specs.Linking.{linkedL, linkedA, beginA}
@@ -67,8 +67,8 @@ module _ (R : Run) (full links gates first : List ℕ) (S : Started R full links
     complete-words = none-same R (S .laws) full links gates (S .cols) area s r i
 
     -- with its working words 0 again, the run area holds the record
-    pub record-words : (b : List ℕ) → length b ≡ 16384 → ((k : ℕ) → k < currentBase → getD b k 0 ≡ getD area k 0)
-        → ((k : ℕ) → currentBase ≤ k → k < 16384 → getD b k 0 ≡ 0) → b ≡ wordsFrom (recordAt R s) 0 16384
+    pub record-words : (b : List ℕ) → length b ≡ 16384 → ((k : ℕ) → (currentBase ≤ k → lowPlace < k) → getD b k 0 ≡ getD area k 0)
+        → ((k : ℕ) → currentBase ≤ k → k ≤ lowPlace → getD b k 0 ≡ 0) → b ≡ wordsFrom (recordAt R s) 0 16384
     record-words b = record-left R (S .laws) full links gates (S .cols) area b s r
 
   -- The words of the record are those of the run without failure exactly if the record is; after a complete order exactly if no message is lost.

@@ -275,5 +275,7 @@ module _ (R : Run) where
       num = chain-num;
       val = chain-val;
       gap = λ k h j. top k h ∙ record-far k j ∙ H .gap k h j;
+      beyond = λ k h. top k (omega arith) ∙ far-A f₃ a₃ (takeBase + c) e k (λ w. omega (arith, zl, ql)) ∙ far-A f₃ a₂ (putBase + c) e k (λ w. omega (arith, zl, ql))
+          ∙ chan-far k (omega arith) ∙ H .beyond k h;
       small = small-A f₃ l₂ (4 * e + 1) (putW a c) b₃ (small-A f₂ l₁ (4 * e + 2) (orpW a z) b₂ (small-A f₁ l (4 * e) (curW a z) b₁ (H .small)));
     }

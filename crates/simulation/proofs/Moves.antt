@@ -164,6 +164,7 @@ module _ (R : Run) (L : Laws R) (t l g : List ℕ) (K : Cols R t l g) where
     num : (e : ℕ) → e < 2049 → getD b e 0 ≡ numberAt R u e
     val : (e : ℕ) → e < 2049 → getD b (takenBase + e) 0 ≡ valueAt R u e
     gap : (k : ℕ) → recordEnd ≤ k → k < currentBase → getD b k 0 ≡ 0
+    beyond : (k : ℕ) → lowPlace < k → getD b k 0 ≡ 0
 
   module _ (a : List ℕ) (s : State) (r : Rel R a s) (i : Inv R s) (z e : ℕ) (es : List ℕ) (hz : z < 64) (h : s .todo z ≡ e ∷ es) where
     -- every event moves the process on
@@ -181,6 +182,7 @@ module _ (R : Run) (L : Laws R) (t l g : List ℕ) (K : Cols R t l g) where
       num = λ y hy. getD-set-other b (currentBase + z) y _ 0 (λ q. omega arith) ∙ w .num y hy;
       val = λ y hy. getD-set-other b (currentBase + z) (takenBase + y) _ 0 (λ q. omega arith) ∙ w .val y hy;
       gap = λ y h₁ h₂. getD-set-other b (currentBase + z) y _ 0 (λ q. omega arith) ∙ w .gap y h₁ h₂;
+      beyond = λ y h₁. getD-set-other b (currentBase + z) y _ 0 (λ q. omega arith) ∙ w .beyond y h₁;
     }
 
     -- an event that is neither a send nor a receive
@@ -196,6 +198,7 @@ module _ (R : Run) (L : Laws R) (t l g : List ℕ) (K : Cols R t l g) where
           num = r .num;
           val = r .val;
           gap = r .gap;
+          beyond = r .beyond;
         })
 
     -- a send whose message is dropped
@@ -231,6 +234,7 @@ module _ (R : Run) (L : Laws R) (t l g : List ℕ) (K : Cols R t l g) where
           num = λ y hy. far y (λ q. omega arith) (λ q. omega arith) ∙ r .num y hy;
           val = λ y hy. far (takenBase + y) (λ q. omega arith) (λ q. omega arith) ∙ r .val y hy;
           gap = λ y h₁ h₂. far y (λ q. omega arith) (λ q. omega arith) ∙ r .gap y h₁ h₂;
+          beyond = λ y h₁. far y (λ q. omega arith) (λ q. omega arith) ∙ r .beyond y h₁;
         })
 
     -- a send whose message goes into the channel
@@ -264,6 +268,7 @@ module _ (R : Run) (L : Laws R) (t l g : List ℕ) (K : Cols R t l g) where
           num = λ y hy. far y (λ q. omega arith) ∙ r .num y hy;
           val = λ y hy. far (takenBase + y) (λ q. omega arith) ∙ r .val y hy;
           gap = λ y h₁ h₂. far y (λ q. omega arith) ∙ r .gap y h₁ h₂;
+          beyond = λ y h₁. far y (λ q. omega arith) ∙ r .beyond y h₁;
         })
 
     -- how many messages a process has received on a channel when it comes to the receive e
@@ -370,6 +375,7 @@ module _ (R : Run) (L : Laws R) (t l g : List ℕ) (K : Cols R t l g) where
               (λ f. let ne : y ≢ e = eqb-false y e f in
               far (takenBase + y) (λ q. omega arith) (λ q. omega arith) (λ q. ne (omega arith)) ∙ r .val y hy ∙ in-range y (λ hy₀. (slot-same p m y k hy₀ ne) .1));
           gap = λ y h₁ h₂. far y (λ q. omega arith) (λ q. omega arith) (λ q. omega arith) ∙ r .gap y h₁ h₂;
+          beyond = λ y h₁. far y (λ q. omega arith) (λ q. omega arith) (λ q. omega arith) ∙ r .beyond y h₁;
         })
       where
         in-range : (y : ℕ) {c d : ℕ} → (0 < y → d ≡ c) → pick (ltb 0 y && leb y (size (R .trace))) c 0 ≡ pick (ltb 0 y && leb y (size (R .trace))) d 0
@@ -402,4 +408,5 @@ module _ (R : Run) (L : Laws R) (t l g : List ℕ) (K : Cols R t l g) where
         num = λ y hy. far y (λ q. omega arith) ∙ r .num y hy;
         val = λ y hy. far (takenBase + y) (λ q. omega arith) ∙ r .val y hy;
         gap = λ y h₁ h₂. far y (λ q. omega arith) ∙ r .gap y h₁ h₂;
+        beyond = λ y h₁. far y (λ q. omega arith) ∙ r .beyond y h₁;
       }

@@ -21,7 +21,7 @@ use Rattle.theory.specs.Laws.{Laws}
 use Rattle.theory.proofs.Base.{on, clash, le?}
 use Rattle.theory.proofs.Flow.{Inv}
 use Rattle.theory.proofs.Loss.{inv-start}
-use Rattle.simulation.specs.Words.{takenBase, currentBase, orphanBase, takeBase, putBase, takeW, putW, allowedW, applyW, Bounded, noneFrom}
+use Rattle.simulation.specs.Words.{takenBase, currentBase, orphanBase, takeBase, putBase, lowPlace, takeW, putW, allowedW, applyW, Bounded, noneFrom}
 use Rattle.simulation.specs.Related.{head0, recordEnd, evs, orph, Cols, Chan, Rel}
 use Rattle.simulation.specs.Record.{recordAt, Live}
 use Rattle.simulation.proofs.Facts.{evs-head, in-list}
@@ -136,16 +136,21 @@ module _ (R : Run) (L : Laws R) (t l g : List ℕ) (K : Cols R t l g) where
 
   -- the record: what is left when every working word is 0 again
   pub record-left : (a b : List ℕ) (s : State) → Rel R a s → length b ≡ 16384
-      → ((k : ℕ) → k < currentBase → getD b k 0 ≡ getD a k 0) → ((k : ℕ) → currentBase ≤ k → k < 16384 → getD b k 0 ≡ 0)
+      → ((k : ℕ) → (currentBase ≤ k → lowPlace < k) → getD b k 0 ≡ getD a k 0) → ((k : ℕ) → currentBase ≤ k → k ≤ lowPlace → getD b k 0 ≡ 0)
       → b ≡ wordsFrom (recordAt R s) 0 16384
   unfolding recordAt
-  record-left a b s r h low high = words-ext (recordAt R s) 16384 b h at
+  record-left a b s r h others zeros = words-ext (recordAt R s) 16384 b h at
     where
+      low : (k : ℕ) → k < currentBase → getD b k 0 ≡ getD a k 0
+      low k v = others k (λ i. absurd (omega arith))
+
       at : (k : ℕ) → k < 16384 → getD b k 0 ≡ recordAt R s k
       at k j = on (le? recordEnd k)
           (λ u. let x : ltb k takenBase ≡ false = le-ltb k takenBase (omega arith) in
           let y : ltb k recordEnd ≡ false = le-ltb k recordEnd u in
-          rw (x, y) (on (le? currentBase k) (λ v. high k v j) (λ v. low k v ∙ r .gap k u v)))
+          rw (x, y) (on (le? currentBase k)
+          (λ v. on (le? k lowPlace) (λ w. zeros k v w) (λ w. others k (λ i. w) ∙ r .beyond k w))
+          (λ v. low k v ∙ r .gap k u v)))
           (λ u. low k (omega arith) ∙ on (le? takenBase k)
           (λ v. let x : ltb k takenBase ≡ false = le-ltb k takenBase v in
           let y : ltb k recordEnd ≡ true = lt-ltb k recordEnd u in

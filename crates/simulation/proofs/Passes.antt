@@ -61,6 +61,7 @@ module _ (R : Run) (t g : List ℕ) (cut : ℕ) where
     num = λ e h. za e ∙ by (ltb (size (R .trace)) e) (λ u. rw u (let w : leb e (size (R .trace)) ≡ false = late e u in rw w (none (ltb 0 e) _))) (λ u. rw u);
     val = λ e h. za (takenBase + e) ∙ by (ltb (size (R .trace)) e) (λ u. rw u (let w : leb e (size (R .trace)) ≡ false = late e u in rw w (none (ltb 0 e) _))) (λ u. rw u);
     gap = λ k h j. za k;
+    beyond = λ k h. za k;
     small = λ k. rw (zl k) (omega arith);
   }
     where

@@ -9,7 +9,7 @@ use Rattle.theory.specs.Lists.{pick, iv, keep}
 use Rattle.theory.specs.Events.{size, at}
 use Rattle.theory.specs.Line.{Run}
 use Rattle.theory.specs.Replay.{start}
-use Rattle.simulation.specs.Words.{takenBase, currentBase, curW, orpW, takeW, putW, Small}
+use Rattle.simulation.specs.Words.{takenBase, currentBase, lowPlace, curW, orpW, takeW, putW, Small}
 use Rattle.simulation.specs.Related.{head0, recordEnd, goes, evs, orph, numberAt, valueAt}
 
 module _ (R : Run) where
@@ -35,4 +35,5 @@ module _ (R : Run) where
     pub num : (e : ℕ) → e < 2049 → getD a e 0 ≡ pick (ltb x e) (numberAt R (start R) e) 0
     pub val : (e : ℕ) → e < 2049 → getD a (takenBase + e) 0 ≡ pick (ltb x e) (valueAt R (start R) e) 0
     pub gap : (k : ℕ) → recordEnd ≤ k → k < currentBase → getD a k 0 ≡ 0
+    pub beyond : (k : ℕ) → lowPlace < k → getD a k 0 ≡ 0
     pub small : Small l

@@ -11,7 +11,7 @@ use Rattle.theory.specs.Line.{Run, kept}
 use Rattle.theory.specs.Replay.{State, listed, ready, gate, start}
 use Rattle.theory.specs.Laws.{Laws}
 use Rattle.theory.proofs.Flow.{ahead}
-use Rattle.simulation.specs.Words.{takenBase, currentBase, noPhase, kindW, peerW, valueW, phaseW, numberW, kindOf, curW, orpW, takeW, putW, lowW}
+use Rattle.simulation.specs.Words.{takenBase, currentBase, lowPlace, noPhase, kindW, peerW, valueW, phaseW, numberW, kindOf, curW, orpW, takeW, putW, lowW}
 
 -- the first of a list of events, 0 where there is none
 abbrev pub head0 : List ℕ → ℕ
@@ -109,6 +109,7 @@ module _ (R : Run) where
     pub num : (e : ℕ) → e < 2049 → getD a e 0 ≡ numberAt s e
     pub val : (e : ℕ) → e < 2049 → getD a (takenBase + e) 0 ≡ valueAt s e
     pub gap : (k : ℕ) → recordEnd ≤ k → k < currentBase → getD a k 0 ≡ 0
+    pub beyond : (k : ℕ) → lowPlace < k → getD a k 0 ≡ 0
 
   -- what a replay begins with
   pub record Started (t l g a : List ℕ) : Type 0 where

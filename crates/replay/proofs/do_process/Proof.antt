@@ -1,5 +1,4 @@
 -- `replay::do_process` meets its contract: the event, then the store that moves the process on.
-use mathlib.Core.Path.{_≡_}
 use Rattle.replay.proofs.Steps.{process-done}
 use borrow.Author.Needs.{needs}
 use Rattle.replay.proofs.do_process.Statement.{statement}
@@ -7,11 +6,12 @@ use Rattle.replay.proofs.do_process.Tie as tie
 
 returns : tie.Need-returns
 returns c =
-    let pointer = c .before .before .before .before .before .pointer in
-    let do-event = c .before .before .before .do-event in
-    process-done _ _ _ _ _ _ (pointer .ensures .0) (do-event .ensures)
+    let next = c .next in
+    let pointer = c .before .before .before .before .before .before .pointer in
+    let do-event = c .before .before .before .before .do-event in
+    rw (next .ensures) (process-done _ _ _ _ _ _ (pointer .ensures .0) (do-event .ensures))
 
 pub do-process-spec : {M : Type 1} → statement M
 do-process-spec =
     tie.close
-    (tie.spec (λ c. search needs) (λ c κs. search needs) (λ c κs. search needs) (λ c. search needs) (λ c. search needs) (λ c. search needs) (λ c. search needs) (λ c. search needs) (λ c. search needs) (λ c. search needs) returns)
+    (tie.spec (λ c. search needs) (λ c κs. search needs) (λ c κs. search needs) (λ c. search needs) (λ c. search needs) (λ c. search needs) (λ c κs. search needs) (λ c. search needs) (λ c. search needs) (λ c. search needs) (λ c. search needs) returns)

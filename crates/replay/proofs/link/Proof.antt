@@ -1,5 +1,4 @@
 -- `replay::link` meets its contract: a case for each value of the test.
-use mathlib.Core.Path.{_≡_}
 use Rattle.replay.proofs.Passing.{chain-yes, chain-no}
 use borrow.Author.Needs.{needs}
 use Rattle.replay.proofs.link.Statement.{statement}
@@ -7,8 +6,9 @@ use Rattle.replay.proofs.link.Tie as tie
 
 returns : tie.Need-returns
 returns c =
+    let pointer = c .pointer in
     let if1 = c .before .if1 in
-    chain-yes _ _ _ _ (if1 .taken)
+    rw (pointer .ensures .0) (chain-yes _ _ _ _ (if1 .taken))
 
 returns-2 : tie.Need-returns-2
 returns-2 c =
@@ -18,4 +18,4 @@ returns-2 c =
 pub link-spec : {M : Type 1} → statement M
 link-spec =
     tie.close
-    (tie.spec (λ c. search needs) (λ c. search needs) (λ c. search needs) (λ c. search needs) (λ c. search needs) returns returns-2)
+    (tie.spec (λ c κs. search needs) (λ c. search needs) (λ c. search needs) (λ c. search needs) (λ c. search needs) returns returns-2)

@@ -1,5 +1,4 @@
 -- `replay::put_in` meets its contract: the store itself.
-use mathlib.Core.Path.{_≡_}
 use Rattle.simulation.specs.Words.{putInW}
 use borrow.Author.Needs.{needs}
 use Rattle.replay.proofs.put_in.Statement.{statement}
@@ -8,10 +7,11 @@ use Rattle.replay.proofs.put_in.Tie as tie
 returns : tie.Need-returns
 unfolding putInW
 returns c =
-    let pointer = c .before .pointer in
-    rw (pointer .ensures .0)
+    let next = c .next in
+    let pointer = c .before .before .pointer in
+    rw ((next .ensures), (pointer .ensures .0))
 
 pub put-in-spec : {M : Type 1} → statement M
 put-in-spec =
     tie.close
-    (tie.spec (λ c. search needs) (λ c κs. search needs) (λ c. search needs) (λ c. search needs) (λ c. search needs) (λ c. search needs) (λ c. search needs) (λ c. search needs) (λ c. search needs) (λ c. search needs) returns)
+    (tie.spec (λ c. search needs) (λ c κs. search needs) (λ c. search needs) (λ c. search needs) (λ c. search needs) (λ c. search needs) (λ c κs. search needs) (λ c. search needs) (λ c. search needs) (λ c. search needs) (λ c. search needs) returns)

@@ -1,5 +1,4 @@
 -- `replay::take_out` meets its contract: the stores themselves.
-use mathlib.Core.Path.{_≡_}
 use native.Mathlib.Omega.{arith}
 use lib.ListN.{length-set}
 use Rattle.simulation.specs.Words.{takeOutW}
@@ -16,10 +15,11 @@ slice-write-area-3 c = simp length-set (omega arith)
 returns : tie.Need-returns
 unfolding takeOutW
 returns c =
-    let pointer = c .before .before .before .pointer in
-    rw (pointer .ensures .0)
+    let next = c .before .before .next in
+    let pointer = c .before .before .before .before .pointer in
+    rw ((next .ensures), (pointer .ensures .0))
 
 pub take-out-spec : {M : Type 1} → statement M
 take-out-spec =
     tie.close
-    (tie.spec (λ c. search needs) (λ c κs. search needs) (λ c. search needs) (λ c. search needs) (λ c. search needs) (λ c. search needs) (λ c. search needs) (λ c. search needs) (λ c. search needs) (λ c. search needs) (λ c. search needs) (λ c. search needs) (λ c. search needs) slice-write-area-2 (λ c. search needs) (λ c. search needs) (λ c. search needs) (λ c. search needs) (λ c. search needs) slice-write-area-3 (λ c. search needs) returns)
+    (tie.spec (λ c. search needs) (λ c κs. search needs) (λ c. search needs) (λ c. search needs) (λ c. search needs) (λ c. search needs) (λ c κs. search needs) (λ c. search needs) (λ c. search needs) (λ c. search needs) (λ c. search needs) (λ c. search needs) (λ c. search needs) (λ c. search needs) slice-write-area-2 (λ c. search needs) (λ c. search needs) (λ c. search needs) (λ c. search needs) (λ c. search needs) slice-write-area-3 (λ c. search needs) returns)
