@@ -1,26 +1,25 @@
 -- Each way out of `restart_from` and `restart`: the answer by its definition, and demand 2.
-use Prim.Native.Nat.{ℕ, _+_, _<_, _≤_}
+use Prim.Native.Nat.{ℕ, _<_, _≤_}
 use mathlib.Core.Path.{_≡_, sym, ap, _∙_}
 use mathlib.Core.Bool.{true, false, _&&_, not}
 use mathlib.Core.List.{List}
 use native.Mathlib.Omega.{arith}
 use lib.Count.{ones}
 use lib.Dec.{ltb}
-use lib.ListN.{length, getD}
+use lib.ListN.{length}
 use borrow.Author.Tests.{lt-ltb, le-ltb, ne-eqb}
-use Rattle.words.specs.Area.{areaWords, wordsFrom}
-use Rattle.words.proofs.Area.{getD-words, words-ext}
+use Rattle.words.specs.Area.{areaWords}
 use Rattle.trace.specs.Trace.{Trace}
 use Rattle.table.specs.Held.{held, holdsTrace}
 use Rattle.theory.specs.Events.{size}
-use Rattle.theory.specs.Epochs.{past, phaseAt}
+use Rattle.theory.specs.Epochs.{past}
 use Rattle.theory.specs.Line.{inSet, staysIn, current, reached, Greatest, greatestLine}
 use Rattle.theory.specs.Refusals.{failureFault}
 use Rattle.theory.proofs.Claims.{floor-failed}
 use Rattle.theory.proofs.Refusals.{failure-fit, line-fit}
 use Rattle.theory.proofs.WellFormed.{valid}
 use Rattle.line.specs.declared.Line.{Line}
-use Rattle.line.specs.Given.{Tabled, each, lineIn, lineTo, restartPhaseIn, numbersOf, backOf, backOnes}
+use Rattle.line.specs.Given.{Tabled, lineIn, lineTo, restartPhaseIn, numbersOf, backOf, backOnes}
 use Rattle.recovery.specs.declared.Restarted.{Restarted}
 use Rattle.recovery.specs.Answers.{faultOf}
 use Rattle.recovery.specs.Restart.{failureFaultOf, engineLine, ofEach, restartBy, restartOf, restartRefusal, restartAnswer, Restarts}
