@@ -1,5 +1,5 @@
-// Recovery lines of a trace, from its full table (crate protocol): the greatest line without a lost message after a failure; the epochs at
-// the cut; of a line the restarts, phases and gates, what is wrong with it (8, 9, 10), and who goes back. specs/Given says how a line stands
+// Recovery lines of a trace, from its full table (crate protocol): the greatest line without a lost message after a failure, with epochs at
+// the cut and phases at the restarts; of a line the gates, what is wrong with it (8, 9, 10), and who goes back. specs/Given says how it stands
 // in words, and when a table is the full one of a trace (`Tabled`), which each public function on a table asks for; the contracts are the
 // theory's definitions, for every trace that the table is of. specs/Words is what the private functions are about. Assumes nothing.
 ghost use mathlib.Core.Path.{_≡_};

@@ -1,5 +1,5 @@
 -- The search for the lowest allowed choice by words, and what carrying out the lowest choices leaves. No public contract cites these.
-use Prim.Native.Nat.{ℕ, _-_, _/_, _^_, _<_, _+_, _*_, _≤_}
+use Prim.Native.Nat.{ℕ, _/_, _<_, _+_, _*_, _≤_}
 use mathlib.Core.Path.{_≡_}
 use mathlib.Core.Bool.{false}
 use mathlib.Core.List.{List}

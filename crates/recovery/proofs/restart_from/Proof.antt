@@ -1,6 +1,5 @@
 -- `recovery::restart_from` meets its contract: the line, and what is said of it.
 use Rattle.recovery.proofs.Restarting.{count-few, made, means}
-use native.Mathlib.Omega.{arith}
 use borrow.Author.Needs.{needs}
 use Rattle.recovery.proofs.restart_from.Statement.{statement}
 use Rattle.recovery.proofs.restart_from.Tie as tie
@@ -8,16 +7,14 @@ use Rattle.recovery.proofs.restart_from.Tie as tie
 back-set-requires : tie.Need-back-set-requires
 back-set-requires c κs =
     let pre = c .before .before .before .before .before .before .pre in
-    let args = c .before .before .before .before .before .before .args in
     let greatest = c .before .before .greatest in
-    count-few (pre .0) _ (pre .1) (args .cut) (args .set) (pre .2) _ ((greatest .ensures .0) (pre .0) (pre .1) (pre .2))
+    count-few (pre .0) _ (pre .1) _ _ (pre .2) _ ((greatest .ensures .0) (pre .0) (pre .1) (pre .2))
 
 back-requires : tie.Need-back-requires
 back-requires c κs =
     let pre = c .before .before .before .before .before .before .before .pre in
-    let args = c .before .before .before .before .before .before .before .args in
     let greatest = c .before .before .before .greatest in
-    count-few (pre .0) _ (pre .1) (args .cut) (args .set) (pre .2) _ ((greatest .ensures .0) (pre .0) (pre .1) (pre .2))
+    count-few (pre .0) _ (pre .1) _ _ (pre .2) _ ((greatest .ensures .0) (pre .0) (pre .1) (pre .2))
 
 returns : tie.Need-returns
 returns c =
