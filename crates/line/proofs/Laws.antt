@@ -10,9 +10,10 @@ use lib.Dec.{leb, ltb, eqb}
 use borrow.Author.Tests.{lt-ltb, le-ltb, le-leb, lt-leb, eq-eqb, ne-eqb}
 use Rattle.words.proofs.Cases.{by-eq}
 use Rattle.theory.specs.Lists.{pick}
+use Rattle.protocol.specs.Columns.{phaseBase}
 use Rattle.theory.specs.Line.{inSet}
 use Rattle.sets.specs.Sets.{withIn}
-use Rattle.line.specs.Words.{atW, peerW, kindW, epochW, phaseW, matchW, lostE, lostW, lowerAt, joinedBy, undoneW, phaseAfter, restartPhase, Planes, staysW, restartW, gateW, Gated}
+use Rattle.line.specs.Words.{atW, peerW, kindW, epochW, phaseW, matchW, lostE, lostW, lowerAt, joinedBy, undoneW, afterW, restartPhase, Planes, staysW, restartW, gateW, Gated}
 
 -- ---- `lower_at`
 
@@ -77,10 +78,10 @@ joined-kept t m e pending h = rw h
 
 -- ---- `restart_phase`
 
-pub phase-kept : (t : List ℕ) (n e p : ℕ) → p ≡ phaseAfter t e → (eqb n 32 || eqb n 1) ≡ true → p ≡ restartPhase t n e
+pub phase-kept : (t : List ℕ) (n e p : ℕ) → p ≡ afterW t phaseBase e → (eqb n 32 || eqb n 1) ≡ true → p ≡ restartPhase t n e
 phase-kept t n e p h b = rw b (omega (arith, h))
 
-pub phase-raised : (t : List ℕ) (n e p : ℕ) → p ≡ phaseAfter t e → (n ≡ 32 → ⊥) → (n ≡ 1 → ⊥) → p + 1 ≡ restartPhase t n e
+pub phase-raised : (t : List ℕ) (n e p : ℕ) → p ≡ afterW t phaseBase e → (n ≡ 32 → ⊥) → (n ≡ 1 → ⊥) → p + 1 ≡ restartPhase t n e
 phase-raised t n e p h a b = rw (ne-eqb n 32 a, ne-eqb n 1 b) (omega (arith, h))
 
 -- ---- Loops over the processes

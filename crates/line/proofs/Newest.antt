@@ -22,18 +22,19 @@ use Rattle.theory.proofs.Base.{cnt-le, cnt-lt, cnt-suc}
 use Rattle.theory.proofs.Epochs.{epoch-is, restart-cut}
 use Rattle.theory.proofs.Lines.{Number, number-of}
 use Rattle.theory.proofs.Claims.{reached-usable, restart-back, restart-stays}
+use Rattle.protocol.specs.Columns.{epochBase, phaseBase}
 use Rattle.protocol.proofs.Bounds.{epoch-most, phase-most}
 use Rattle.protocol.proofs.Moves.{save-phase}
 use Rattle.line.specs.declared.Line.{Line}
 use Rattle.line.specs.Given.{Tabled, each, lineIn, lineTo, restartPhaseIn}
-use Rattle.line.specs.Words.{atW, epochW, phaseW, Lowered, Linked, Before, epochAfter, phaseAfter, restartPhase}
+use Rattle.line.specs.Words.{atW, epochW, phaseW, Lowered, Linked, Before, afterW, restartPhase}
 use Rattle.line.proofs.Table.{fit, few, procs-is, at-is}
 use Rattle.line.proofs.Cut.{else-same}
 use Rattle.line.proofs.Lowering.{greatest-made, greatest-means}
 use Rattle.line.proofs.Places.{line-at}
 
 -- while a process does nothing, its epoch and its phase stay
-pub idle-same : (t : Trace) (z x y : ℕ) → x ≤ y → ((w : ℕ) → x < w → w ≤ y → at t w ≡ z → ⊥)
+idle-same : (t : Trace) (z x y : ℕ) → x ≤ y → ((w : ℕ) → x < w → w ≤ y → at t w ≡ z → ⊥)
     → (epochAt t past z y ≡ epochAt t past z x) × (phaseAt t past z y ≡ phaseAt t past z x)
 idle-same t z x zero l h = let e : x ≡ 0 = omega arith in rw e (refl, refl)
 idle-same t z x (suc y) l h = by-eq x (suc y)
@@ -55,23 +56,27 @@ module _ (t : Trace) (full : List ℕ) (G : Tabled t full) (cut : ℕ) (cl : cut
   own-is : 0 < x → at t x ≡ z
   own-is p = sym (at-is t full G x p (omega arith)) ∙ own p
 
-  pub epoch-there : epochAfter full x ≡ epochAt t past z x
-  unfolding notes
-  epoch-there = by-eq x 0
-      (λ e. rw (eq-eqb x 0 e, e))
-      (λ n. let p : 0 < x = omega arith in
-      rw (ne-eqb x 0 n) (G .columns .epoch x p (omega arith) ∙ ap (λ (w : ℕ). epochAt t past w x) (own-is p)))
+  own-epoch : 0 < x → epochW full x ≡ epochAt t past z x
+  own-epoch p = G .columns .epoch x p (omega arith) ∙ ap (λ (w : ℕ). epochAt t past w x) (own-is p)
 
-  pub phase-there : phaseAfter full x ≡ phaseAt t past z x
+  own-phase : 0 < x → phaseW full x ≡ phaseAt t past z x
+  own-phase p = G .columns .phase x p (omega arith) ∙ ap (λ (w : ℕ). phaseAt t past w x) (own-is p)
+
+  -- by the column's base and what its words mean
+  there : (base : ℕ) (f : ℕ → ℕ) → f 0 ≡ 1 → (0 < x → getD full (base + x) 0 ≡ f x) → afterW full base x ≡ f x
+  there base f start h = by-eq x 0 (λ e. rw (eq-eqb x 0 e, e) (sym start)) (λ n. rw (ne-eqb x 0 n) (h (omega arith)))
+
+  epoch-there : afterW full epochBase x ≡ epochAt t past z x
   unfolding notes
-  phase-there = by-eq x 0
-      (λ e. rw (eq-eqb x 0 e, e))
-      (λ n. let p : 0 < x = omega arith in
-      rw (ne-eqb x 0 n) (G .columns .phase x p (omega arith) ∙ ap (λ (w : ℕ). phaseAt t past w x) (own-is p)))
+  epoch-there = there epochBase (epochAt t past z) refl own-epoch
+
+  phase-there : afterW full phaseBase x ≡ phaseAt t past z x
+  unfolding notes
+  phase-there = there phaseBase (phaseAt t past z) refl own-phase
 
   -- ---- The epoch at the cut
 
-  pub epoch-newest : ((y : ℕ) → x < y → y ≤ cut → atW full y ≡ z → ⊥) → epochAfter full x ≡ current t past cut z
+  epoch-newest : ((y : ℕ) → x < y → y ≤ cut → atW full y ≡ z → ⊥) → afterW full epochBase x ≡ current t past cut z
   epoch-newest h =
       epoch-there ∙ sym (idle-same t z x cut xl (λ w a b i. h w a b (at-is t full G w (omega arith) (omega arith) ∙ i)) .0)
 
@@ -84,7 +89,7 @@ module _ (t : Trace) (full : List ℕ) (G : Tabled t full) (cut : ℕ) (cl : cut
         let e : epochW full w ≡ epochAt t past z w = G .columns .epoch w (omega arith) (omega arith) ∙ ap (λ (y : ℕ). epochAt t past y w) i in
         omega (arith, e, undone w a b (at-is t full G w (omega arith) (omega arith) ∙ i))
 
-    stays-phase : line z ≡ 32 → phaseAfter full x ≡ restartPhaseIn t cut line z
+    stays-phase : line z ≡ 32 → afterW full phaseBase x ≡ restartPhaseIn t cut line z
     stays-phase h =
         phase-there
         ∙ sym (idle-same t z x cut xl (λ w a b i. let u = later w a b i in omega (arith, u, h, epoch-most t (fit t full G) z w (omega arith))) .1)
@@ -104,14 +109,13 @@ module _ (t : Trace) (full : List ℕ) (G : Tabled t full) (cut : ℕ) (cl : cut
       before-s : x ≤ s
       before-s = by-lt s x
           (λ h. let p : 0 < x = omega arith in
-          let e : epochW full x ≡ epochAt t past z x = G .columns .epoch x p (omega arith) ∙ ap (λ (w : ℕ). epochAt t past w x) (own-is p) in
-          absurd (let y : ⊥ = omega (arith, e, done p, epoch-s, epoch-is t past s z, epoch-is t past x z, cnt-le (checkpoints t z) s x (omega arith)) in y))
+          absurd (let y : ⊥ = omega (arith, own-epoch p, done p, epoch-s, epoch-is t past s z, epoch-is t past x z, cnt-le (checkpoints t z) s x (omega arith)) in y))
           (λ h. h)
 
-      start-phase : s ≡ 0 → phaseAfter full x ≡ phaseAt t past z s
+      start-phase : s ≡ 0 → afterW full phaseBase x ≡ phaseAt t past z s
       start-phase h = phase-there ∙ ap (phaseAt t past z) (let e : x ≡ s = omega (arith, before-s) in e)
 
-      back-phase : (y : ℕ) → s ≡ suc y → checkpoints t z s ≡ true → phaseAfter full x + 1 ≡ phaseAt t past z s
+      back-phase : (y : ℕ) → s ≡ suc y → checkpoints t z s ≡ true → afterW full phaseBase x + 1 ≡ phaseAt t past z s
       back-phase y e c =
           let cy : checkpoints t z (suc y) ≡ true = rw e at c in
           let ey : epochAt t past z (suc y) ≡ line z = rw e at epoch-s in
@@ -120,7 +124,7 @@ module _ (t : Trace) (full : List ℕ) (G : Tabled t full) (cut : ℕ) (cl : cut
           (λ i. let p : 0 < x = omega arith in
           let u : epochW full x ≡ epochAt t past z x = G .columns .epoch x p (omega arith) ∙ ap (λ (w : ℕ). epochAt t past w x) (own-is p) in
           let v : epochAt t past z x ≡ line z = ap (epochAt t past z) i ∙ epoch-s in
-          absurd (let q : ⊥ = omega (arith, u, v, done p) in q))
+          absurd (let q : ⊥ = omega (arith, own-epoch p, v, done p) in q))
           (λ i. omega (arith, before-s, e, i)) in
           let i = idle-same t z x y xy
           (λ w k l j. let u = later w k (omega (arith, s-cut, e)) j in
@@ -148,7 +152,7 @@ module _ (t : Trace) (full : List ℕ) (G : Tabled t full) (cut : ℕ) (cl : cut
           let m : eqb (line z) 1 ≡ false = ne-eqb (line z) 1 (λ i. omega (arith, later-epoch p, i)) in
           rw (n, m) (back-phase (s - 1) (omega arith) (saved p)))
 
-    pub phase-newest : Number t past cut z (line z) → restartPhase full (line z) x ≡ restartPhaseIn t cut line z
+    phase-newest : Number t past cut z (line z) → restartPhase full (line z) x ≡ restartPhaseIn t cut line z
     phase-newest k = ⊎-elim
         (λ h. rw (eq-eqb (line z) 32 h) (omega (arith, stays-phase h)))
         (λ h. gone-back (h .0) (h .1))
@@ -168,14 +172,14 @@ module _ (t : Trace) (full : List ℕ) (G : Tabled t full) (cut : ℕ) (cl : cut
   few-procs : (z : ℕ) → z < t .procs → z < 64
   few-procs z l = omega (arith, fit t full G .few)
 
-  pub epochs-made : (earlier latest d : List ℕ) → Linked full cut earlier latest → length d ≡ 64
-      → ((z : ℕ) → z < 64 → getD d z 0 ≡ pick (ltb z count) (epochAfter full (getD latest z 0)) 0) → d ≡ wordsFrom (each t (current t past cut)) 0 64
+  epochs-made : (earlier latest d : List ℕ) → Linked full cut earlier latest → length d ≡ 64
+      → ((z : ℕ) → z < 64 → getD d z 0 ≡ pick (ltb z count) (afterW full epochBase (getD latest z 0)) 0) → d ≡ wordsFrom (each t (current t past cut)) 0 64
   epochs-made earlier latest d L len h =
       words-ext (each t (current t past cut)) 64 d len
-      (λ z b. h z b ∙ each-is (λ z. epochAfter full (getD latest z 0)) (current t past cut)
+      (λ z b. h z b ∙ each-is (λ z. afterW full epochBase (getD latest z 0)) (current t past cut)
       (λ z l. let n = L .last z (few-procs z l) in epoch-newest t full G cut cl z (getD latest z 0) (n .within) (n .own) (n .others)) z)
 
-  pub phases-made : (r latest p : List ℕ) (line : ℕ → ℕ) → ((z : ℕ) → z < t .procs → line z ≡ getD r z 0) → ((z : ℕ) → z < t .procs → Number t past cut z (line z))
+  phases-made : (r latest p : List ℕ) (line : ℕ → ℕ) → ((z : ℕ) → z < t .procs → line z ≡ getD r z 0) → ((z : ℕ) → z < t .procs → Number t past cut z (line z))
       → Before full cut r latest → length p ≡ 64
       → ((z : ℕ) → z < 64 → getD p z 0 ≡ pick (ltb z count) (restartPhase full (getD r z 0) (getD latest z 0)) 0)
       → p ≡ wordsFrom (each t (restartPhaseIn t cut line)) 0 64
@@ -197,7 +201,7 @@ module _ (t : Trace) (full : List ℕ) (G : Tabled t full) (cut : ℕ) (cl : cut
       omega (arith, G .columns .phase x p b, phase-most t (fit t full G) (at t x) x b, few t full G)
 
   -- the numbers of the greatest line
-  pub numbers-may : (failed : ℕ → Bool) (line : ℕ → ℕ) → Greatest t past cut (reached t past cut) failed line → (z : ℕ) → z < t .procs → Number t past cut z (line z)
+  numbers-may : (failed : ℕ → Bool) (line : ℕ → ℕ) → Greatest t past cut (reached t past cut) failed line → (z : ℕ) → z < t .procs → Number t past cut z (line z)
   numbers-may failed line g =
       number-of t past (fit t full G) cut cl (reached t past cut) (reached-usable t (G .formed) past cut cl) failed line (g .permitted)
 
@@ -207,7 +211,7 @@ pub record Done (full : List ℕ) (cut set count : ℕ) (earlier latest d m r le
   pub counted : count ≡ getD full 0 0
   pub linked : Linked full cut earlier latest
   pub epochs-long : length d ≡ 64
-  pub epochs : (z : ℕ) → z < 64 → getD d z 0 ≡ pick (ltb z count) (epochAfter full (getD latest z 0)) 0
+  pub epochs : (z : ℕ) → z < 64 → getD d z 0 ≡ pick (ltb z count) (afterW full epochBase (getD latest z 0)) 0
   pub first-long : length m ≡ 64
   pub first : (z : ℕ) → z < count → getD m z 0 ≡ pick (inSet set z) (getD d z 0) 32
   pub others : (z : ℕ) → count ≤ z → getD m z 0 ≡ 0

@@ -23,7 +23,7 @@ use Rattle.theory.proofs.Base.{cnt-suc}
 use Rattle.theory.proofs.Events.{checkpoints-is}
 use Rattle.theory.proofs.Epochs.{epoch-is}
 use Rattle.line.specs.declared.Line.{Line}
-use Rattle.line.specs.Given.{Tabled, lineIn, each, planes, stayWord, restartWord, gateWord}
+use Rattle.line.specs.Given.{Tabled, lineIn, each, planes, stayWord, restartPhaseIn, restartWord, gateWord}
 use Rattle.line.specs.Words.{atW, kindW, epochW, phaseW, Planes, RestartsBegun, raises, restartW, gateW, Gated}
 use Rattle.line.proofs.Table.{fit, procs-is, at-is, save-is}
 use Rattle.line.proofs.Cut.{else-same}
@@ -233,7 +233,7 @@ planes-list a b c g len P =
 
 restarting-ends : (t : Trace) (cut : ℕ) (line : ℕ → ℕ) (g : List ℕ) → length g ≡ 192 → Restarting t cut line cut g → g ≡ wordsFrom (restartWord t cut line) 0 192
 restarting-ends t cut line g len P =
-    planes-list (each t (λ z. phaseAt t past z (restartIn t cut line z))) (each t (restartIn t cut line)) (each t (stayWord line)) g len
+    planes-list (each t (restartPhaseIn t cut line)) (each t (restartIn t cut line)) (each t (stayWord line)) g len
     (record { first = P .first; second = λ z l. P .second z l ∙ same-each t z (pick (staysIn line z) cut (place (checkpoints t z) (line z - 1) cut)) (restartIn t cut line z) (found z); third = P .third })
   where
     found : (z : ℕ) → pick (staysIn line z) cut (place (checkpoints t z) (line z - 1) cut) ≡ restartIn t cut line z
@@ -242,7 +242,7 @@ restarting-ends t cut line g len P =
 -- ---- `gates`: h is g with its phases turned into gates
 
 gate-is : (t : Trace) (cut : ℕ) (line : ℕ → ℕ) (z : ℕ)
-    → gateW (stayWord line z) (phaseAt t past z (restartIn t cut line z)) ≡ gate (recorded t past cut line) z
+    → gateW (stayWord line z) (restartPhaseIn t cut line z) ≡ gate (recorded t past cut line) z
 unfolding gate
 gate-is t cut line z = by-bool (staysIn line z) (λ h. rw h) (λ h. rw h)
 
@@ -254,7 +254,7 @@ module _ (t : Trace) (full : List ℕ) (G : Tabled t full) (cut count : ℕ) (li
   g-at : (k : ℕ) → k < 192 → getD g k 0 ≡ restartWord t cut line k
   g-at k l = ap (λ (x : List ℕ). getD x k 0) eg ∙ getD-words (restartWord t cut line) 0 192 k l ∙ ap (restartWord t cut line) (let e : 0 + k ≡ k = omega arith in e)
 
-  g-first : (z : ℕ) → z < 64 → getD g z 0 ≡ each t (λ z. phaseAt t past z (restartIn t cut line z)) z
+  g-first : (z : ℕ) → z < 64 → getD g z 0 ≡ each t (restartPhaseIn t cut line) z
   g-first z l = g-at z (omega arith) ∙ (let s : ltb z 64 ≡ true = lt-ltb z 64 l in rw s)
 
   g-third : (z : ℕ) → z < 64 → getD g (128 + z) 0 ≡ each t (stayWord line) z

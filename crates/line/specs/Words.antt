@@ -85,7 +85,7 @@ pub record Linked (t : List ℕ) (x : ℕ) (earlier latest : List ℕ) : Type 0 
   pub before : (e : ℕ) → 0 < e → e ≤ x → Newest t (atW t e) (e - 1) (getD earlier e 0)
   pub last : (z : ℕ) → z < 64 → Newest t z x (getD latest z 0)
 
--- the words that are read to ask about events that were not looked at yet are in their range
+-- a table, 64 words of a line or the like, and newest events, in their ranges
 pub record Pending (t m latest : List ℕ) : Type 0 where
   pub whole : length t ≡ areaWords
   pub long : length m ≡ 64
@@ -100,23 +100,21 @@ undoneW t m latest z = ltb 0 (getD latest z 0) && leb (getD m z 0) (epochW t (ge
 abbrev pub joinedBy : List ℕ → List ℕ → ℕ → ℕ → ℕ
 joinedBy t m e pending = pick (lostW t m e) (withIn pending (peerW t e)) pending
 
--- of each process the newest event before its restart, 0 where there is none: of another epoch than the line undoes, and all later ones are undone
+-- of each process the newest event before its restart, 0 where there is none: its epoch is below the line's number, and all later events up to
+-- the cut are undone
 pub record Before (t : List ℕ) (cut : ℕ) (m latest : List ℕ) : Type 0 where
   pub within : (z : ℕ) → z < 64 → getD latest z 0 ≤ cut
   pub own : (z : ℕ) → z < 64 → 0 < getD latest z 0 → atW t (getD latest z 0) ≡ z
   pub done : (z : ℕ) → z < 64 → 0 < getD latest z 0 → epochW t (getD latest z 0) < getD m z 0
   pub undone : (e : ℕ) → 0 < e → e ≤ cut → getD latest (atW t e) 0 < e → getD m (atW t e) 0 ≤ epochW t e
 
--- of a process whose newest event is e, 0 where it has none: its epoch and its phase
-abbrev pub epochAfter : List ℕ → ℕ → ℕ
-epochAfter t e = pick (eqb e 0) 1 (epochW t e)
-
-abbrev pub phaseAfter : List ℕ → ℕ → ℕ
-phaseAfter t e = pick (eqb e 0) 1 (phaseW t e)
+-- of a process whose newest event is e, 0 where it has none: its epoch or its phase, by the column's base
+abbrev pub afterW : List ℕ → ℕ → ℕ → ℕ
+afterW t base e = pick (eqb e 0) 1 (getD t (base + e) 0)
 
 -- its phase at the restart, where e is the newest event before that: a checkpoint that it goes back to raised it by one
 abbrev pub restartPhase : List ℕ → ℕ → ℕ → ℕ
-restartPhase t number e = phaseAfter t e + pick (eqb number 32 || eqb number 1) 0 1
+restartPhase t number e = afterW t phaseBase e + pick (eqb number 32 || eqb number 1) 0 1
 
 -- 1 for each of so many processes, and 0 past the last
 pub record Begun (count : ℕ) (l : List ℕ) : Type 0 where

@@ -10,13 +10,14 @@ ghost use Prim.Native.Nat.{ℕ, _+_, _*_, _/_, _%_, _^_, _≤_, _<_};
 ghost use lib.ListN.{length, getD, set};
 ghost use Rattle.words.specs.Area.{areaWords, wordsFrom};
 ghost use Rattle.trace.specs.Trace.{Trace};
+ghost use Rattle.protocol.specs.Columns.{epochBase};
 ghost use Rattle.theory.specs.Lists.{pick, all-below};
 ghost use Rattle.theory.specs.Refusals.{failureFault, lineFault};
 ghost use Rattle.theory.specs.Events.{size};
 ghost use Rattle.theory.specs.Epochs.{past};
 ghost use Rattle.theory.specs.Line.{inSet, staysIn, current, reached, Greatest, greatestLine};
 ghost use Rattle.line.specs.Given.{Tabled, each, lineIn, lineTo, restartPhaseIn, restartWord, gateWord, numbersOf, backOf, backOnes};
-ghost use Rattle.line.specs.Words.{matchW, Sized, lostW, lowerAt, Lowered, joinedBy, Linked, Pending, undoneW, Before, epochAfter, phaseW, phaseAfter, restartPhase, Lowerable, Begun, staysW, RestartsBegun, restartW, gateW, Gated, reachedW, mayStayW, mayW};
+ghost use Rattle.line.specs.Words.{matchW, Sized, lostW, lowerAt, Lowered, joinedBy, Linked, Pending, undoneW, Before, phaseW, afterW, restartPhase, Lowerable, Begun, staysW, RestartsBegun, restartW, gateW, Gated, reachedW, mayStayW, mayW};
 use protocol::EPOCH_BASE;
 use protocol::MATCH_BASE;
 use protocol::PHASE_BASE;
@@ -235,38 +236,27 @@ fn lower(full: &[u32], earlier: &[u16], epochs: &mut [u32], latest: &mut [u16])
     }
 }
 
-// The epoch of a process after its newest event e; 1 where there is none.
-fn epoch_after(full: &[u32], e: usize) -> u32
-    requires { ⌜ (length (now full) ≡ areaWords) × (e ≤ 2048) ⌝ }
-    ensures { λ r. ⌜ r ≡ epochAfter (now (full .entry)) e ⌝ }
+// The epoch or the phase of a process after its newest event e, from the column that begins at `base`; 1 where there is no event.
+fn after(full: &[u32], base: usize, e: usize) -> u32
+    requires { ⌜ (length (now full) ≡ areaWords) × (base + 2048 < areaWords) × (e ≤ 2048) ⌝ }
+    ensures { λ r. ⌜ r ≡ afterW (now (full .entry)) base e ⌝ }
 {
     if e == 0 {
         return 1;
     }
-    full[EPOCH_BASE + e]
+    full[base + e]
 }
 
 // The epochs of the first processes after their newest events; 0 past the last.
 fn newest_epochs(full: &[u32], latest: &[u16], count: usize, epochs: &mut [u32])
     requires { ⌜ Pending (now full) (now epochs) (now latest) ⌝ }
-    ensures { λ _. ⌜ ((z : ℕ) → z < 64 → getD (now (epochs .exit)) z 0 ≡ pick (ltb z count) (epochAfter (now (full .entry)) (getD (now (latest .entry)) z 0)) 0) ⌝ }
+    ensures { λ _. ⌜ ((z : ℕ) → z < 64 → getD (now (epochs .exit)) z 0 ≡ pick (ltb z count) (afterW (now (full .entry)) epochBase (getD (now (latest .entry)) z 0)) 0) ⌝ }
 {
     let mut z: usize = 0;
     while z < 64 {
-        epochs[z] = or_zero(z < count, epoch_after(full, latest[z] as usize));
+        epochs[z] = or_zero(z < count, after(full, EPOCH_BASE, latest[z] as usize));
         z += 1;
     }
-}
-
-// The phase of a process after its newest event e; 1 where there is none.
-fn phase_after(full: &[u32], e: usize) -> u32
-    requires { ⌜ (length (now full) ≡ areaWords) × (e ≤ 2048) ⌝ }
-    ensures { λ r. ⌜ r ≡ phaseAfter (now (full .entry)) e ⌝ }
-{
-    if e == 0 {
-        return 1;
-    }
-    full[PHASE_BASE + e]
 }
 
 // The phase of a process at its restart, from its newest event e before that: the checkpoint that it goes back to has raised it by one.
@@ -274,7 +264,7 @@ fn restart_phase(full: &[u32], number: u32, e: usize) -> u32
     requires { ⌜ (length (now full) ≡ areaWords) × (e ≤ 2048) × (0 < e → phaseW (now full) e < 65536) ⌝ }
     ensures { λ r. ⌜ r ≡ restartPhase (now (full .entry)) number e ⌝ }
 {
-    let phase = phase_after(full, e);
+    let phase = after(full, PHASE_BASE, e);
     if number == STAYS {
         return phase;
     }

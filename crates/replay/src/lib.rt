@@ -201,8 +201,8 @@ fn lowest_phase_from(full: &[u32], area: &[u32], from: usize, procs: usize, leas
     lowest_phase(full, area, procs)
 }
 
-// A link, as a pointer of the area.
-fn next(link: u16) -> u32
+// A link as a word of the area, where pointers have 32 bits.
+fn linked(link: u16) -> u32
     ensures { λ r. ⌜ r ≡ link ⌝ }
 {
     link as u32
@@ -214,7 +214,7 @@ fn put_in(links: &[u16], area: &mut [u32], c: usize)
     ensures { λ _. ⌜ now (area .exit) ≡ putInW (now (links .entry)) (now (area .entry)) c ⌝ }
 {
     let m = pointer(area, PUT + c);
-    area[PUT + c] = next(links[4 * m + 1]);
+    area[PUT + c] = linked(links[4 * m + 1]);
 }
 
 // The receive e takes the oldest message of channel c: its number and value go on record.
@@ -223,7 +223,7 @@ fn take_out(full: &[u32], links: &[u16], area: &mut [u32], c: usize, e: usize)
     ensures { λ _. ⌜ now (area .exit) ≡ takeOutW (now (full .entry)) (now (links .entry)) (now (area .entry)) c e ⌝ }
 {
     let m = pointer(area, TAKE + c);
-    area[TAKE + c] = next(links[4 * m + 1]);
+    area[TAKE + c] = linked(links[4 * m + 1]);
     area[e] = full[NUMBER_BASE + m];
     area[TAKEN + e] = full[VALUE_BASE + m];
 }
@@ -234,7 +234,7 @@ fn drop_orphan(full: &[u32], links: &[u16], area: &mut [u32], z: usize, e: usize
     requires { ⌜ (z < 64) × (e < 2049) × Movable (now full) (now links) (now area) ⌝ }
     ensures { λ _. ⌜ now (area .exit) ≡ dropW (now (full .entry)) (now (links .entry)) (now (area .entry)) z e ⌝ }
 {
-    let o = next(links[4 * e + 2]);
+    let o = linked(links[4 * e + 2]);
     area[ORPHAN + z] = o;
     let procs = full[0] as usize;
     let least = lower(full, wide(o), area[LOW]);
@@ -271,7 +271,7 @@ fn do_process(full: &[u32], links: &[u16], area: &mut [u32], z: usize)
 {
     let e = pointer(area, CURRENT + z);
     do_event(full, links, area, z, e);
-    area[CURRENT + z] = next(links[4 * e]);
+    area[CURRENT + z] = linked(links[4 * e]);
 }
 
 // Carries out a choice that is allowed.

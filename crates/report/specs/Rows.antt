@@ -27,7 +27,7 @@ messageKey kept = bytesOf (pick kept keyKept keyOrphan)
 unfoldable pub wordsRow : List ℕ → ℕ → ℕ → ℕ → List ℕ
 wordsRow key w number phase = rowBytes key (w % 64) (bytesOf " to=") (w / 64 % 64) (bytesOf " no=") number (bytesOf " phase=") phase
 
--- the line of message i, from 0, after the first ones of a list in a run area
+-- the line of message i, from 0, after the first ones of a list of messages
 abbrev pub messageRow : List ℕ → List ℕ → ℕ → ℕ → List ℕ
 messageRow key run before i = wordsRow key (getD run (17 + (before + i)) 0) (getD run (2066 + (before + i)) 0) (getD run (4115 + (before + i)) 0)
 

@@ -81,7 +81,7 @@ fn put_message(out: &mut [u8], at: usize, kept: bool, w: u32, number: u32, phase
     writer::put_bytes(out, end, b"\n")
 }
 
-// A line for each of `count` messages, all kept or all orphans, of the list in the run area, after the first `before` of them.
+// A line for each of `count` messages, all kept or all orphans, of the list that `recovery::recover` left, after the first `before` of them.
 fn put_messages(
     out: &mut [u8],
     at: usize,

@@ -22,7 +22,7 @@ pub fn rest(set: u64) -> u64
     set & (set - 1)
 }
 
-// A set with process z; of a number past the last process, its place among 64.
+// A set with process z, which is taken modulo 64.
 pub fn with(set: u64, z: usize) -> u64
     ensures { λ r. ⌜ r ≡ withIn set z ⌝ }
 {

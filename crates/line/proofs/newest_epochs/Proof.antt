@@ -4,7 +4,8 @@ use Prim.Native.Nat.{ℕ, _-_, _≤_, _<_}
 use lib.ListN.{length, getD, length-set}
 use lib.Dec.{ltb}
 use Rattle.theory.specs.Lists.{pick}
-use Rattle.line.specs.Words.{epochAfter}
+use Rattle.protocol.specs.Columns.{epochBase}
+use Rattle.line.specs.Words.{afterW}
 use Rattle.line.proofs.Laws.{rule-next}
 use native.Mathlib.Omega.{arith}
 use borrow.Author.Needs.{needs}
@@ -13,7 +14,7 @@ use Rattle.line.proofs.newest_epochs.Tie as tie
 
 abbrev Inv-loop : tie.InvT-loop
 Inv-loop full latest count epochs₀ z₀ epochs z =
-    (z ≤ 64) × (length epochs ≡ length epochs₀) × ((k : ℕ) → k < z → getD epochs k 0 ≡ pick (ltb k count) (epochAfter full (getD latest k 0)) 0)
+    (z ≤ 64) × (length epochs ≡ length epochs₀) × ((k : ℕ) → k < z → getD epochs k 0 ≡ pick (ltb k count) (afterW full epochBase (getD latest k 0)) 0)
 
 abbrev μ-loop : tie.MeasureT-loop
 μ-loop full latest count epochs₀ z₀ epochs z =
@@ -23,17 +24,17 @@ loop-holds : tie.Need-loop-holds Inv-loop μ-loop
 loop-holds c =
     (omega arith, refl, λ k h. absurd (let y : ⊥ = omega arith in y))
 
-cast-epoch-after : tie.Need-cast-epoch-after Inv-loop μ-loop
-cast-epoch-after c =
+cast-after : tie.Need-cast-after Inv-loop μ-loop
+cast-after c =
     let pre = c .before .before .before .before .before .before .pre in
     let loop = c .before .before .loop in
     omega (arith, (pre .few) (loop .z) (omega arith))
 
-epoch-after-requires : tie.Need-epoch-after-requires Inv-loop μ-loop
-epoch-after-requires c κs =
+after-requires : tie.Need-after-requires Inv-loop μ-loop
+after-requires c κs =
     let pre = c .before .before .before .before .before .before .pre in
     let loop = c .before .before .loop in
-    ((pre .whole), (pre .few) (loop .z) (omega arith))
+    ((pre .whole), omega arith, (pre .few) (loop .z) (omega arith))
 
 slice-write-epochs : tie.Need-slice-write-epochs Inv-loop μ-loop
 slice-write-epochs c =
@@ -51,8 +52,8 @@ loop-again c =
     let pre = c .before .before .before .before .before .before .before .before .pre in
     let args = c .before .before .before .before .before .before .before .before .args in
     let or-zero = c .or-zero in
-    let epoch-after = c .before .epoch-after in
-    let l : (loop .z) < length (loop .epochs) = omega (arith, (loop .inv .1), (pre .long)) in (omega arith, simp length-set (loop .inv .1), rule-next (λ k. pick (ltb k (args .count)) (epochAfter (args .full .now) (getD (args .latest .now) k 0)) 0) (loop .epochs) _ _ l ((or-zero .ensures) ∙ rw (epoch-after .ensures)) (loop .inv .2))
+    let after = c .before .after in
+    let l : (loop .z) < length (loop .epochs) = omega (arith, (loop .inv .1), (pre .long)) in (omega arith, simp length-set (loop .inv .1), rule-next (λ k. pick (ltb k (args .count)) (afterW (args .full .now) epochBase (getD (args .latest .now) k 0)) 0) (loop .epochs) _ _ l ((or-zero .ensures) ∙ rw (after .ensures)) (loop .inv .2))
 
 same-length : tie.Need-same-length Inv-loop μ-loop
 same-length c =
@@ -67,4 +68,4 @@ returns c =
 pub newest-epochs-spec : {M : Type 1} → statement M
 newest-epochs-spec =
     tie.close
-    (tie.spec Inv-loop μ-loop loop-holds (λ c. search needs) (λ c. search needs) cast-epoch-after epoch-after-requires (λ c κs. search needs) (λ c. search needs) slice-write-epochs (λ c. search needs) loop-less loop-again same-length returns)
+    (tie.spec Inv-loop μ-loop loop-holds (λ c. search needs) (λ c. search needs) cast-after after-requires (λ c κs. search needs) (λ c. search needs) slice-write-epochs (λ c. search needs) loop-less loop-again same-length returns)

@@ -6,10 +6,10 @@ use Rattle.replay.proofs.do_process.Tie as tie
 
 returns : tie.Need-returns
 returns c =
-    let next = c .next in
+    let linked = c .linked in
     let pointer = c .before .before .before .before .before .before .pointer in
     let do-event = c .before .before .before .before .do-event in
-    rw (next .ensures) (process-done _ _ _ _ _ _ (pointer .ensures .0) (do-event .ensures))
+    rw (linked .ensures) (process-done _ _ _ _ _ _ (pointer .ensures .0) (do-event .ensures))
 
 pub do-process-spec : {M : Type 1} → statement M
 do-process-spec =

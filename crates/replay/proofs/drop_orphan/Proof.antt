@@ -12,10 +12,10 @@ lower-requires : tie.Need-lower-requires
 unfolding Small
 lower-requires c κs =
     let wide = c .before .wide in
-    let next = c .before .before .before .next in
+    let linked = c .before .before .before .linked in
     let pre = c .before .before .before .before .before .before .before .before .pre in
     let args = c .before .before .before .before .before .before .before .before .args in
-    (omega (arith, (wide .ensures), (next .ensures), (pre .2 .3) (4 * (args .e) + 2)), (pre .2 .0))
+    (omega (arith, (wide .ensures), (linked .ensures), (pre .2 .3) (4 * (args .e) + 2)), (pre .2 .0))
 
 lowest-phase-from-requires : tie.Need-lowest-phase-from-requires
 lowest-phase-from-requires c κs =
@@ -24,16 +24,16 @@ lowest-phase-from-requires c κs =
     let lower = c .before .lower in
     let wide = c .before .before .before .wide in
     let args = c .before .before .before .before .before .before .before .before .before .before .args in
-    let next = c .before .before .before .before .before .next in
+    let linked = c .before .before .before .before .before .linked in
     let low = (slice-known2 .given) 14467 in
-    ((pre .2 .1), (pre .2 .0), simp length-set (pre .2 .4), rw (next .ensures) (bounded-set _ _ _ _ (pre .2 .5) (pre .2 .3) (omega (arith, (pre .2 .4)))), rw ((lower .ensures), (wide .ensures)) (low-bound _ _ (args .z) _ (pre .0) (omega (arith, (pre .0), (pre .2 .4))) (omega (arith, low)) (pre .2 .6)))
+    ((pre .2 .1), (pre .2 .0), simp length-set (pre .2 .4), rw (linked .ensures) (bounded-set _ _ _ _ (pre .2 .5) (pre .2 .3) (omega (arith, (pre .2 .4)))), rw ((lower .ensures), (wide .ensures)) (low-bound _ _ (args .z) _ (pre .0) (omega (arith, (pre .0), (pre .2 .4))) (omega (arith, low)) (pre .2 .6)))
 
 returns : tie.Need-returns
 unfolding dropW
 returns c =
     let lowest-phase-from = c .lowest-phase-from in
-    let next = c .before .before .before .before .before .before .next in
-    rw ((lowest-phase-from .ensures), (next .ensures))
+    let linked = c .before .before .before .before .before .before .linked in
+    rw ((lowest-phase-from .ensures), (linked .ensures))
 
 pub drop-orphan-spec : {M : Type 1} → statement M
 drop-orphan-spec =

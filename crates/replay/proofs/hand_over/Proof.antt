@@ -1,6 +1,4 @@
 -- `replay::hand_over` meets its contract.
-use mathlib.Core.Path.{_≡_}
-use native.Mathlib.Omega.{arith}
 use borrow.Author.Needs.{needs}
 use Rattle.replay.proofs.hand_over.Statement.{statement}
 use Rattle.replay.proofs.hand_over.Tie as tie

@@ -7,9 +7,9 @@ use Rattle.replay.proofs.put_in.Tie as tie
 returns : tie.Need-returns
 unfolding putInW
 returns c =
-    let next = c .next in
+    let linked = c .linked in
     let pointer = c .before .before .pointer in
-    rw ((next .ensures), (pointer .ensures .0))
+    rw ((linked .ensures), (pointer .ensures .0))
 
 pub put-in-spec : {M : Type 1} → statement M
 put-in-spec =

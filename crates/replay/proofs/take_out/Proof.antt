@@ -15,9 +15,9 @@ slice-write-area-3 c = simp length-set (omega arith)
 returns : tie.Need-returns
 unfolding takeOutW
 returns c =
-    let next = c .before .before .next in
+    let linked = c .before .before .linked in
     let pointer = c .before .before .before .before .pointer in
-    rw ((next .ensures), (pointer .ensures .0))
+    rw ((linked .ensures), (pointer .ensures .0))
 
 pub take-out-spec : {M : Type 1} → statement M
 take-out-spec =

@@ -1,8 +1,8 @@
--- `line::epoch_after` meets its contract.
+-- `line::after` meets its contract.
 use borrow.Author.Tests.{eq-eqb, ne-eqb}
 use borrow.Author.Needs.{needs}
-use Rattle.line.proofs.epoch_after.Statement.{statement}
-use Rattle.line.proofs.epoch_after.Tie as tie
+use Rattle.line.proofs.after.Statement.{statement}
+use Rattle.line.proofs.after.Tie as tie
 
 returns : tie.Need-returns
 returns c =
@@ -16,6 +16,6 @@ returns-2 c =
     let if1 = c .before .if1 in
     rw (ne-eqb (args .e) 0 (if1 .left))
 
-pub epoch-after-spec : {M : Type 1} → statement M
-epoch-after-spec =
+pub after-spec : {M : Type 1} → statement M
+after-spec =
     tie.close (tie.spec returns (λ c. search needs) (λ c. search needs) (λ c. search needs) returns-2)
