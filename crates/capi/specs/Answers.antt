@@ -6,7 +6,7 @@ use Rattle.words.specs.Area.{wordsFrom}
 use Rattle.theory.specs.Lists.{pick}
 use Rattle.reader.specs.declared.Answer.{Answer}
 use Rattle.reader.specs.declared.FailureAnswer.{FailureAnswer}
-use Rattle.line.specs.declared.Line.{Line}
+use Rattle.recovery_line.specs.declared.Line.{Line}
 use Rattle.replay.specs.declared.Replayed.{Replayed}
 use Rattle.theory.specs.Order.{lowestOrder}
 use Rattle.recovery.specs.Answers.{runOf, replayAnswer, replayArea}

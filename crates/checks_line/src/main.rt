@@ -6,8 +6,8 @@
 // of it differs; the file `stdout` has 0. Proved safe and ending. Assumes what `libc` assumes.
 ghost use Prim.Native.Nat.{_≤_, _<_};
 ghost use lib.ListN.{length};
-use line::Line;
 use recovery::Restarted;
+use recovery_line::Line;
 use replay::Replayed;
 
 // Kinds of an event.

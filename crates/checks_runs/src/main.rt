@@ -7,8 +7,8 @@
 // safe and ending; what is printed no contract can say. Assumes what `libc` assumes.
 ghost use Prim.Native.Nat.{_+_, _≤_};
 ghost use lib.ListN.{length};
-use line::Line;
-use line::STAYS;
+use recovery_line::Line;
+use recovery_line::STAYS;
 use words::AREA_WORDS;
 
 // The place of the next byte `-` at or after a place, or the end.

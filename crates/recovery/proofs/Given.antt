@@ -19,7 +19,8 @@ use Rattle.theory.proofs.Refusals.{failure-fit}
 use Rattle.theory.proofs.WellFormed.{valid}
 use Rattle.protocol.specs.Columns.{Columns}
 use Rattle.protocol.proofs.Passes.{held-formed}
-use Rattle.line.specs.Given.{Tabled, gateWord}
+use Rattle.recovery_line.specs.Given.{Tabled}
+use Rattle.gates.specs.Gates.{gateWord}
 use Rattle.replay.specs.Given.{Given}
 use Rattle.recovery.specs.Prepared.{Filled}
 

@@ -14,10 +14,9 @@ use Rattle.theory.specs.Line.{Run, recorded}
 use Rattle.theory.specs.Order.{Outcome, carriedOut, refused}
 use Rattle.theory.proofs.WellFormed.{valid}
 use Rattle.protocol.proofs.Passes.{well-few}
-use Rattle.classes.specs.Listing.{listWord}
-use Rattle.classes.specs.Listing.{Given as Listable}
+use Rattle.classes.specs.Listing.{listWord, Given as Listable}
 use Rattle.classes.proofs.Whole.{rows-few}
-use Rattle.line.specs.declared.Line.{Line}
+use Rattle.recovery_line.specs.declared.Line.{Line}
 use Rattle.simulation.specs.Related.{recordEnd}
 use Rattle.simulation.specs.Record.{recordAt}
 use Rattle.replay.specs.Answer.{wordsOf}

@@ -14,8 +14,8 @@ use Rattle.theory.specs.Epochs.{past}
 use Rattle.theory.specs.Line.{inSet, reached}
 use Rattle.theory.specs.Refusals.{failureFault, permits, lineFault}
 use Rattle.protocol.proofs.Passes.{held-long}
-use Rattle.line.specs.declared.Line.{Line}
-use Rattle.line.specs.Given.{lineIn}
+use Rattle.recovery_line.specs.declared.Line.{Line}
+use Rattle.recovery_line.specs.Given.{lineIn}
 use Rattle.recovery.specs.Answers.{faultOf}
 use Rattle.recovery.specs.Prepared.{failureFaultIn}
 use Rattle.recovery.specs.Restart.{failureFaultOf}

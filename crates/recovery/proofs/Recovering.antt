@@ -8,7 +8,7 @@ use Rattle.words.proofs.Cases.{by-lt}
 use Rattle.table.specs.Held.{held}
 use Rattle.theory.specs.Order.{lowestOrder}
 use Rattle.protocol.proofs.Passes.{held-long}
-use Rattle.line.specs.declared.Line.{Line}
+use Rattle.recovery_line.specs.declared.Line.{Line}
 use Rattle.recovery.specs.declared.Recovered.{Recovered}
 use Rattle.recovery.specs.Answers.{runOf, replayAnswer}
 use Rattle.recovery.specs.Messages.{messagesAnswer, messagesArea}

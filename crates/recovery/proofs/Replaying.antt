@@ -18,8 +18,8 @@ use Rattle.theory.proofs.Epochs.{laws}
 use Rattle.theory.proofs.Orders.{complete-iff}
 use Rattle.theory.proofs.Lowest.{lowest-order}
 use Rattle.protocol.proofs.Passes.{held-valid, held-few}
-use Rattle.line.specs.declared.Line.{Line}
-use Rattle.line.specs.Given.{lineIn}
+use Rattle.recovery_line.specs.declared.Line.{Line}
+use Rattle.recovery_line.specs.Given.{lineIn}
 use Rattle.simulation.specs.Record.{recordAt}
 use Rattle.simulation.proofs.Records.{complete-record}
 use Rattle.replay.specs.declared.Replayed.{Replayed}

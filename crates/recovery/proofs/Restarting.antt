@@ -18,8 +18,8 @@ use Rattle.theory.specs.Refusals.{failureFault}
 use Rattle.theory.proofs.Claims.{floor-failed}
 use Rattle.theory.proofs.Refusals.{failure-fit, line-fit}
 use Rattle.theory.proofs.WellFormed.{valid}
-use Rattle.line.specs.declared.Line.{Line}
-use Rattle.line.specs.Given.{Tabled, lineIn, lineTo, restartPhaseIn, numbersOf, backOf, backOnes}
+use Rattle.recovery_line.specs.declared.Line.{Line}
+use Rattle.recovery_line.specs.Given.{Tabled, lineIn, lineTo, restartPhaseIn, numbersOf, backOf, backOnes}
 use Rattle.recovery.specs.declared.Restarted.{Restarted}
 use Rattle.recovery.specs.Answers.{faultOf}
 use Rattle.recovery.specs.Restart.{failureFaultOf, engineLine, ofEach, restartBy, restartOf, restartRefusal, restartAnswer, Restarts}

@@ -15,8 +15,8 @@ use Rattle.theory.specs.Epochs.{past}
 use Rattle.theory.specs.Line.{Run, recorded, LossFree}
 use Rattle.theory.specs.Order.{run, steps, lowestOrder}
 use Rattle.theory.specs.Refusals.{lineFault}
-use Rattle.line.specs.declared.Line.{Line}
-use Rattle.line.specs.Given.{lineIn}
+use Rattle.recovery_line.specs.declared.Line.{Line}
+use Rattle.recovery_line.specs.Given.{lineIn}
 use Rattle.simulation.specs.Record.{faultlessAt}
 use Rattle.replay.specs.declared.Replayed.{Replayed}
 use Rattle.replay.specs.Answer.{answerOf, wordsOf}

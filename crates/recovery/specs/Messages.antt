@@ -8,7 +8,7 @@ use Rattle.theory.specs.Lists.{pick}
 use Rattle.theory.specs.Line.{Run}
 use Rattle.theory.specs.Answers.{orphans, keptOnes, lostOnes}
 use Rattle.classes.specs.Listing.{listWord}
-use Rattle.line.specs.declared.Line.{Line}
+use Rattle.recovery_line.specs.declared.Line.{Line}
 use Rattle.recovery.specs.declared.Counted.{Counted}
 use Rattle.recovery.specs.Answers.{runOf, faultOf}
 

@@ -14,8 +14,8 @@ use Rattle.theory.specs.Line.{Run, recorded}
 use Rattle.theory.specs.Order.{run, lowestOrder}
 use Rattle.theory.specs.Refusals.{failureFault}
 use Rattle.classes.specs.Listing.{listWord}
-use Rattle.line.specs.declared.Line.{Line}
-use Rattle.line.specs.Given.{Tabled, lineIn}
+use Rattle.recovery_line.specs.declared.Line.{Line}
+use Rattle.recovery_line.specs.Given.{Tabled, lineIn}
 use Rattle.replay.specs.Answer.{answerOf}
 use Rattle.replay.specs.Given.{Given}
 use Rattle.recovery.specs.declared.Recovered.{Recovered}

@@ -14,8 +14,8 @@ use Rattle.theory.specs.Lists.{pick}
 use Rattle.theory.specs.Epochs.{past}
 use Rattle.theory.specs.Line.{inSet, staysIn, current, reached, Greatest, greatestLine}
 use Rattle.theory.specs.Refusals.{failureFault}
-use Rattle.line.specs.declared.Line.{Line}
-use Rattle.line.specs.Given.{each, lineIn, lineTo, restartPhaseIn, numbersOf, backOf, backOnes}
+use Rattle.recovery_line.specs.declared.Line.{Line}
+use Rattle.recovery_line.specs.Given.{each, lineIn, lineTo, restartPhaseIn, numbersOf, backOf, backOnes}
 use Rattle.recovery.specs.declared.Restarted.{Restarted}
 
 -- what is wrong with the table area and the failure: 12, 13, 8, 9, or 0

@@ -11,14 +11,14 @@ ghost use Rattle.theory.specs.Epochs.{past};
 ghost use Rattle.theory.specs.Line.{recorded};
 ghost use Rattle.theory.specs.Order.{lowestOrder};
 ghost use Rattle.classes.specs.Listing.{listWord};
-ghost use Rattle.line.specs.Given.{Tabled};
+ghost use Rattle.recovery_line.specs.Given.{Tabled};
 ghost use Rattle.replay.specs.Given.{Given};
 ghost use Rattle.recovery.specs.Answers.{runOf, faultOf, refusal, replayAnswer, replayArea, Equal, Completed};
 ghost use Rattle.recovery.specs.Prepared.{failureFaultIn, Filled, Prepared, Recovering};
 ghost use Rattle.recovery.specs.Messages.{countsOf, messagesRefusal, messagesAnswer, messagesArea};
 ghost use Rattle.recovery.specs.Recover.{recoverRefusal, Succeeds};
 ghost use Rattle.recovery.specs.Restart.{restartRefusal, restartOf, restartAnswer, Restarts};
-use line::Line;
+use recovery_line::Line;
 use replay::Replayed;
 use words::AREA_WORDS;
 
@@ -46,7 +46,7 @@ fn fill_table(table: &[u32], room: usize, step: u64, set: u64, full: &mut [u32])
         return 12;
     }
     if protocol::tabulate(table, full) {
-        line::failure_fault(full, step, set)
+        faults::failure_fault(full, step, set)
     } else {
         13
     }
@@ -70,9 +70,9 @@ fn prepare(
     if failure != 0 {
         return failure;
     }
-    let fault = line::line_fault(full, step, set, line);
+    let fault = faults::line_fault(full, step, set, line);
     if fault == 0 {
-        line::gates(full, line, step as usize, gates);
+        gates::gates(full, line, step as usize, gates);
     }
     fault
 }
@@ -91,7 +91,7 @@ pub fn replay(
     ensures equal { λ r. ⌜ Equal (now (table .entry)) step line r (now (area .exit)) ⌝ }
 {
     let mut full = [0u32; AREA_WORDS];
-    let mut gates = [0u32; line::GATE_WORDS];
+    let mut gates = [0u32; gates::GATE_WORDS];
     let fault = prepare(table, area.len(), step, set, line, &mut full, &mut gates);
     if fault != 0 {
         return refused(fault);
@@ -107,7 +107,7 @@ pub fn lowest(table: &[u32], step: u64, set: u64, line: Line, area: &mut [u32]) 
     ensures completed { λ r. ⌜ Completed (now (table .entry)) (length (now (area .entry))) step set line r ⌝ }
 {
     let mut full = [0u32; AREA_WORDS];
-    let mut gates = [0u32; line::GATE_WORDS];
+    let mut gates = [0u32; gates::GATE_WORDS];
     let fault = prepare(table, area.len(), step, set, line, &mut full, &mut gates);
     if fault != 0 {
         return refused(fault);
@@ -163,7 +163,7 @@ pub fn messages(table: &[u32], step: u64, set: u64, line: Line, area: &mut [u32]
     ensures few { λ r. ⌜ r .orphans + (r .kept + r .lost) ≤ 2048 ⌝ }
 {
     let mut full = [0u32; AREA_WORDS];
-    let mut gates = [0u32; line::GATE_WORDS];
+    let mut gates = [0u32; gates::GATE_WORDS];
     let fault = prepare(table, area.len(), step, set, line, &mut full, &mut gates);
     if fault != 0 {
         return no_messages(fault);
@@ -209,13 +209,13 @@ fn restart_from(full: &[u32], cut: usize, set: u64) -> Restarted
 {
     let mut epochs = [0u32; 64];
     let mut phases = [0u32; 64];
-    let line = line::greatest(full, cut, set, &mut epochs, &mut phases);
+    let line = greatest::greatest(full, cut, set, &mut epochs, &mut phases);
     Restarted {
         number: 0,
         place: 0,
         line: line,
-        going: line::back_set(line),
-        back: line::back(line),
+        going: recovery_line::back_set(line),
+        back: recovery_line::back(line),
         epochs: epochs,
         phases: phases,
     }
@@ -260,8 +260,8 @@ fn recover_from(full: &[u32], cut: usize, set: u64, area: &mut [u32]) -> Recover
     ensures { λ r. ⌜ ((t : Trace) → Tabled t (now (full .entry)) → cut ≤ size t → Recovering t cut set r (now (area .exit))) ⌝ }
 {
     let restarted = restart_from(full, cut, set);
-    let mut gates = [0u32; line::GATE_WORDS];
-    line::gates(full, restarted.line, cut, &mut gates);
+    let mut gates = [0u32; gates::GATE_WORDS];
+    gates::gates(full, restarted.line, cut, &mut gates);
     let replayed = replay::lowest(full, &gates, area, cut);
     words::zero(&mut area[..RECORD_WORDS]);
     let counted = list_from(full, &gates, cut, area);

@@ -21,8 +21,8 @@ use Rattle.theory.specs.Answers.{lineOf, gather, orphans, keptOnes, lostOnes}
 use Rattle.theory.proofs.WellFormed.{valid}
 use Rattle.protocol.proofs.Passes.{held-formed}
 use Rattle.classes.proofs.Channels.{gather-cong}
-use Rattle.line.specs.declared.Line.{Line}
-use Rattle.line.specs.Given.{each, lineIn, lineTo, numbersOf, backOnes}
+use Rattle.recovery_line.specs.declared.Line.{Line}
+use Rattle.recovery_line.specs.Given.{each, lineIn, lineTo, numbersOf, backOnes}
 use Rattle.classes.specs.Listing.{listWord}
 use Rattle.recovery.specs.declared.Restarted.{Restarted}
 use Rattle.recovery.specs.declared.Counted.{Counted}

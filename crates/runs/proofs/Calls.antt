@@ -15,8 +15,7 @@ use Rattle.words.proofs.Cases.{by-lt}
 use Rattle.trace.specs.Trace.{Trace}
 use Rattle.reader.specs.Verdict.{Verdict, accepted, verdict}
 use Rattle.reader.specs.Answer.{readAnswer, readArea}
-use Rattle.reader.specs.Failure.{Failing, failureAnswer, failureArea}
-use Rattle.reader.specs.Failure.{failureOf as lastFailure}
+use Rattle.reader.specs.Failure.{Failing, failureAnswer, failureArea, failureOf as lastFailure}
 use Rattle.table.specs.Held.{held, holdsTrace, heldTrace}
 use Rattle.table.proofs.Holding.{told}
 use Rattle.table.proofs.Claims.{read-held, failing-held}
@@ -33,15 +32,14 @@ use Rattle.theory.proofs.Epochs.{laws}
 use Rattle.theory.proofs.Refusals.{failure-fit, line-fit}
 use Rattle.protocol.proofs.Passes.{held-long, held-formed, held-valid}
 use Rattle.classes.specs.Listing.{Row, rowOf, rowsOf, listWord}
-use Rattle.line.specs.declared.Line.{Line}
-use Rattle.line.specs.Given.{lineIn, numbersOf}
+use Rattle.recovery_line.specs.declared.Line.{Line}
+use Rattle.recovery_line.specs.Given.{lineIn, numbersOf}
 use Rattle.simulation.specs.Record.{faultlessAt}
 use Rattle.replay.specs.declared.Replayed.{Replayed}
 use Rattle.replay.specs.Answer.{answerOf, wordsOf}
 use Rattle.recovery.specs.declared.Counted.{Counted}
 use Rattle.recovery.specs.declared.Restarted.{Restarted}
-use Rattle.recovery.specs.Answers.{faultOf, replayAnswer, replayArea, Completed}
-use Rattle.recovery.specs.Answers.{runOf as codeRun}
+use Rattle.recovery.specs.Answers.{faultOf, replayAnswer, replayArea, Completed, runOf as codeRun}
 use Rattle.recovery.specs.Messages.{countsOf}
 use Rattle.recovery.specs.Restart.{failureFaultOf, restartOf, restartRefusal, restartAnswer}
 use Rattle.recovery.proofs.Listing.{Listed as Messages, counts-are, listed-at}

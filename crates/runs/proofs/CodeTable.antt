@@ -8,10 +8,9 @@ use native.Mathlib.Omega.{arith}
 use lib.ListN.{length}
 use Rattle.words.specs.Area.{areaWords}
 use Rattle.reader.specs.Answer.{readAnswer, readArea}
-use Rattle.reader.specs.Failure.{Failing, failureAnswer, failureArea}
-use Rattle.reader.specs.Failure.{failureOf as lastFailure}
+use Rattle.reader.specs.Failure.{Failing, failureAnswer, failureArea, failureOf as lastFailure}
 use Rattle.theory.proofs.Runs.{opens}
-use Rattle.line.specs.Given.{numbersOf}
+use Rattle.recovery_line.specs.Given.{numbersOf}
 use Rattle.recovery.specs.declared.Restarted.{Restarted}
 use Rattle.recovery.proofs.Restarting.{Answered as Restart}
 use Rattle.writer.specs.Buffer.{room, written}
@@ -19,8 +18,7 @@ use Rattle.report.specs.Bytes.{linesOf}
 use Rattle.report.specs.Report.{printed}
 use Rattle.runs.specs.Texts.{linesH, linesL, linesS, linesT, linesFirst, failing, textH}
 use Rattle.runs.proofs.Table.{reads, message, traceH, traceL, traceS, traceT, printed1, recovery1, recovery4, recovery5, recovery7, recovery8, recovery9, recovery10, table}
-use Rattle.runs.proofs.Calls.{cleared, Accepts, Reads, OnTable, Recovers, Refuses, Loses, Completes, Stops, accepts, read-refused, failure-refused, recovers, refuses, loses, completes, stops}
-use Rattle.runs.proofs.Calls.{reads as reads-failure}
+use Rattle.runs.proofs.Calls.{cleared, Accepts, Reads, OnTable, Recovers, Refuses, Loses, Completes, Stops, accepts, read-refused, failure-refused, recovers, refuses, loses, completes, stops, reads as reads-failure}
 
 -- `report` writes these lines: into a buffer `out`, which it leaves as `after`, and it answers n
 abbrev pub Prints : List ℕ → List String → Type 0

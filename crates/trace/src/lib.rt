@@ -2,7 +2,7 @@
 // traces are well formed), Table (the words of the table area that hold a trace) and Tally (counters that events are judged by).
 // Assumes nothing.
 ghost use mathlib.Core.List.{List};
-ghost use Prim.Native.Nat.{ℕ, _+_, _-_, _*_, _≤_, _<_};
+ghost use Prim.Native.Nat.{ℕ, _+_, _-_, _*_, _/_, _%_, _≤_, _<_};
 ghost use lib.ListN.{length, getD, set};
 ghost use Rattle.trace.specs.declared.Event.the-variants.{Send, Recv, Save};
 ghost use Rattle.trace.specs.Tally.{faultBy, tallied, Next};
@@ -41,6 +41,27 @@ pub fn value(e: Event) -> u32
         Event::Recv { at: _, from: _ } => 0,
         Event::Save { at: _ } => 0,
     }
+}
+
+// The kind that an event's word in the table area has: 1 send, 2 receive, 3 checkpoint.
+pub fn kind(w: u32) -> u32
+    ensures { λ r. ⌜ r ≡ w / 4096 % 4 ⌝ }
+{
+    w / 4096 % 4
+}
+
+// The process at which it happens.
+pub fn process(w: u32) -> usize
+    ensures { λ r. ⌜ (r ≡ w % 64) × (r < 64) ⌝ }
+{
+    (w % 64) as usize
+}
+
+// The other process: the receiver of a send, the sender of a receive.
+pub fn peer(w: u32) -> usize
+    ensures { λ r. ⌜ (r ≡ w / 64 % 64) × (r < 64) ⌝ }
+{
+    (w / 64 % 64) as usize
 }
 
 // How many counters there are: messages in transit, a word for each channel, then checkpoints, a word for each process. Counters have 16

@@ -4,7 +4,7 @@ use mathlib.Core.List.{List}
 use Prim.Native.Nat.{ℕ, _-_, _≤_, _<_}
 use lib.ListN.{length, getD, length-set, length-replicate}
 use Rattle.words.proofs.Area.{words-ext}
-use Rattle.line.proofs.Laws.{rule-next}
+use Rattle.recovery_line.proofs.Loops.{rule-next}
 use native.Mathlib.Omega.{arith}
 use borrow.Author.Needs.{needs}
 use Rattle.capi.proofs.line_from.Statement.{statement}

@@ -4,7 +4,7 @@ use lib.Seq.{length-take-le}
 use Rattle.words.specs.Area.{areaWords}
 use Rattle.table.specs.Held.{held}
 use Rattle.theory.specs.Order.{lowestOrder}
-use Rattle.line.specs.Given.{lineIn}
+use Rattle.recovery_line.specs.Given.{lineIn}
 use Rattle.recovery.specs.Answers.{runOf}
 use Rattle.recovery.proofs.Replaying.{refuses, not-completed, carried, completed}
 use borrow.Author.Needs.{needs}

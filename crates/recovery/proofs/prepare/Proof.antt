@@ -2,7 +2,7 @@
 use mathlib.Core.Path.{sym, _∙_}
 use Rattle.table.specs.Held.{held}
 use Rattle.theory.proofs.Refusals.{line-fit}
-use Rattle.line.specs.Given.{lineIn}
+use Rattle.recovery_line.specs.Given.{lineIn}
 use Rattle.recovery.proofs.Given.{given}
 use Rattle.recovery.proofs.Preparing.{failure-first, line-number}
 use borrow.Author.Needs.{needs}

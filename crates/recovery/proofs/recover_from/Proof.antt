@@ -4,7 +4,7 @@ use native.Mathlib.Omega.{arith}
 use lib.Seq.{length-take-le}
 use Rattle.theory.specs.Epochs.{past}
 use Rattle.theory.specs.Line.{recorded}
-use Rattle.line.specs.Given.{lineIn}
+use Rattle.recovery_line.specs.Given.{lineIn}
 use Rattle.recovery.proofs.Given.{given}
 use Rattle.recovery.proofs.Listing.{record-cleared}
 use Rattle.recovery.proofs.Restarting.{count-in}

@@ -3,7 +3,7 @@ use mathlib.Core.Path.{sym}
 use lib.Seq.{length-take-le}
 use Rattle.words.specs.Area.{areaWords}
 use Rattle.table.specs.Held.{held}
-use Rattle.line.specs.Given.{lineIn}
+use Rattle.recovery_line.specs.Given.{lineIn}
 use Rattle.recovery.proofs.Replaying.{refuses, carried}
 use borrow.Author.Needs.{needs}
 use Rattle.recovery.proofs.replay.Statement.{statement}

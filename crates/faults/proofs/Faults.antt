@@ -1,0 +1,151 @@
+-- The numbers 8, 9 and 10 by the words of the table and of the line.
+use mathlib.Core.Path.{_≡_, refl, sym, _∙_, ap, ap₂}
+use mathlib.Core.Bool.{Bool, true, false, _&&_, _||_, not}
+use mathlib.Core.List.{List}
+use Prim.Native.Nat.{ℕ, zero, suc, _+_, _/_, _%_, _^_, _≤_, _<_}
+use native.Mathlib.Omega.{arith}
+use native.Mathlib.Numerals.{add-one}
+use lib.ListN.{getD}
+use lib.Dec.{leb, ltb, eqb}
+use borrow.Author.Tests.{lt-ltb, le-ltb, le-leb, lt-leb, eq-eqb, ne-eqb}
+use Rattle.words.specs.Area.{wordsFrom}
+use Rattle.words.proofs.Area.{getD-words}
+use Rattle.words.proofs.Cases.{by-bool}
+use Rattle.trace.specs.Trace.{Trace}
+use Rattle.trace.specs.Fit.{orElse}
+use Rattle.theory.specs.Lists.{all-below}
+use Rattle.theory.specs.Events.{size}
+use Rattle.theory.specs.Epochs.{past}
+use Rattle.theory.specs.Line.{inSet, may, current, reached}
+use Rattle.theory.specs.Refusals.{failureFault, permits, lineFault}
+use Rattle.theory.proofs.Refusals.{set-shifted}
+use Rattle.recovery_line.specs.Given.{Tabled, each}
+use Rattle.faults.specs.Permitted.{reachedW, mayStayW, mayW}
+use Rattle.recovery_line.proofs.Table.{fit, procs-is, size-is}
+
+-- ---- `names_beyond`, `has_reached`, `may_stay`, `may_hold`
+
+pub beyond-none : (set count : ℕ) → count ≡ 64 → set < 18446744073709551616 → false ≡ leb (2 ^ count) set
+beyond-none set count e h = rw e (sym (lt-leb (2 ^ 64) set h))
+
+pub beyond-some : (set count : ℕ) → not (eqb (set / 2 ^ count) 0) ≡ leb (2 ^ count) set
+beyond-some set count = sym (set-shifted count set)
+
+pub reached-none : (epoch n : ℕ) → n < 1 → false ≡ reachedW epoch n
+reached-none epoch n h = rw (lt-leb 1 n h)
+
+pub reached-some : (epoch n : ℕ) → 1 ≤ n → leb n epoch ≡ reachedW epoch n
+reached-some epoch n h = rw (le-leb 1 n h)
+
+pub stay-not : (failed z n : ℕ) → (n ≡ 32 → ⊥) → false ≡ mayStayW failed z n
+stay-not failed z n h = rw (ne-eqb n 32 h)
+
+pub stay-may : (failed z n : ℕ) → n ≡ 32 → not (eqb (failed / 2 ^ z % 2) 1) ≡ mayStayW failed z n
+stay-may failed z n h = rw (eq-eqb n 32 h)
+
+module _ (failed : ℕ) (epochs numbers : List ℕ) (z : ℕ) (r : Bool) (er : r ≡ reachedW (getD epochs z 0) (getD numbers z 0)) where
+  pub holds-reached : r ≡ true → true ≡ mayW failed epochs numbers z
+  holds-reached h = let a : reachedW (getD epochs z 0) (getD numbers z 0) ≡ true = sym er ∙ h in rw a
+
+  pub holds-stay : (s : Bool) → r ≡ false → s ≡ mayStayW failed z (getD numbers z 0) → s ≡ mayW failed epochs numbers z
+  holds-stay s h e = let a : reachedW (getD epochs z 0) (getD numbers z 0) ≡ false = sym er ∙ h in rw a e
+
+-- ---- `permitted`
+
+pub all-none : (f : ℕ → Bool) → true ≡ all-below 0 f
+unfolding all-below
+all-none f = refl
+
+pub all-next : (f : ℕ → Bool) (z : ℕ) (one all r : Bool) → one ≡ f z → all ≡ all-below z f → r ≡ (one && all) → r ≡ all-below (z + 1) f
+unfolding all-below
+all-next f z one all r a b e = e ∙ ap₂ (λ (x y : Bool). x && y) a b ∙ rw (add-one z)
+
+-- ---- `failure_fault`
+
+module _ (t : Trace) (full : List ℕ) (G : Tabled t full) (step set : ℕ) where
+  pub fault-8 : getD full 1 0 < step → 8 ≡ failureFault t step set
+  unfolding failureFault
+  fault-8 h = let s : ltb (size t) step ≡ true = lt-ltb (size t) step (omega (arith, size-is t full G)) in rw s
+
+  module _ (h : step ≤ getD full 1 0) where
+    in-time : ltb (size t) step ≡ false
+    in-time = le-ltb (size t) step (omega (arith, size-is t full G))
+
+    pub fault-empty : set ≡ 0 → 9 ≡ failureFault t step set
+    unfolding failureFault
+    fault-empty e = rw (in-time, eq-eqb set 0 e)
+
+    module _ (n : set ≡ 0 → ⊥) (count : ℕ) (ec : count ≡ getD full 0 0) (r : Bool) (er : r ≡ leb (2 ^ count) set) where
+      beyond : leb (2 ^ (t .procs)) set ≡ r
+      beyond = ap (λ (c : ℕ). leb (2 ^ c) set) (sym (ec ∙ procs-is t full G)) ∙ sym er
+
+      pub fault-beyond : r ≡ true → 9 ≡ failureFault t step set
+      unfolding failureFault
+      fault-beyond q = rw (in-time, ne-eqb set 0 n, beyond, q)
+
+      pub fault-none : r ≡ false → 0 ≡ failureFault t step set
+      unfolding failureFault
+      fault-none q = rw (in-time, ne-eqb set 0 n, beyond, q)
+
+-- ---- `line_fault`
+
+all-same : (n : ℕ) (f g : ℕ → Bool) → ((z : ℕ) → z < n → f z ≡ g z) → all-below n f ≡ all-below n g
+unfolding all-below
+all-same zero f g h = refl
+all-same (suc n) f g h = ap₂ (λ (x y : Bool). x && y) (h n (omega arith)) (all-same n f g (λ z l. h z (omega arith)))
+
+module _ (t : Trace) (full : List ℕ) (G : Tabled t full) (step set : ℕ) (n : ℕ) (line : ℕ → ℕ) (f : ℕ) (ef : f ≡ failureFault t step set) where
+  -- what is wrong with the failure comes first
+  pub fault-first : (f ≡ 0 → ⊥) → f ≡ lineFault t step set n line
+  unfolding failureFault lineFault
+  fault-first h =
+      by-bool (ltb (size t) step)
+      (λ a. ef ∙ rw a)
+      (λ a. by-bool (eqb set 0 || leb (2 ^ (t .procs)) set)
+      (λ b. ef ∙ rw (a, b))
+      (λ b. absurd (h (ef ∙ rw (a, b)))))
+
+  module _ (z : f ≡ 0) (count : ℕ) (ec : count ≡ getD full 0 0) where
+    rest : ℕ
+    rest = orElse (not (eqb n (t .procs) && permits t (reached t past step) (inSet set) line)) 10 0
+
+    fault-rest : rest ≡ lineFault t step set n line
+    unfolding failureFault lineFault rest
+    fault-rest =
+        by-bool (ltb (size t) step)
+        (λ a. let c : _≡_ {A = ℕ} 8 0 = sym (ef ∙ rw a) ∙ z in absurd (let y : ⊥ = omega arith in y))
+        (λ a. by-bool (eqb set 0 || leb (2 ^ (t .procs)) set)
+        (λ b. let c : _≡_ {A = ℕ} 9 0 = sym (ef ∙ rw (a, b)) ∙ z in absurd (let y : ⊥ = omega arith in y))
+        (λ b. rw (a, b)))
+
+    pub fault-count : (n ≡ count → ⊥) → 10 ≡ lineFault t step set n line
+    unfolding rest
+    fault-count h =
+        let s : eqb n (t .procs) ≡ false = ne-eqb n (t .procs) (λ q. h (q ∙ sym (ec ∙ procs-is t full G))) in
+        (let w : 10 ≡ rest = rw s in w) ∙ fault-rest
+
+    module _ (en : n ≡ count) (epochs numbers : List ℕ) (ee : epochs ≡ wordsFrom (each t (current t past step)) 0 64)
+        (ln : (z : ℕ) → z < t .procs → line z ≡ getD numbers z 0) (r : Bool) (er : r ≡ all-below count (mayW set epochs numbers)) where
+      n-is : eqb n (t .procs) ≡ true
+      n-is = eq-eqb n (t .procs) (en ∙ ec ∙ procs-is t full G)
+
+      epoch-at : (z : ℕ) → z < t .procs → getD epochs z 0 ≡ current t past step z
+      epoch-at z l =
+          let s : ltb (0 + z) (t .procs) ≡ true = lt-ltb (0 + z) (t .procs) (omega arith) in
+          let e : 0 + z ≡ z = omega arith in
+          ap (λ (x : List ℕ). getD x z 0) ee ∙ getD-words (each t (current t past step)) 0 64 z (omega (arith, fit t full G .few))
+          ∙ rw s (ap (current t past step) e)
+
+      permits-is : permits t (reached t past step) (inSet set) line ≡ r
+      unfolding permits
+      permits-is =
+          all-same (t .procs) (λ z. may (reached t past step) (inSet set) z (line z)) (mayW set epochs numbers) (λ z l. rw (ln z l, epoch-at z l))
+          ∙ ap (λ (c : ℕ). all-below c (mayW set epochs numbers)) (sym (ec ∙ procs-is t full G)) ∙ sym er
+
+      pub fault-fit : r ≡ true → 0 ≡ lineFault t step set n line
+      unfolding rest
+      fault-fit q = (let w : 0 ≡ rest = rw (n-is, permits-is, q) in w) ∙ fault-rest
+
+      pub fault-10 : r ≡ false → 10 ≡ lineFault t step set n line
+      unfolding rest
+      fault-10 q = (let w : 10 ≡ rest = rw (n-is, permits-is, q) in w) ∙ fault-rest

@@ -1,0 +1,151 @@
+// What is wrong with a failure and a line, from the full table of a trace: 8, 9, 10, or 0. The contracts are the theory's definitions, for every
+// trace that the table is of. Assumes nothing.
+ghost use mathlib.Core.Path.{_≡_};
+ghost use mathlib.Core.Bool.{_&&_};
+ghost use lib.Dec.{leb};
+ghost use Prim.Native.Nat.{_^_, _≤_, _<_};
+ghost use lib.ListN.{length, getD, set};
+ghost use Rattle.words.specs.Area.{wordsFrom};
+ghost use Rattle.trace.specs.Trace.{Trace};
+ghost use Rattle.theory.specs.Lists.{all-below};
+ghost use Rattle.theory.specs.Refusals.{failureFault, lineFault};
+ghost use Rattle.theory.specs.Events.{size};
+ghost use Rattle.theory.specs.Epochs.{past};
+ghost use Rattle.theory.specs.Line.{current};
+ghost use Rattle.recovery_line.specs.Given.{Tabled, each, lineIn};
+ghost use Rattle.faults.specs.Permitted.{Begun, reachedW, mayStayW, mayW};
+use protocol::EPOCH_BASE;
+use recovery_line::Line;
+use recovery_line::STAYS;
+use trace::EVENT_BASE;
+
+// Every process begins in epoch 1; places past the last are 0.
+fn begin(epochs: &mut [u32], count: usize)
+    requires { ⌜ length (now epochs) ≡ 64 ⌝ }
+    ensures { λ _. ⌜ Begun count (now (epochs .exit)) ⌝ }
+{
+    let mut z = 0;
+    while z < 64 {
+        epochs[z] = recovery_line::one_if(z < count);
+        z += 1;
+    }
+}
+
+// The epochs of the processes at the cut.
+fn epochs_at(full: &[u32], cut: usize, epochs: &mut [u32])
+    requires { ⌜ (length (now epochs) ≡ 64) × ((t : Trace) × Tabled t (now full) × (cut ≤ size t)) ⌝ }
+    ensures { λ _. ⌜ ((t : Trace) → Tabled t (now (full .entry)) → cut ≤ size t → now (epochs .exit) ≡ wordsFrom (each t (current t past cut)) 0 64) ⌝ }
+{
+    begin(epochs, recovery_line::processes(full));
+    let mut e: usize = 0;
+    while e < cut {
+        e += 1;
+        let z = trace::process(full[EVENT_BASE + e]);
+        epochs[z] = full[EPOCH_BASE + e];
+    }
+}
+
+// Does a set name a process that is none of the first `count`.
+fn names_beyond(set: u64, count: usize) -> bool
+    requires { ⌜ count ≤ 64 ⌝ }
+    ensures { λ r. ⌜ r ≡ leb (2 ^ count) set ⌝ }
+{
+    if count == 64 {
+        return false;
+    }
+    (set >> (count as u32)) != 0
+}
+
+// What is wrong with a failure: 8, 9, or 0.
+pub fn failure_fault(full: &[u32], step: u64, set: u64) -> u32
+    requires { ⌜ ((t : Trace) × Tabled t (now full)) ⌝ }
+    ensures number { λ r. ⌜ ((t : Trace) → Tabled t (now (full .entry)) → r ≡ failureFault t step set) ⌝ }
+    ensures within { λ r. ⌜ (r ≡ 0 → step ≤ getD (now (full .entry)) 1 0) ⌝ }
+{
+    let size = full[1];
+    if step > size as u64 {
+        return 8;
+    }
+    if set == 0 {
+        return 9;
+    }
+    if names_beyond(set, recovery_line::processes(full)) {
+        return 9;
+    }
+    0
+}
+
+// Has a process with this epoch at the cut reached epoch n.
+fn has_reached(epoch: u32, n: u32) -> bool
+    ensures { λ r. ⌜ r ≡ reachedW epoch n ⌝ }
+{
+    if n < 1 {
+        return false;
+    }
+    n <= epoch
+}
+
+// May a line hold n for process z, to stay.
+fn may_stay(set: u64, z: u32, n: u32) -> bool
+    requires { ⌜ z < 64 ⌝ }
+    ensures { λ r. ⌜ r ≡ mayStayW set z n ⌝ }
+{
+    if n != STAYS {
+        return false;
+    }
+    (set >> z) % 2 != 1
+}
+
+// May a line hold this number for process z.
+fn may_hold(epochs: &[u32], numbers: &[u32], set: u64, z: usize) -> bool
+    requires { ⌜ (length (now epochs) ≡ 64) × (length (now numbers) ≡ 64) × (z < 64) ⌝ }
+    ensures { λ r. ⌜ r ≡ mayW set (now (epochs .entry)) (now (numbers .entry)) z ⌝ }
+{
+    if has_reached(epochs[z], numbers[z]) {
+        return true;
+    }
+    may_stay(set, z as u32, numbers[z])
+}
+
+fn both(a: bool, b: bool) -> bool
+    ensures { λ r. ⌜ r ≡ (a && b) ⌝ }
+{
+    a && b
+}
+
+// Does a line hold for each process what it may.
+fn permitted(epochs: &[u32], numbers: &[u32], count: usize, set: u64) -> bool
+    requires { ⌜ (length (now epochs) ≡ 64) × (length (now numbers) ≡ 64) × (count ≤ 64) ⌝ }
+    ensures { λ r. ⌜ r ≡ all-below count (mayW set (now (epochs .entry)) (now (numbers .entry))) ⌝ }
+{
+    let mut all = true;
+    let mut z: usize = 0;
+    while z < count {
+        all = both(may_hold(epochs, numbers, set, z), all);
+        z += 1;
+    }
+    all
+}
+
+// What is wrong with a failure and a line: 8, 9, 10, or 0.
+pub fn line_fault(full: &[u32], step: u64, set: u64, line: Line) -> u32
+    requires { ⌜ ((t : Trace) × Tabled t (now full)) ⌝ }
+    ensures { λ r. ⌜ ((t : Trace) → Tabled t (now (full .entry)) → r ≡ lineFault t step set (line .count) (lineIn line)) ⌝ }
+{
+    let f = failure_fault(full, step, set);
+    if f != 0 {
+        return f;
+    }
+    let count = recovery_line::processes(full);
+    if line.count != count {
+        return 10;
+    }
+    let mut epochs = [0u32; 64];
+    epochs_at(full, step as usize, &mut epochs);
+    let numbers = line.epochs;
+    if permitted(&epochs, &numbers, count, set) {
+        0
+    } else {
+        10
+    }
+}

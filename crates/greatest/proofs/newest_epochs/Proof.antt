@@ -1,0 +1,71 @@
+-- `greatest::newest_epochs` meets its contract: after z turns the first z words are those of the rule.
+use mathlib.Core.Path.{_≡_, refl, _∙_}
+use Prim.Native.Nat.{ℕ, _-_, _≤_, _<_}
+use lib.ListN.{length, getD, length-set}
+use lib.Dec.{ltb}
+use Rattle.theory.specs.Lists.{pick}
+use Rattle.protocol.specs.Columns.{epochBase}
+use Rattle.greatest.specs.Newest.{afterW}
+use Rattle.recovery_line.proofs.Loops.{rule-next}
+use native.Mathlib.Omega.{arith}
+use borrow.Author.Needs.{needs}
+use Rattle.greatest.proofs.newest_epochs.Statement.{statement}
+use Rattle.greatest.proofs.newest_epochs.Tie as tie
+
+abbrev Inv-loop : tie.InvT-loop
+Inv-loop full latest count epochs₀ z₀ epochs z =
+    (z ≤ 64) × (length epochs ≡ length epochs₀) × ((k : ℕ) → k < z → getD epochs k 0 ≡ pick (ltb k count) (afterW full epochBase (getD latest k 0)) 0)
+
+abbrev μ-loop : tie.MeasureT-loop
+μ-loop full latest count epochs₀ z₀ epochs z =
+    64 - z
+
+loop-holds : tie.Need-loop-holds Inv-loop μ-loop
+loop-holds c =
+    (omega arith, refl, λ k h. absurd (let y : ⊥ = omega arith in y))
+
+cast-after : tie.Need-cast-after Inv-loop μ-loop
+cast-after c =
+    let pre = c .before .before .before .before .before .before .pre in
+    let loop = c .before .before .loop in
+    omega (arith, (pre .few) (loop .z) (omega arith))
+
+after-requires : tie.Need-after-requires Inv-loop μ-loop
+after-requires c κs =
+    let pre = c .before .before .before .before .before .before .pre in
+    let loop = c .before .before .loop in
+    ((pre .whole), omega arith, (pre .few) (loop .z) (omega arith))
+
+slice-write-epochs : tie.Need-slice-write-epochs Inv-loop μ-loop
+slice-write-epochs c =
+    let loop = c .before .before .before .before .loop in
+    let pre = c .before .before .before .before .before .before .before .before .pre in
+    omega (arith, (loop .inv .1), (pre .long))
+
+loop-less : tie.Need-loop-less Inv-loop μ-loop
+loop-less c =
+    omega arith
+
+loop-again : tie.Need-loop-again Inv-loop μ-loop
+loop-again c =
+    let loop = c .before .before .before .before .loop in
+    let pre = c .before .before .before .before .before .before .before .before .pre in
+    let args = c .before .before .before .before .before .before .before .before .args in
+    let or-zero = c .or-zero in
+    let after = c .before .after in
+    let l : (loop .z) < length (loop .epochs) = omega (arith, (loop .inv .1), (pre .long)) in (omega arith, simp length-set (loop .inv .1), rule-next (λ k. pick (ltb k (args .count)) (afterW (args .full .now) epochBase (getD (args .latest .now) k 0)) 0) (loop .epochs) _ _ l ((or-zero .ensures) ∙ rw (after .ensures)) (loop .inv .2))
+
+same-length : tie.Need-same-length Inv-loop μ-loop
+same-length c =
+    let loop = c .before .loop in
+    (loop .inv .1)
+
+returns : tie.Need-returns Inv-loop μ-loop
+returns c =
+    let loop = c .before .loop in
+    λ z h. (loop .inv .2) z (omega arith)
+
+pub newest-epochs-spec : {M : Type 1} → statement M
+newest-epochs-spec =
+    tie.close
+    (tie.spec Inv-loop μ-loop loop-holds (λ c. search needs) (λ c. search needs) cast-after after-requires (λ c κs. search needs) (λ c. search needs) slice-write-epochs (λ c. search needs) loop-less loop-again same-length returns)

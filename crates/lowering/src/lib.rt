@@ -1,0 +1,110 @@
+// A line lowered until it loses no message: a worklist of processes that may have undone events not looked at. specs/Lowering says what
+// lowering at an event does and when it is done. Assumes nothing.
+ghost use mathlib.Core.Path.{_≡_};
+ghost use Prim.Native.Nat.{ℕ, _<_};
+ghost use lib.ListN.{length, getD, set};
+ghost use Rattle.recovery_line.specs.Words.{Sized};
+ghost use Rattle.lowering.specs.Lowering.{lostW, lowerAt, Lowered, joinedBy, Linked, Pending, undoneW, Before, Lowerable};
+use protocol::EPOCH_BASE;
+use sets::EVERYONE;
+use trace::EVENT_BASE;
+
+// The kinds of an event's word.
+const RECEIVE: u32 = 2;
+
+// Where event e receives a message that the line loses, its sender is lowered to the epoch of the send; whether that is so.
+fn lower_at(full: &[u32], epochs: &mut [u32], e: usize) -> bool
+    requires { ⌜ Lowerable (now full) (now epochs) e ⌝ }
+    ensures line { λ _. ⌜ now (epochs .exit) ≡ lowerAt (now (full .entry)) (now (epochs .entry)) e ⌝ }
+    ensures lost { λ r. ⌜ r ≡ lostW (now (full .entry)) (now (epochs .entry)) e ⌝ }
+{
+    let w = full[EVENT_BASE + e];
+    if trace::kind(w) != RECEIVE {
+        return false;
+    }
+    let q = trace::process(w);
+    let p = trace::peer(w);
+    let d = recovery_line::matched(full, e);
+    let taken = full[EPOCH_BASE + e];
+    let sent = full[EPOCH_BASE + d];
+    if epochs[q] > taken {
+        return false;
+    }
+    if epochs[p] <= sent {
+        return false;
+    }
+    if sent < taken {
+        return false;
+    }
+    epochs[p] = sent;
+    true
+}
+
+// Links the events of each process up to the cut, from the newest back: for each event the one of its process before it, and for each process
+// its newest; 0 where there is none. Links have 16 bits, so that they take less to clear.
+pub fn link(full: &[u32], cut: usize, earlier: &mut [u16], latest: &mut [u16])
+    requires { ⌜ Sized (now full) cut × (length (now earlier) ≡ 2049) × (length (now latest) ≡ 64) × ((z : ℕ) → getD (now latest) z 0 ≡ 0) ⌝ }
+    ensures { λ _. ⌜ Linked (now (full .entry)) cut (now (earlier .exit)) (now (latest .exit)) ⌝ }
+{
+    let mut e: usize = 0;
+    while e < cut {
+        e += 1;
+        let z = trace::process(full[EVENT_BASE + e]);
+        earlier[e] = latest[z];
+        latest[z] = e as u16;
+    }
+}
+
+// Does the line undo the newest event of process z that was not looked at yet.
+fn undoes(full: &[u32], epochs: &[u32], latest: &[u16], z: usize) -> bool
+    requires { ⌜ Pending (now full) (now epochs) (now latest) × (z < 64) ⌝ }
+    ensures { λ r. ⌜ r ≡ undoneW (now (full .entry)) (now (epochs .entry)) (now (latest .entry)) z ⌝ }
+{
+    let e = latest[z] as usize;
+    if e == 0 {
+        return false;
+    }
+    epochs[z] <= full[EPOCH_BASE + e]
+}
+
+// Looks at the newest event of process z that was not looked at yet. A sender that is lowered joins those that may have undone events not
+// looked at.
+fn look(
+    full: &[u32],
+    earlier: &[u16],
+    epochs: &mut [u32],
+    latest: &mut [u16],
+    pending: u64,
+    z: usize,
+) -> u64
+    requires { ⌜ (length (now earlier) ≡ 2049) × (length (now latest) ≡ 64) × (z < 64) × Lowerable (now full) (now epochs) (getD (now latest) z 0) ⌝ }
+    ensures line { λ _. ⌜ now (epochs .exit) ≡ lowerAt (now (full .entry)) (now (epochs .entry)) (getD (now (latest .entry)) z 0) ⌝ }
+    ensures rest { λ _. ⌜ now (latest .exit) ≡ set (now (latest .entry)) z (getD (now (earlier .entry)) (getD (now (latest .entry)) z 0) 0) ⌝ }
+    ensures pending { λ r. ⌜ r ≡ joinedBy (now (full .entry)) (now (epochs .entry)) (getD (now (latest .entry)) z 0) pending ⌝ }
+{
+    let e = latest[z] as usize;
+    latest[z] = earlier[e];
+    if lower_at(full, epochs, e) {
+        return sets::with(pending, trace::peer(full[EVENT_BASE + e]));
+    }
+    pending
+}
+
+// Lowers the line until it loses no message, where the events up to the cut are linked. An undone event is looked at once: then its message is
+// logged, or its sender restarts no later than the send, and since numbers only fall that stays so. An event that is not undone receives no
+// lost message. `latest` is left with the newest event of each process before its restart.
+pub fn lower(full: &[u32], earlier: &[u16], epochs: &mut [u32], latest: &mut [u16])
+    requires { ⌜ (length (now epochs) ≡ 64) × ((cut : ℕ) × Sized (now full) cut × Linked (now full) cut (now earlier) (now latest)) ⌝ }
+    ensures line { λ _. ⌜ ((cut : ℕ) → Sized (now (full .entry)) cut → Linked (now (full .entry)) cut (now (earlier .entry)) (now (latest .entry)) → Lowered (now (full .entry)) cut (now (epochs .entry)) (now (epochs .exit))) ⌝ }
+    ensures left { λ _. ⌜ ((cut : ℕ) → Sized (now (full .entry)) cut → Linked (now (full .entry)) cut (now (earlier .entry)) (now (latest .entry)) → Before (now (full .entry)) cut (now (epochs .exit)) (now (latest .exit))) ⌝ }
+{
+    let mut pending = EVERYONE;
+    while pending != 0 {
+        let z = sets::first(pending);
+        if undoes(full, epochs, latest, z) {
+            pending = look(full, earlier, epochs, latest, pending, z);
+        } else {
+            pending = sets::rest(pending);
+        }
+    }
+}

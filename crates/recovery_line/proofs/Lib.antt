@@ -1,0 +1,4 @@
+pub mod Table
+pub mod Loops
+pub mod Lines
+pub mod Sets
