@@ -18,22 +18,22 @@ use Rattle.simulation.specs.Related.{Rel}
 abbrev pub noChoice : ℕ
 noChoice = 4160
 
-module _ (t g a : List ℕ) where
-  -- the phase of the oldest kept message of channel c, of sender p; above all phases where none is left
-  unfoldable pub keptPhase : ℕ → ℕ → ℕ
-  keptPhase p c = pick (sendOk (getD g (64 + p) 0) (putW a c)) noPhase (phaseW t (putW a c))
+-- the phase of the oldest kept message of channel c, of sender p; above all phases where none is left
+unfoldable pub keptPhase : List ℕ → List ℕ → List ℕ → ℕ → ℕ → ℕ
+keptPhase t g a p c = pick (sendOk (getD g (64 + p) 0) (putW a c)) noPhase (phaseW t (putW a c))
 
+module _ (t g a : List ℕ) where
   -- of each sender a phase that those of its kept messages are not below
   unfoldable pub Under : List ℕ → Type 0
-  Under ls = (p : ℕ) → p < 64 → (getD ls p 0 ≤ noPhase) × ((q : ℕ) → q < 64 → getD ls p 0 ≤ keptPhase p (64 * p + q))
+  Under ls = (p : ℕ) → p < 64 → (getD ls p 0 ≤ noPhase) × ((q : ℕ) → q < 64 → getD ls p 0 ≤ keptPhase t g a p (64 * p + q))
 
   -- of each sender a set of receivers outside of which it keeps no message for anyone
   unfoldable pub Keeps : List ℕ → Type 0
-  Keeps ks = (p : ℕ) → p < 64 → Outside (λ q. noPhase ≤ keptPhase p (64 * p + q)) (getD ks p 0)
+  Keeps ks = (p : ℕ) → p < 64 → Outside (λ q. noPhase ≤ keptPhase t g a p (64 * p + q)) (getD ks p 0)
 
   -- a set of senders outside of which none keeps a message
   unfoldable pub ToKeep : ℕ → Type 0
-  ToKeep m = Outside (λ p. (q : ℕ) → q < 64 → noPhase ≤ keptPhase p (64 * p + q)) m
+  ToKeep m = Outside (λ p. (q : ℕ) → q < 64 → noPhase ≤ keptPhase t g a p (64 * p + q)) m
 
   -- no process outside of the set may run
   unfoldable pub Idle : ℕ → Type 0
