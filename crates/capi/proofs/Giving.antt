@@ -3,7 +3,7 @@ use Prim.Native.Nat.{ℕ}
 use mathlib.Core.Path.{_≡_}
 use mathlib.Core.List.{List, [], _∷_, _++_}
 use Rattle.theory.specs.Lists.{pick}
-use Rattle.replay.specs.declared.Replayed.{Replayed}
+use Rattle.orders.specs.declared.Replayed.{Replayed}
 use Rattle.recovery.specs.declared.Restarted.{Restarted}
 use Rattle.recovery.specs.declared.Counted.{Counted}
 use Rattle.writer.specs.Buffer.{Puts, written}

@@ -7,7 +7,7 @@ use Rattle.theory.specs.Lists.{pick}
 use Rattle.reader.specs.declared.Answer.{Answer}
 use Rattle.reader.specs.declared.FailureAnswer.{FailureAnswer}
 use Rattle.recovery_line.specs.declared.Line.{Line}
-use Rattle.replay.specs.declared.Replayed.{Replayed}
+use Rattle.orders.specs.declared.Replayed.{Replayed}
 use Rattle.theory.specs.Order.{lowestOrder}
 use Rattle.recovery.specs.Answers.{runOf, replayAnswer, replayArea}
 use Rattle.recovery.specs.declared.Restarted.{Restarted}

@@ -13,9 +13,9 @@ ghost use Rattle.recovery.specs.Messages.{messagesAnswer, messagesArea};
 ghost use Rattle.recovery.specs.Restart.{restartAnswer};
 ghost use Rattle.report.specs.Report.{printed};
 ghost use Rattle.capi.specs.Answers.{lineGiven, readNumbers, failureNumbers, restartNumbers, messagesNumbers, replayNumbers, lowestAnswer, lowestArea};
+use orders::Replayed;
 use recovery::Restarted;
 use recovery_line::Line;
-use replay::Replayed;
 
 // As `writer::put`, for numbers: a full slice takes no more.
 fn put(answer: &mut [u64], at: usize, v: u64) -> usize

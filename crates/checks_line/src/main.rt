@@ -6,9 +6,9 @@
 // of it differs; the file `stdout` has 0. Proved safe and ending. Assumes what `libc` assumes.
 ghost use Prim.Native.Nat.{_≤_, _<_};
 ghost use lib.ListN.{length};
+use orders::Replayed;
 use recovery::Restarted;
 use recovery_line::Line;
-use replay::Replayed;
 
 // Kinds of an event.
 const SAVE: u32 = 0;

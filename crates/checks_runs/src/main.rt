@@ -154,7 +154,7 @@ fn print_record(run: &[u32; AREA_WORDS]) {
 }
 
 // The answer to a replay, and the record that is left: is it that of the run without failure, and what it has.
-fn print_replayed(name: &[u8], r: replay::Replayed, same: bool, run: &[u32; AREA_WORDS]) {
+fn print_replayed(name: &[u8], r: orders::Replayed, same: bool, run: &[u32; AREA_WORDS]) {
     print_answer(name, r.number, r.place);
     print_number(b" steps=", r.steps as u64);
     print_number(b" complete=", flag(r.complete));

@@ -21,7 +21,7 @@ use Rattle.protocol.specs.Columns.{Columns}
 use Rattle.protocol.proofs.Passes.{held-formed}
 use Rattle.recovery_line.specs.Given.{Tabled}
 use Rattle.gates.specs.Gates.{gateWord}
-use Rattle.replay.specs.Given.{Given}
+use Rattle.links.specs.Given.{Given}
 use Rattle.recovery.specs.Prepared.{Filled}
 
 -- `protocol::tabulate` on a table of 16,384 words says whether the area holds a trace

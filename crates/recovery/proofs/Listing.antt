@@ -17,10 +17,10 @@ use Rattle.protocol.proofs.Passes.{well-few}
 use Rattle.classes.specs.Listing.{listWord, Given as Listable}
 use Rattle.classes.proofs.Whole.{rows-few}
 use Rattle.recovery_line.specs.declared.Line.{Line}
-use Rattle.simulation.specs.Related.{recordEnd}
-use Rattle.simulation.specs.Record.{recordAt}
-use Rattle.replay.specs.Answer.{wordsOf}
-use Rattle.replay.specs.Given.{Given}
+use Rattle.machine.specs.Related.{recordEnd}
+use Rattle.orders.specs.Record.{recordAt}
+use Rattle.orders.specs.Answer.{wordsOf}
+use Rattle.links.specs.Given.{Given}
 use Rattle.recovery.specs.declared.Counted.{Counted}
 use Rattle.recovery.specs.Answers.{runOf, faultOf}
 use Rattle.recovery.specs.Messages.{countsOf, messagesRefusal, messagesAnswer, messagesArea}

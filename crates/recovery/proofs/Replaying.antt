@@ -20,10 +20,10 @@ use Rattle.theory.proofs.Lowest.{lowest-order}
 use Rattle.protocol.proofs.Passes.{held-valid, held-few}
 use Rattle.recovery_line.specs.declared.Line.{Line}
 use Rattle.recovery_line.specs.Given.{lineIn}
-use Rattle.simulation.specs.Record.{recordAt}
-use Rattle.simulation.proofs.Records.{complete-record}
-use Rattle.replay.specs.declared.Replayed.{Replayed}
-use Rattle.replay.specs.Answer.{answerOf, wordsOf}
+use Rattle.orders.specs.Record.{recordAt}
+use Rattle.orders.proofs.Records.{complete-record}
+use Rattle.orders.specs.declared.Replayed.{Replayed}
+use Rattle.orders.specs.Answer.{answerOf, wordsOf}
 use Rattle.recovery.specs.Answers.{runOf, faultOf, refusal, replayAnswer, replayArea, Equal, Completed}
 
 module _ (a area : List ℕ) (step set : ℕ) (l : Line) (order : List ℕ) where

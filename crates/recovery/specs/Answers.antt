@@ -17,9 +17,9 @@ use Rattle.theory.specs.Order.{run, steps, lowestOrder}
 use Rattle.theory.specs.Refusals.{lineFault}
 use Rattle.recovery_line.specs.declared.Line.{Line}
 use Rattle.recovery_line.specs.Given.{lineIn}
-use Rattle.simulation.specs.Record.{faultlessAt}
-use Rattle.replay.specs.declared.Replayed.{Replayed}
-use Rattle.replay.specs.Answer.{answerOf, wordsOf}
+use Rattle.orders.specs.Record.{faultlessAt}
+use Rattle.orders.specs.declared.Replayed.{Replayed}
+use Rattle.orders.specs.Answer.{answerOf, wordsOf}
 
 -- the recorded run of the trace that a table area holds, with a failure and a line
 abbrev pub runOf : List ℕ → ℕ → Line → Run

@@ -16,8 +16,8 @@ use Rattle.theory.specs.Refusals.{failureFault}
 use Rattle.classes.specs.Listing.{listWord}
 use Rattle.recovery_line.specs.declared.Line.{Line}
 use Rattle.recovery_line.specs.Given.{Tabled, lineIn}
-use Rattle.replay.specs.Answer.{answerOf}
-use Rattle.replay.specs.Given.{Given}
+use Rattle.orders.specs.Answer.{answerOf}
+use Rattle.links.specs.Given.{Given}
 use Rattle.recovery.specs.declared.Recovered.{Recovered}
 use Rattle.recovery.specs.Messages.{countsOf}
 use Rattle.recovery.specs.Restart.{failureFaultOf, restartOf, Restarts}

@@ -12,14 +12,14 @@ ghost use Rattle.theory.specs.Line.{recorded};
 ghost use Rattle.theory.specs.Order.{lowestOrder};
 ghost use Rattle.classes.specs.Listing.{listWord};
 ghost use Rattle.recovery_line.specs.Given.{Tabled};
-ghost use Rattle.replay.specs.Given.{Given};
+ghost use Rattle.links.specs.Given.{Given};
 ghost use Rattle.recovery.specs.Answers.{runOf, faultOf, refusal, replayAnswer, replayArea, Equal, Completed};
 ghost use Rattle.recovery.specs.Prepared.{failureFaultIn, Filled, Prepared, Recovering};
 ghost use Rattle.recovery.specs.Messages.{countsOf, messagesRefusal, messagesAnswer, messagesArea};
 ghost use Rattle.recovery.specs.Recover.{recoverRefusal, Succeeds};
 ghost use Rattle.recovery.specs.Restart.{restartRefusal, restartOf, restartAnswer, Restarts};
+use orders::Replayed;
 use recovery_line::Line;
-use replay::Replayed;
 use words::AREA_WORDS;
 
 fn refused(number: u32) -> Replayed
@@ -96,7 +96,7 @@ pub fn replay(
     if fault != 0 {
         return refused(fault);
     }
-    replay::replay(&full, &gates, order, &mut area[..AREA_WORDS], step as usize)
+    orders::replay(&full, &gates, order, &mut area[..AREA_WORDS], step as usize)
 }
 
 // The same for the order that always takes the lowest allowed choice.
@@ -112,7 +112,7 @@ pub fn lowest(table: &[u32], step: u64, set: u64, line: Line, area: &mut [u32]) 
     if fault != 0 {
         return refused(fault);
     }
-    replay::lowest(&full, &gates, &mut area[..AREA_WORDS], step as usize)
+    search::lowest(&full, &gates, &mut area[..AREA_WORDS], step as usize)
 }
 
 // How many messages of each class a line leaves.
@@ -262,7 +262,7 @@ fn recover_from(full: &[u32], cut: usize, set: u64, area: &mut [u32]) -> Recover
     let restarted = restart_from(full, cut, set);
     let mut gates = [0u32; gates::GATE_WORDS];
     gates::gates(full, restarted.line, cut, &mut gates);
-    let replayed = replay::lowest(full, &gates, area, cut);
+    let replayed = search::lowest(full, &gates, area, cut);
     words::zero(&mut area[..RECORD_WORDS]);
     let counted = list_from(full, &gates, cut, area);
     Recovered {

@@ -26,7 +26,7 @@ use Rattle.recovery_line.specs.Given.{each, lineIn, lineTo, numbersOf, backOnes
 use Rattle.classes.specs.Listing.{listWord}
 use Rattle.recovery.specs.declared.Restarted.{Restarted}
 use Rattle.recovery.specs.declared.Counted.{Counted}
-use Rattle.replay.specs.declared.Replayed.{Replayed}
+use Rattle.orders.specs.declared.Replayed.{Replayed}
 use Rattle.recovery.specs.Messages.{countsOf, messagesAnswer, messagesArea}
 use Rattle.recovery.specs.Recover.{Succeeds}
 use Rattle.recovery.specs.Answers.{faultOf, runOf as codeRun, Completed}

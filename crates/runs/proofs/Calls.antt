@@ -34,9 +34,9 @@ use Rattle.protocol.proofs.Passes.{held-long, held-formed, held-valid}
 use Rattle.classes.specs.Listing.{Row, rowOf, rowsOf, listWord}
 use Rattle.recovery_line.specs.declared.Line.{Line}
 use Rattle.recovery_line.specs.Given.{lineIn, numbersOf}
-use Rattle.simulation.specs.Record.{faultlessAt}
-use Rattle.replay.specs.declared.Replayed.{Replayed}
-use Rattle.replay.specs.Answer.{answerOf, wordsOf}
+use Rattle.orders.specs.Record.{faultlessAt}
+use Rattle.orders.specs.declared.Replayed.{Replayed}
+use Rattle.orders.specs.Answer.{answerOf, wordsOf}
 use Rattle.recovery.specs.declared.Counted.{Counted}
 use Rattle.recovery.specs.declared.Restarted.{Restarted}
 use Rattle.recovery.specs.Answers.{faultOf, replayAnswer, replayArea, Completed, runOf as codeRun}

@@ -17,3 +17,10 @@ pub fn zero(area: &mut [u32])
         i += 1;
     }
 }
+
+// A word as an index.
+pub fn wide(x: u32) -> usize
+    ensures { λ r. ⌜ r ≡ x ⌝ }
+{
+    x as usize
+}

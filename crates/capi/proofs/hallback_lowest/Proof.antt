@@ -1,8 +1,7 @@
 -- `capi::hallback_lowest` meets its contract: what `lowest` promises, the answer in numbers.
 use mathlib.Core.Path.{ap, _∙_}
-use Rattle.replay.specs.declared.Replayed.{Replayed}
-use Rattle.capi.specs.Answers.{lowestAnswer, lowestArea}
-use Rattle.capi.specs.Answers.{replayNumbers}
+use Rattle.orders.specs.declared.Replayed.{Replayed}
+use Rattle.capi.specs.Answers.{lowestAnswer, lowestArea, replayNumbers}
 use Rattle.capi.proofs.Giving.{answer-is}
 use borrow.Author.Needs.{needs}
 use Rattle.capi.proofs.hallback_lowest.Statement.{statement}

@@ -1,7 +1,7 @@
 -- `capi::hallback_replay` meets its contract: what `replay` promises, the answer in numbers.
 use mathlib.Core.Path.{ap, _∙_}
 use Rattle.recovery_line.specs.declared.Line.{Line}
-use Rattle.replay.specs.declared.Replayed.{Replayed}
+use Rattle.orders.specs.declared.Replayed.{Replayed}
 use Rattle.recovery.specs.Answers.{replayAnswer, replayArea}
 use Rattle.capi.specs.Answers.{replayNumbers}
 use Rattle.capi.proofs.Giving.{answer-is}

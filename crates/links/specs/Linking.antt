@@ -1,0 +1,77 @@
+-- What sets the links and the first state of a replay, by words: one pass over the events, from the last to the first. Definitions only.
+-- At an event the pass writes where a test of the full table and the gates holds; `proofs/` says what the tests mean.
+use mathlib.Core.Bool.{Bool, true, false}
+use mathlib.Core.List.{List}
+use Prim.Native.Nat.{ℕ, zero, suc, _+_, _-_, _*_, _%_}
+use lib.ListN.{getD, set}
+use lib.Dec.{leb, ltb, eqb}
+use Rattle.trace.specs.Table.{eventBase}
+use Rattle.protocol.specs.Columns.{epochBase, matchBase}
+use Rattle.theory.specs.Lists.{pick}
+use Rattle.machine.specs.Words.{takenBase, currentBase, orphanBase, takeBase, putBase, lowPlace, kindW, peerW, valueW, numberW, curW, orpW, putW, lowOf}
+
+-- the process of event e; its epoch; the event that its message is received or sent by, 0 where there is none
+abbrev pub atW : List ℕ → ℕ → ℕ
+atW t e = getD t (eventBase + e) 0 % 64
+
+abbrev pub epochW : List ℕ → ℕ → ℕ
+epochW t e = getD t (epochBase + e) 0
+
+abbrev pub pairW : List ℕ → ℕ → ℕ
+pairW t e = getD t (matchBase + e) 0
+
+-- the message that event e sends was received before its receiver's restart; by the cut
+unfoldable pub backW : List ℕ → List ℕ → ℕ → Bool
+backW t g e = pick (eqb (pairW t e) 0) false (leb (pairW t e) (getD g (64 + peerW t e) 0))
+
+unfoldable pub doneW : List ℕ → ℕ → ℕ → Bool
+doneW t cut e = pick (eqb (pairW t e) 0) false (leb (pairW t e) cut)
+
+-- event e is after the restart of its process
+abbrev pub mineW : List ℕ → List ℕ → ℕ → Bool
+mineW t g e = ltb (getD g (64 + atW t e) 0) e
+
+-- event e sends an orphan again
+unfoldable pub orphanW : List ℕ → List ℕ → ℕ → Bool
+orphanW t g e = pick (eqb (kindW t e) 1) (pick (mineW t g e) (backW t g e) false) false
+
+-- event e sends a message that goes through its channel: not received before the receiver's restart; and sent after the sender's restart, or
+-- not received by the cut, or logged
+unfoldable pub goesW : List ℕ → List ℕ → ℕ → ℕ → Bool
+goesW t g cut e = pick (eqb (kindW t e) 1)
+    (pick (backW t g e) false (pick (mineW t g e) true (pick (doneW t cut e) (ltb (epochW t e) (epochW t (pairW t e))) true))) false
+
+-- event e is a receive before the restart of its process
+unfoldable pub earlyW : List ℕ → List ℕ → ℕ → Bool
+earlyW t g e = pick (eqb (kindW t e) 2) (leb e (getD g (64 + atW t e) 0)) false
+
+-- a word, written where a test holds
+unfoldable pub chainA : Bool → List ℕ → ℕ → ℕ → List ℕ
+chainA b a k v = pick b (set a k v) a
+
+-- the links after event e; the run area after it
+unfoldable pub linkL : List ℕ → List ℕ → ℕ → List ℕ → List ℕ → ℕ → List ℕ
+linkL t g cut l a e =
+    chainA (goesW t g cut e) (chainA (orphanW t g e) (chainA (mineW t g e) l (4 * e) (curW a (atW t e))) (4 * e + 2) (orpW a (atW t e)))
+    (4 * e + 1) (putW a (64 * atW t e + peerW t e))
+
+unfoldable pub linkA : List ℕ → List ℕ → ℕ → List ℕ → ℕ → List ℕ
+linkA t g cut a e =
+    chainA (earlyW t g e) (chainA (earlyW t g e)
+    (chainA (goesW t g cut e) (chainA (goesW t g cut e)
+    (chainA (orphanW t g e) (chainA (mineW t g e) a (currentBase + atW t e) e) (orphanBase + atW t e) e)
+    (putBase + (64 * atW t e + peerW t e)) e) (takeBase + (64 * atW t e + peerW t e)) e)
+    e (numberW t e)) (takenBase + e) (valueW t (pairW t e))
+
+-- the run area and the links after the last d of n events
+unfoldable pub linkedA : List ℕ → List ℕ → ℕ → ℕ → ℕ → List ℕ → List ℕ
+linkedA t g cut n zero a = a
+linkedA t g cut n (suc d) a = linkA t g cut (linkedA t g cut n d a) (n - d)
+
+unfoldable pub linkedL : List ℕ → List ℕ → ℕ → ℕ → ℕ → List ℕ → List ℕ → List ℕ
+linkedL t g cut n zero l a = l
+linkedL t g cut n (suc d) l a = linkL t g cut (linkedL t g cut n d l a) (linkedA t g cut n d a) (n - d)
+
+-- the run area of the first state, once all events are linked: the least phase of an orphan is set
+unfoldable pub beginA : List ℕ → List ℕ → List ℕ
+beginA t a = set a lowPlace (lowOf t a (getD t 0 0))

@@ -1,0 +1,20 @@
+-- `machine::pointer` meets its contract: the word is an event or 0, since the area is bounded.
+use mathlib.Core.Path.{_≡_, refl}
+use native.Mathlib.Omega.{arith}
+use Rattle.machine.proofs.Steps.{bound}
+use borrow.Author.Needs.{needs}
+use Rattle.machine.proofs.pointer.Statement.{statement}
+use Rattle.machine.proofs.pointer.Tie as tie
+
+cast-result : tie.Need-cast-result
+cast-result c =
+    let pre = c .before .pre in
+    let h = pre in let b = bound _ _ (pre .3) (pre .0) (pre .1) in omega (arith, b)
+
+returns : tie.Need-returns
+returns c =
+    let pre = c .before .pre in
+    (refl, bound _ _ (pre .3) (pre .0) (pre .1))
+
+pub pointer-spec : {M : Type 1} → statement M
+pointer-spec = tie.close (tie.spec (λ c. search needs) (λ c. search needs) cast-result returns)

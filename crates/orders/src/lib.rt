@@ -1,0 +1,118 @@
+// An order of choices carried out in words: its answer, and the delivery record that it leaves. specs/Answer says it by the theory's machine.
+// proofs/Claims is to be read first. Assumes nothing.
+ghost use mathlib.Core.Path.{_≡_};
+ghost use Prim.Native.Nat.{ℕ, _≤_, _<_};
+ghost use lib.ListN.{length, getD};
+ghost use Rattle.words.specs.Area.{areaWords};
+ghost use Rattle.machine.specs.Words.{currentBase, lowPlace, Small};
+ghost use Rattle.theory.specs.Line.{Run, recorded};
+ghost use Rattle.machine.specs.Related.{Started};
+ghost use Rattle.theory.specs.Order.{run};
+ghost use Rattle.trace.specs.Trace.{Trace};
+ghost use Rattle.theory.specs.Epochs.{past};
+ghost use Rattle.orders.specs.Left.{Left};
+ghost use Rattle.links.specs.Given.{Given};
+ghost use Rattle.orders.specs.Answer.{answerOf, wordsOf};
+use links::LINK_WORDS;
+use machine::CURRENT;
+use machine::LOW;
+
+// What a replay answers: 0, or 11 with the place of the first choice that is not allowed, from 1; how many choices were carried out,
+// and whether no choice is left.
+pub struct Replayed {
+    pub number: u32,
+    pub place: usize,
+    pub steps: usize,
+    pub complete: bool,
+}
+
+fn choice(c: u16) -> usize
+    ensures { λ r. ⌜ r ≡ c ⌝ }
+{
+    c as usize
+}
+
+// Carries out an order: the place of its first choice that is not allowed, from 1, or 0.
+fn carry_out(full: &[u32], links: &[u16], gates: &[u32], order: &[u16], area: &mut [u32]) -> usize
+    requires { ⌜ (length (now full) ≡ areaWords) × (128 ≤ length (now gates)) × (length (now area) ≡ areaWords) × Small (now links) × ((R : Run) × Started R (now full) (now links) (now gates) (now area)) ⌝ }
+    ensures { λ r. ⌜ ((R : Run) → Started R (now (full .entry)) (now (links .entry)) (now (gates .entry)) (now (area .entry)) → Left R (now (area .exit)) (run R (now (order .entry))) r) ⌝ }
+{
+    let mut i: usize = 0;
+    while i < order.len() {
+        let c = choice(order[i]);
+        if machine::allowed(full, gates, area, c) {
+            moves::apply(full, links, area, c);
+            i += 1;
+        } else {
+            return i + 1;
+        }
+    }
+    0
+}
+
+// Makes every word from one place on 0, up to another.
+fn clear(area: &mut [u32], from: usize, to: usize)
+    requires { ⌜ (from ≤ to) × (to ≤ length (now area)) ⌝ }
+    ensures others { λ _. ⌜ ((k : ℕ) → (from ≤ k → to ≤ k) → getD (now (area .exit)) k 0 ≡ getD (now (area .entry)) k 0) ⌝ }
+    ensures zeros { λ _. ⌜ ((k : ℕ) → from ≤ k → k < to → getD (now (area .exit)) k 0 ≡ 0) ⌝ }
+{
+    let mut i = from;
+    while i < to {
+        area[i] = 0;
+        i += 1;
+    }
+}
+
+// The answer to an order that was carried out; the area keeps the record, its working words are 0 again. Those after them were 0 all along.
+pub fn finish(area: &mut [u32], steps: usize, done: bool) -> Replayed
+    requires { ⌜ length (now area) ≡ areaWords ⌝ }
+    ensures answer { λ r. ⌜ r ≡ (record { number = 0; place = 0; steps = steps; complete = done }) ⌝ }
+    ensures kept { λ _. ⌜ ((k : ℕ) → (currentBase ≤ k → lowPlace < k) → getD (now (area .exit)) k 0 ≡ getD (now (area .entry)) k 0) ⌝ }
+    ensures zeros { λ _. ⌜ ((k : ℕ) → currentBase ≤ k → k ≤ lowPlace → getD (now (area .exit)) k 0 ≡ 0) ⌝ }
+{
+    clear(area, CURRENT, LOW + 1);
+    Replayed {
+        number: 0,
+        place: 0,
+        steps: steps,
+        complete: done,
+    }
+}
+
+// Replays an order from the first state.
+fn replay_in(
+    full: &[u32],
+    links: &[u16],
+    gates: &[u32],
+    order: &[u16],
+    area: &mut [u32],
+) -> Replayed
+    requires { ⌜ (length (now full) ≡ areaWords) × (128 ≤ length (now gates)) × (length (now area) ≡ areaWords) × Small (now links) × ((R : Run) × Started R (now full) (now links) (now gates) (now area)) ⌝ }
+    ensures answer { λ r. ⌜ ((R : Run) → Started R (now (full .entry)) (now (links .entry)) (now (gates .entry)) (now (area .entry)) → r ≡ answerOf R (run R (now (order .entry))) (length (now (order .entry)))) ⌝ }
+    ensures words { λ _. ⌜ ((R : Run) → Started R (now (full .entry)) (now (links .entry)) (now (gates .entry)) (now (area .entry)) → now (area .exit) ≡ wordsOf R (run R (now (order .entry)))) ⌝ }
+{
+    let place = carry_out(full, links, gates, order, area);
+    if place != 0 {
+        words::zero(area);
+        return Replayed {
+            number: 11,
+            place: place,
+            steps: 0,
+            complete: false,
+        };
+    }
+    let done = machine::complete(full, gates, area);
+    finish(area, order.len(), done)
+}
+
+// Replays an order from the line that the gates stand for, in an area of exactly 16,384 words.
+pub fn replay(full: &[u32], gates: &[u32], order: &[u16], area: &mut [u32], cut: usize) -> Replayed
+    requires { ⌜ (length (now area) ≡ areaWords) × (128 ≤ length (now gates)) × ((t : Trace) × (line : (ℕ → ℕ)) × Given t line cut (now full) (now gates)) ⌝ }
+    ensures answer { λ r. ⌜ ((t : Trace) (line : ℕ → ℕ) → Given t line cut (now (full .entry)) (now (gates .entry)) → r ≡ answerOf (recorded t past cut line) (run (recorded t past cut line) (now (order .entry))) (length (now (order .entry)))) ⌝ }
+    ensures words { λ _. ⌜ ((t : Trace) (line : ℕ → ℕ) → Given t line cut (now (full .entry)) (now (gates .entry)) → now (area .exit) ≡ wordsOf (recorded t past cut line) (run (recorded t past cut line) (now (order .entry)))) ⌝ }
+{
+    let mut links = [0u16; LINK_WORDS];
+    words::zero(area);
+    links::begin(full, gates, &mut links, area, cut);
+    replay_in(full, &links, gates, order, area)
+}

@@ -1,5 +1,0 @@
-pub mod Words
-pub mod Linking
-pub mod Related
-pub mod Record
-pub mod Linked
