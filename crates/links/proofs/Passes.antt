@@ -19,7 +19,7 @@ use Rattle.machine.specs.Related.{head0, goes, evs, orph, numberAt, valueAt, Ba
 use Rattle.links.specs.Linking.{atW, pairW, mineW, orphanW, goesW, earlyW, linkL, linkA, linkedL, linkedA, beginA}
 use Rattle.links.specs.Linked.{mine, rest, Chained}
 use Rattle.links.proofs.Linking.{Tests, stepL, stepA, chained-next}
-use Rattle.links.proofs.Begin.{begin-cols, begin-rel}
+use Rattle.links.proofs.FirstState.{begin-cols, begin-rel}
 
 -- the tests by words mean what they should, at every event
 unfoldable pub Tested : Run → List ℕ → List ℕ → ℕ → Type 0
