@@ -10,7 +10,7 @@ use Rattle.recovery_line.specs.declared.Line.{Line}
 use Rattle.orders.specs.declared.Replayed.{Replayed}
 use Rattle.theory.specs.Order.{lowestOrder}
 use Rattle.recovery.specs.Answers.{runOf, replayAnswer, replayArea}
-use Rattle.recovery.specs.declared.Restarted.{Restarted}
+use Rattle.restart.specs.declared.Restarted.{Restarted}
 use Rattle.recovery.specs.declared.Counted.{Counted}
 
 -- a line from the slice of its numbers: its length is their count

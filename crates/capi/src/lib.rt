@@ -10,12 +10,12 @@ ghost use Rattle.reader.specs.Answer.{readAnswer, readArea};
 ghost use Rattle.reader.specs.Failure.{failureAnswer, failureArea};
 ghost use Rattle.recovery.specs.Answers.{replayAnswer, replayArea};
 ghost use Rattle.recovery.specs.Messages.{messagesAnswer, messagesArea};
-ghost use Rattle.recovery.specs.Restart.{restartAnswer};
+ghost use Rattle.restart.specs.Restart.{restartAnswer};
 ghost use Rattle.report.specs.Report.{printed};
 ghost use Rattle.capi.specs.Answers.{lineGiven, readNumbers, failureNumbers, restartNumbers, messagesNumbers, replayNumbers, lowestAnswer, lowestArea};
 use orders::Replayed;
-use recovery::Restarted;
 use recovery_line::Line;
+use restart::Restarted;
 
 // As `writer::put`, for numbers: a full slice takes no more.
 fn put(answer: &mut [u64], at: usize, v: u64) -> usize
@@ -138,7 +138,7 @@ pub extern "C" fn hallback_restart(table: &[u32], step: u64, set: u64, answer: &
     ensures number { λ r. ⌜ r ≡ restartAnswer (now (table .entry)) step set .number ⌝ }
     ensures numbers { λ _. ⌜ now (answer .exit) ≡ written (restartNumbers (restartAnswer (now (table .entry)) step set)) (now (answer .entry)) ⌝ }
 {
-    let r = recovery::restart(table, step, set);
+    let r = restart::restart(table, step, set);
     put_restart(answer, r);
     r.number
 }

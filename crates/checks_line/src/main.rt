@@ -7,8 +7,8 @@
 ghost use Prim.Native.Nat.{_≤_, _<_};
 ghost use lib.ListN.{length};
 use orders::Replayed;
-use recovery::Restarted;
 use recovery_line::Line;
+use restart::Restarted;
 
 // Kinds of an event.
 const SAVE: u32 = 0;
@@ -614,7 +614,7 @@ fn compare(f: Failure, table: &[u32; 16384], best: &mut [u32; 4], tally: &mut [u
     find_best(f, &epochs, best, tally);
     let mut phases = [0u32; 4];
     phases_at(f, best, &mut phases);
-    let r = recovery::restart(table, f.cut as u64, f.set);
+    let r = restart::restart(table, f.cut as u64, f.set);
     add_one(tally, FAILURES);
     expect(tally, same_answer(f.count, best, &epochs, &phases, r));
 }

@@ -219,7 +219,7 @@ fn messages_row(name: &[u8], table: &[u32; AREA_WORDS], step: u64, set: u64, lin
 
 // The engine's line, of three processes.
 fn restart_row(name: &[u8], table: &[u32; AREA_WORDS], step: u64, set: u64) {
-    let r = recovery::restart(table, step, set);
+    let r = restart::restart(table, step, set);
     let numbers = r.line.epochs;
     print_answer(name, r.number, r.place);
     print_number(b" restart=", wide(numbers[0]));

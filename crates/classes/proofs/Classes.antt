@@ -22,9 +22,9 @@ use Rattle.theory.proofs.Base.{place-there, place-le}
 use Rattle.theory.proofs.Events.{sends-is, recvs-is, sendOf-at}
 use Rattle.theory.proofs.Epochs.{epochOf-at, restart-cut}
 use Rattle.theory.proofs.WellFormed.{valid}
-use Rattle.protocol.specs.Columns.{Columns}
-use Rattle.protocol.proofs.Passes.{well-few}
-use Rattle.classes.specs.Listing.{Given, Classed}
+use Rattle.columns.specs.Columns.{Columns}
+use Rattle.columns.proofs.Bounds.{well-few}
+use Rattle.classes.specs.Classes.{Given, Classed}
 use Rattle.classes.specs.Words.{doneBy, classW, eventW, matchW}
 
 -- the tests of specs/Line over the tests of the words: a before the sender's restart, c by the cut, b the receive before the receiver's

@@ -1,10 +1,2 @@
 pub mod Classes
 pub mod Turns
-pub mod Pairs
-pub mod Chains
-pub mod Rows
-pub mod Following
-pub mod Room
-pub mod Laying
-pub mod Channels
-pub mod Whole

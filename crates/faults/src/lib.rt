@@ -14,7 +14,7 @@ ghost use Rattle.theory.specs.Epochs.{past};
 ghost use Rattle.theory.specs.Line.{current};
 ghost use Rattle.recovery_line.specs.Given.{Tabled, each, lineIn};
 ghost use Rattle.faults.specs.Permitted.{Begun, reachedW, mayStayW, mayW};
-use protocol::EPOCH_BASE;
+use columns::EPOCH_BASE;
 use recovery_line::Line;
 use recovery_line::STAYS;
 use trace::EVENT_BASE;

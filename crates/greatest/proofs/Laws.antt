@@ -8,7 +8,7 @@ use lib.ListN.{set}
 use lib.Dec.{eqb}
 use borrow.Author.Tests.{eq-eqb, ne-eqb}
 use Rattle.theory.specs.Lists.{pick}
-use Rattle.protocol.specs.Columns.{phaseBase}
+use Rattle.columns.specs.Columns.{phaseBase}
 use Rattle.theory.specs.Line.{inSet}
 use Rattle.greatest.specs.Newest.{afterW, restartPhase}
 

@@ -22,9 +22,9 @@ use Rattle.theory.proofs.Base.{cnt-le, cnt-lt, cnt-suc}
 use Rattle.theory.proofs.Epochs.{epoch-is, restart-cut}
 use Rattle.theory.proofs.Lines.{Number, number-of}
 use Rattle.theory.proofs.Claims.{reached-usable, restart-back, restart-stays}
-use Rattle.protocol.specs.Columns.{epochBase, phaseBase}
-use Rattle.protocol.proofs.Bounds.{epoch-most, phase-most}
-use Rattle.protocol.proofs.Moves.{save-phase}
+use Rattle.columns.specs.Columns.{epochBase, phaseBase}
+use Rattle.columns.proofs.Bounds.{epoch-most, phase-most}
+use Rattle.columns.proofs.Moves.{save-phase}
 use Rattle.recovery_line.specs.declared.Line.{Line}
 use Rattle.recovery_line.specs.Given.{Tabled, each, lineIn, lineTo, restartPhaseIn}
 use Rattle.recovery_line.specs.Words.{atW, epochW, phaseW}

@@ -4,7 +4,7 @@ use mathlib.Core.Bool.{_||_}
 use mathlib.Core.List.{List}
 use lib.ListN.{getD}
 use lib.Dec.{eqb}
-use Rattle.protocol.specs.Columns.{phaseBase}
+use Rattle.columns.specs.Columns.{phaseBase}
 use Rattle.theory.specs.Lists.{pick}
 
 -- of a process whose newest event is e, 0 where it has none: its epoch or its phase, by the column's base

@@ -7,7 +7,7 @@ ghost use Prim.Native.Nat.{ℕ, _+_, _≤_, _<_};
 ghost use lib.ListN.{length, getD, set};
 ghost use Rattle.words.specs.Area.{areaWords, wordsFrom};
 ghost use Rattle.trace.specs.Trace.{Trace};
-ghost use Rattle.protocol.specs.Columns.{epochBase};
+ghost use Rattle.columns.specs.Columns.{epochBase};
 ghost use Rattle.theory.specs.Lists.{pick};
 ghost use Rattle.theory.specs.Events.{size};
 ghost use Rattle.theory.specs.Epochs.{past};
@@ -16,8 +16,8 @@ ghost use Rattle.recovery_line.specs.Given.{Tabled, each, lineIn, lineTo, resta
 ghost use Rattle.recovery_line.specs.Words.{phaseW};
 ghost use Rattle.lowering.specs.Lowering.{Pending};
 ghost use Rattle.greatest.specs.Newest.{afterW, restartPhase};
-use protocol::EPOCH_BASE;
-use protocol::PHASE_BASE;
+use columns::EPOCH_BASE;
+use columns::PHASE_BASE;
 use recovery_line::Line;
 use recovery_line::STAYS;
 

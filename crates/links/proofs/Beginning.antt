@@ -22,7 +22,7 @@ use Rattle.links.proofs.Columns.{few, count-is, kind-is, pair-lt, base,
 use Rattle.links.proofs.Claims.{started}
 use Rattle.links.specs.Given.{Given}
 use Rattle.links.specs.Shapes.{PairedTo, Linkable}
-use Rattle.protocol.proofs.Passes.{zero-word}
+use Rattle.words.proofs.Area.{zero-word}
 
 pub zeros : (a b : List ℕ) → length a ≡ areaWords → b ≡ replicate (length a) 0 → b ≡ replicate areaWords 0
 zeros a b h e = e ∙ ap (λ n. replicate n 0) h

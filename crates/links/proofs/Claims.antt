@@ -12,7 +12,7 @@ use Rattle.theory.specs.Line.{recorded}
 use Rattle.theory.specs.Order.{run}
 use Rattle.theory.proofs.WellFormed.{valid}
 use Rattle.theory.proofs.Epochs.{laws}
-use Rattle.protocol.specs.Columns.{Columns}
+use Rattle.columns.specs.Columns.{Columns}
 use Rattle.machine.specs.Related.{Gated, Started}
 use Rattle.links.specs.Linking.{linkedL, linkedA, beginA}
 use Rattle.links.proofs.Passes.{linked-cols, linked-rel}

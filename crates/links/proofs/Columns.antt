@@ -24,9 +24,8 @@ use Rattle.theory.proofs.Base.{by, clash, both, same2, place-there, place-le}
 use Rattle.theory.proofs.Events.{sendTo, sends-split, sends-is, recvs-is, sends-of, recvs-of, sendOf-at, partner}
 use Rattle.theory.proofs.WellFormed.{valid}
 use Rattle.theory.proofs.Epochs.{logged-is, laws}
-use Rattle.protocol.specs.Columns.{Columns}
-use Rattle.protocol.proofs.Bounds.{phase-most}
-use Rattle.protocol.proofs.Passes.{well-few}
+use Rattle.columns.specs.Columns.{Columns}
+use Rattle.columns.proofs.Bounds.{phase-most, well-few}
 use Rattle.machine.specs.Words.{noPhase, kindW, peerW, valueW, numberW, kindOf}
 use Rattle.machine.specs.Related.{goes, drops, orph, numberAt, valueAt, Gated, Base}
 use Rattle.links.specs.Linking.{atW, epochW, pairW, backW, doneW, mineW, orphanW, goesW, earlyW}

@@ -8,7 +8,7 @@ use Rattle.trace.specs.Fit.{wellFormed}
 use Rattle.theory.specs.Events.{size}
 use Rattle.theory.specs.Epochs.{past}
 use Rattle.theory.specs.Line.{recorded}
-use Rattle.protocol.specs.Columns.{Columns}
+use Rattle.columns.specs.Columns.{Columns}
 use Rattle.machine.specs.Related.{Gated}
 
 -- the recorded run of a trace with a cut and a line, as its words tell it

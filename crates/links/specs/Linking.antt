@@ -6,7 +6,7 @@ use Prim.Native.Nat.{ℕ, zero, suc, _+_, _-_, _*_, _%_}
 use lib.ListN.{getD, set}
 use lib.Dec.{leb, ltb, eqb}
 use Rattle.trace.specs.Table.{eventBase}
-use Rattle.protocol.specs.Columns.{epochBase, matchBase}
+use Rattle.columns.specs.Columns.{epochBase, matchBase}
 use Rattle.theory.specs.Lists.{pick}
 use Rattle.machine.specs.Words.{takenBase, currentBase, orphanBase, takeBase, putBase, lowPlace, kindW, peerW, valueW, numberW, curW, orpW, putW, lowOf}
 

@@ -5,7 +5,7 @@ ghost use Prim.Native.Nat.{ℕ, _<_};
 ghost use lib.ListN.{length, getD, set};
 ghost use Rattle.recovery_line.specs.Words.{Sized};
 ghost use Rattle.lowering.specs.Lowering.{lostW, lowerAt, Lowered, joinedBy, Linked, Pending, undoneW, Before, Lowerable};
-use protocol::EPOCH_BASE;
+use columns::EPOCH_BASE;
 use sets::EVERYONE;
 use trace::EVENT_BASE;
 

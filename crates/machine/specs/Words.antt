@@ -7,7 +7,7 @@ use Prim.Native.Nat.{ℕ, zero, suc, _+_, _-_, _*_, _/_, _%_, _≤_, _<_}
 use lib.ListN.{getD, set}
 use lib.Dec.{ltb, eqb}
 use Rattle.trace.specs.Table.{eventBase, valueBase}
-use Rattle.protocol.specs.Columns.{numberBase, phaseBase}
+use Rattle.columns.specs.Columns.{numberBase, phaseBase}
 use Rattle.theory.specs.Lists.{pick}
 use Rattle.theory.specs.Events.{Kind, send, recv, other}
 use Rattle.theory.specs.Order.{run}

@@ -8,7 +8,7 @@ ghost use lib.ListN.{length, getD};
 ghost use Rattle.words.specs.Area.{areaWords};
 ghost use Rattle.machine.specs.Words.{currentBase, lowPlace, sendOk, eventOk, processOk, handOk, allowedW, lesser, lowerW, lowOf, Bounded, noneFrom, keptPhase};
 ghost use Rattle.machine.specs.Shapes.{Readable};
-use protocol::PHASE_BASE;
+use columns::PHASE_BASE;
 use trace::EVENT_BASE;
 
 // Words of the run area. Word e is the number of the message that receive e took, word TAKEN + e its value; the working words come

@@ -6,6 +6,7 @@ ghost use lib.ListN.{length};
 ghost use Rattle.words.specs.Area.{areaWords};
 ghost use Rattle.machine.specs.Words.{lowOf, dropW, putInW, takeOutW, eventW, processW, applyW, Bounded};
 ghost use Rattle.machine.specs.Shapes.{Movable};
+use columns::NUMBER_BASE;
 use machine::CURRENT;
 use machine::HANDS;
 use machine::LOW;
@@ -14,7 +15,6 @@ use machine::ORPHAN;
 use machine::PUT;
 use machine::TAKE;
 use machine::TAKEN;
-use protocol::NUMBER_BASE;
 use trace::EVENT_BASE;
 use trace::VALUE_BASE;
 

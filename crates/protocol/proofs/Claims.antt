@@ -12,7 +12,7 @@ use Rattle.theory.specs.Epochs.{Rule}
 use Rattle.theory.specs.Line.{recorded}
 use Rattle.theory.specs.Laws.{Laws}
 use Rattle.theory.proofs.Epochs.{laws}
-use Rattle.protocol.specs.Columns.{Columns, Others}
+use Rattle.columns.specs.Columns.{Columns, Others}
 use Rattle.protocol.proofs.Others.{same-table}
 use Rattle.protocol.proofs.Passes.{held-formed, held-valid}
 

@@ -1,20 +1,19 @@
 -- The pass over the events: where it begins, that each event keeps the tables right, and that they end as the full table, its columns and its other words.
 use Prim.Native.Nat.{ℕ, zero, suc, _+_, _*_, _<_, _≤_}
 use mathlib.Core.Path.{_≡_, refl, sym, ap, _∙_}
-use mathlib.Core.Bool.{true, _&&_}
-use mathlib.Core.List.{List, []}
+use mathlib.Core.Bool.{true}
+use mathlib.Core.List.{List}
 use native.Mathlib.Omega.{arith}
-use lib.Dec.{leb}
-use lib.ListN.{length, getD, set, take, replicate, length-set, length-replicate, getD-replicate, List·getD-eq-default}
+use lib.ListN.{length, getD, set, take, replicate, length-set}
 use lib.Seq.{getD-take, getD-set-same, getD-set-other}
-use borrow.Author.Tests.{leb-true, le-leb, lt-leb, le-ltb}
+use borrow.Author.Tests.{le-leb, lt-leb, le-ltb}
 use Rattle.words.specs.Area.{areaWords, wordsFrom}
 use Rattle.words.proofs.Area.{getD-words}
-use Rattle.words.proofs.Cases.{by-eq, by-lt, and-left, and-right}
+use Rattle.words.proofs.Cases.{by-eq, by-lt}
 use Rattle.trace.specs.declared.Event.{Event}
 use Rattle.trace.specs.declared.Event.the-variants.{Send, Recv, Save}
 use Rattle.trace.specs.Trace.{Trace}
-use Rattle.trace.specs.Fit.{allFit, wellFormed}
+use Rattle.trace.specs.Fit.{wellFormed}
 use Rattle.trace.specs.Table.{tableWord}
 use Rattle.table.specs.Held.{heldEvent, heldEvents, held, holdsTrace}
 use Rattle.table.proofs.Places.{length-held}
@@ -25,13 +24,14 @@ use Rattle.theory.specs.Epochs.{past, notes, epochAt, phaseAt}
 use Rattle.theory.proofs.Base.{place-le, place-there, cnt-le, cnt-bound}
 use Rattle.theory.proofs.Events.{sends-is, partner}
 use Rattle.theory.proofs.WellFormed.{Valid, valid}
-use Rattle.protocol.specs.Columns.{Columns, Others}
-use Rattle.protocol.specs.Filling.{noteFull, noteWork, Notable, Filled, Working}
-use Rattle.protocol.proofs.Moves.{send-here, send-at, recv-here, recv-at, save-at}
-use Rattle.protocol.proofs.Bounds.{sendOf-most, phase-most, epoch-most}
+use Rattle.columns.specs.Columns.{Columns, Others}
+use Rattle.columns.specs.Filling.{noteFull, noteWork, Notable, Filled, Working}
+use Rattle.columns.proofs.Moves.{send-here, send-at, recv-here, recv-at, save-at}
+use Rattle.columns.proofs.Bounds.{sendOf-most, phase-most, epoch-most, well-few}
 use Rattle.protocol.proofs.Columns.{no-message, oldest-is, oldest-found, send-filled, recv-filled, save-filled, latest-number}
 use Rattle.protocol.proofs.Others.{others-from, send-others, recv-others, save-others}
 use Rattle.protocol.proofs.Work.{send-working, recv-working, save-working}
+use Rattle.words.proofs.Area.{zero-word}
 
 -- ---- The trace that an area holds
 
@@ -40,14 +40,6 @@ unfolding heldEvents
 held-get a i zero j d h = absurd (let z : ⊥ = omega arith in z)
 held-get a i (suc n) zero d h = ap (heldEvent a) (omega arith)
 held-get a i (suc n) (suc j) d h = held-get a (suc i) n j d (omega arith) ∙ ap (heldEvent a) (omega arith)
-
-pub well-few : (t : Trace) → wellFormed t ≡ true → size t ≤ 2048
-unfolding wellFormed
-well-few t w =
-    let fits = allFit (t .procs) [] (t .events) in
-    let b = and-right (leb 2 (t .procs)) (leb (t .procs) 64 && (leb (size t) 2048 && fits)) w in
-    let c = and-right (leb (t .procs) 64) (leb (size t) 2048 && fits) b in
-    leb-true (size t) 2048 (and-left (leb (size t) 2048) fits c)
 
 module _ (a : List ℕ) (h : holdsTrace a ≡ true) where
   facts : (16384 ≤ length a) × (wellFormed (held a) ≡ true) × (take 16384 a ≡ wordsFrom (tableWord (held a)) 0 16384)
@@ -230,12 +222,6 @@ pub copied-others : (t : Trace) (x : ℕ) (before full after : List ℕ) → ((k
     → Others t x (set full 6163 0) after → Others t x before after
 copied-others t x before full after c O =
     others-from t x before (set full 6163 0) after (λ k h. getD-set-other full 6163 k 0 0 (λ z. omega arith) ∙ c k h) O
-
-pub zero-word : (n k : ℕ) → _≡_ {A = ℕ} (getD (replicate n 0) k 0) 0
-zero-word n k =
-    by-lt k n
-    (λ h. getD-replicate {A = ℕ} n k 0 0 h)
-    (λ h. List·getD-eq-default {A = ℕ} (replicate n 0) 0 {n = k} (rw (length-replicate {A = ℕ} n 0) h))
 
 pub begun-working : (t : Trace) (work : List ℕ) → length work ≡ 10369 → ((k : ℕ) → k < 128 → getD work k 0 ≡ 1)
     → ((k : ℕ) → 128 ≤ k → getD work k 0 ≡ getD (replicate 10369 0) k 0) → Working t 0 work

@@ -6,8 +6,9 @@ use mathlib.Core.List.{List, _++_}
 use mathlib.Core.Bool.{true}
 use Rattle.trace.specs.Trace.{Trace}
 use Rattle.trace.specs.Fit.{wellFormed}
-use Rattle.reader.specs.Line.{most, mostSet}
-use Rattle.reader.specs.Render.{render, renderFailure}
+use Rattle.lines.specs.Line.{most, mostSet}
+use Rattle.reader.specs.Render.{render}
+use Rattle.lines.specs.Render.{renderFailure}
 use Rattle.reader.specs.Failure.{refused, failing, failureOf}
 use Rattle.reader.specs.Verdict.{accepted, verdict}
 use Rattle.reader.proofs.Whole.{verdict-taken, render-taken, failing-taken, render-failing, refused-taken}

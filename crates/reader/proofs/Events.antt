@@ -12,17 +12,18 @@ use Rattle.trace.specs.declared.Event.{Event}
 use Rattle.trace.specs.declared.Event.the-variants.{Send, Recv, Save}
 use Rattle.trace.specs.Trace.{Trace}
 use Rattle.trace.specs.Fit.{faultOf, valueFits, allFit}
-use Rattle.reader.specs.declared.Line.{Line}
-use Rattle.reader.specs.declared.Line as line
+use Rattle.lines.specs.declared.Line.{Line}
+use Rattle.lines.specs.declared.Line as line
 use Rattle.reader.specs.declared.Judged.{Judged}
 use Rattle.reader.specs.declared.Judged.the-variants.{Fit, Fails, Unfit}
-use Rattle.reader.specs.Line.{lineOf, most, mostSet}
-use Rattle.reader.specs.Render.{renderEvent, renderEvents, renderFailure}
+use Rattle.lines.specs.Line.{lineOf, most, mostSet}
+use Rattle.lines.specs.Render.{renderEvent, renderFailure}
+use Rattle.reader.specs.Render.{renderEvents}
 use Rattle.reader.specs.Verdict.{pieces, extended, faultHere, judgeEvent, judge, Scan, afterLine, linesFrom}
 use Rattle.trace.proofs.Faults.{send-fit, recv-fit, save-fit}
 use Rattle.reader.proofs.Judging.{fit-few}
 use Rattle.reader.proofs.Turns.{with-lf}
-use Rattle.reader.proofs.OneLine.{Small, Says, failure-text, line-says, lineFor, event-line}
+use Rattle.lines.proofs.OneLine.{Small, Says, failure-text, line-says, lineFor, event-line}
 use Rattle.reader.proofs.Pieces.{joined, line-piece, plain-event}
 
 -- the trace with more events

@@ -12,9 +12,9 @@ use Rattle.text.specs.declared.Num.{Num}
 use Rattle.text.specs.declared.Num.the-variants.{Value, Refused}
 use Rattle.text.specs.Number.{numberAt}
 use Rattle.text.specs.Key.{keyAt, startsWith, fieldAt}
-use Rattle.reader.specs.declared.Line.{Line}
-use Rattle.reader.specs.declared.Line.the-variants.{Procs, Send, Recv, Save, Failure, Malformed}
-use Rattle.reader.specs.Line.{kSend, kTo, kVal, kRecv, kFrom, kSave, kProcs, kFail, kSet, most, mostSet, thenLine, whenEnd, whenForm, procsOf, sendOf, recvOf, saveOf, failOf, lineOf}
+use Rattle.lines.specs.declared.Line.{Line}
+use Rattle.lines.specs.declared.Line.the-variants.{Procs, Send, Recv, Save, Failure, Malformed}
+use Rattle.lines.specs.Line.{kSend, kTo, kVal, kRecv, kFrom, kSave, kProcs, kFail, kSet, most, mostSet, thenLine, whenEnd, whenForm, procsOf, sendOf, recvOf, saveOf, failOf, lineOf}
 use Rattle.reader.specs.Reading.{countOnly}
 
 -- two keys that differ in their first byte do not stand in the same place

@@ -11,8 +11,8 @@ use Rattle.trace.specs.declared.Event.the-variants.{Send, Recv, Save}
 use Rattle.trace.specs.Trace.{Trace}
 use Rattle.trace.specs.Fit.{faultOf}
 use Rattle.words.proofs.Cases.{by-eq}
-use Rattle.reader.specs.declared.Line.{Line}
-use Rattle.reader.specs.declared.Line as line
+use Rattle.lines.specs.declared.Line.{Line}
+use Rattle.lines.specs.declared.Line as line
 use Rattle.reader.specs.declared.Judged.the-variants.{Fit, Unfit}
 use Rattle.reader.specs.Verdict.{faultHere, judgeEvent, judge}
 use Rattle.trace.proofs.Faults.{or-zero}

@@ -1,13 +1,13 @@
+-- to be read first
+pub mod Claims
+-- laws of the code
 pub mod Judging
 pub mod Cutting
 pub mod Storing
 pub mod First
 pub mod Turns
 pub mod Verdicts
-pub mod Decimal
-pub mod Field
-pub mod OneLine
+-- the text of a trace
 pub mod Pieces
 pub mod Events
 pub mod Whole
-pub mod Claims

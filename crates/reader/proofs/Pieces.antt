@@ -10,12 +10,12 @@ use Rattle.words.proofs.Cases.{by-bool, by-lt, and-left, and-right, and-both}
 use Rattle.text.specs.Number.{lastDigits, decimal}
 use Rattle.trace.specs.declared.Event.{Event}
 use Rattle.trace.specs.declared.Event.the-variants.{Send, Recv, Save}
-use Rattle.reader.specs.Line.{kProcs}
-use Rattle.reader.specs.Render.{renderEvent}
+use Rattle.lines.specs.Line.{kProcs}
+use Rattle.lines.specs.Render.{renderEvent}
 use Rattle.reader.specs.Verdict.{grow, pieces}
 use Rattle.text.proofs.Numbers.{last-small, last-more}
-use Rattle.reader.proofs.Decimal.{last-none}
-use Rattle.reader.proofs.OneLine.{failureText, send-text, recv-text, save-text}
+use Rattle.lines.proofs.Decimal.{last-none}
+use Rattle.lines.proofs.OneLine.{failureText, send-text, recv-text, save-text}
 
 -- pieces with an LF between each two
 unfoldable pub joined : List (List ℕ) → List ℕ

@@ -11,15 +11,15 @@ use Rattle.text.specs.declared.LineEnd.the-variants.{At, Missing}
 use Rattle.text.specs.Line.{lineEnd}
 use Rattle.trace.specs.declared.Event.{Event}
 use Rattle.trace.specs.Trace.{Trace}
-use Rattle.reader.specs.declared.Line.{Line}
-use Rattle.reader.specs.declared.Line as line
+use Rattle.lines.specs.declared.Line.{Line}
+use Rattle.lines.specs.declared.Line as line
 use Rattle.reader.specs.declared.Judged.{Judged}
 use Rattle.reader.proofs.Judged as judged
-use Rattle.reader.proofs.Line as lineType
+use Rattle.lines.proofs.Line as lineType
 use Rattle.reader.specs.declared.Judged.the-variants.{Fit, Fails, Unfit}
 use Rattle.reader.specs.declared.Scanned.{Scanned}
 use Rattle.reader.specs.declared.Scanned.the-variants.{Refused, Ended}
-use Rattle.reader.specs.Line.{lineOf}
+use Rattle.lines.specs.Line.{lineOf}
 use Rattle.reader.specs.Verdict.{Scan, refused, ended, pieces, extended, judge, afterLine, atEnd, linesFrom, firstLine, scanPieces, scan}
 use Rattle.reader.specs.Reading.{countOnly, Holds, stopOf, Outcome}
 use Rattle.reader.proofs.Pieces.{first-piece}

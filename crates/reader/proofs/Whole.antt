@@ -12,14 +12,15 @@ use Rattle.text.specs.Number.{decimal}
 use Rattle.trace.specs.declared.Event.{Event}
 use Rattle.trace.specs.Trace.{Trace}
 use Rattle.trace.specs.Fit.{wellFormed}
-use Rattle.reader.specs.declared.Line.{Line}
-use Rattle.reader.specs.declared.Line as line
-use Rattle.reader.specs.Line.{kProcs, lineOf, most, mostSet}
-use Rattle.reader.specs.Render.{renderEvents, render, renderFailure}
+use Rattle.lines.specs.declared.Line.{Line}
+use Rattle.lines.specs.declared.Line as line
+use Rattle.lines.specs.Line.{kProcs, lineOf, most, mostSet}
+use Rattle.reader.specs.Render.{renderEvents, render}
+use Rattle.lines.specs.Render.{renderFailure}
 use Rattle.reader.specs.Failure.{Failing, refused, failing, lastLine, failingOf, failureOf}
 use Rattle.reader.specs.Verdict.{pieces, judge, Scan, linesFrom, firstLine, scanPieces, scan, Verdict, verdictOf, verdict}
 use Rattle.reader.proofs.Turns.{with-lf}
-use Rattle.reader.proofs.OneLine.{Says, failureText, failure-text, line-says, procs-line, failure-line}
+use Rattle.lines.proofs.OneLine.{Says, failureText, failure-text, line-says, procs-line, failure-line}
 use Rattle.reader.proofs.Pieces.{joined, first-piece, joined-pieces, line-piece, plain-procs, plain-failure}
 use Rattle.reader.proofs.Events.{Grown, Heard, lines-heard, events-read}
 

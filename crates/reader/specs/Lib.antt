@@ -1,6 +1,5 @@
-pub mod Line
-pub mod Verdict
-pub mod Render
 pub mod Answer
-pub mod Reading
 pub mod Failure
+pub mod Reading
+pub mod Render
+pub mod Verdict

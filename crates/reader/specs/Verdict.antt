@@ -9,11 +9,11 @@ use Rattle.trace.specs.declared.Event.{Event}
 use Rattle.trace.specs.declared.Event.the-variants.{Send, Recv, Save}
 use Rattle.trace.specs.Trace.{Trace}
 use Rattle.trace.specs.Fit.{orElse, faultOf}
-use Rattle.reader.specs.declared.Line.{Line}
-use Rattle.reader.specs.declared.Line as line
+use Rattle.lines.specs.declared.Line.{Line}
+use Rattle.lines.specs.declared.Line as line
 use Rattle.reader.specs.declared.Judged.{Judged}
 use Rattle.reader.specs.declared.Judged.the-variants.{Fit, Fails, Unfit}
-use Rattle.reader.specs.Line.{lineOf}
+use Rattle.lines.specs.Line.{lineOf}
 
 abbrev pub pickPieces : Bool → List (List ℕ) → List (List ℕ) → List (List ℕ)
 pickPieces true a b = a

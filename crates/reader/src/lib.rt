@@ -1,12 +1,12 @@
-// The reader of trace texts. `read` gives the verdict on a text, the refusal with its number and place or the trace, and leaves
-// the trace's words in the table area. The definitions are in specs/: Line (what a line says), Verdict (the verdict on a text),
-// Render (the text of a trace) and Answer (answer and area). proofs/Claims states that a text is accepted exactly if it is the
-// text of a well-formed trace. No public function has a `requires`. Assumes nothing.
+// The reader of trace texts. `read` gives the verdict on a text, the refusal with its number and place or the trace, and leaves the trace's
+// words in the table area. The definitions are in specs/: Verdict (the verdict on a text), Render (the text of a trace) and Answer (answer and
+// area). proofs/Claims states that a text is accepted exactly if it is the text of a well-formed trace. No public function has a `requires`.
+// Assumes nothing.
 ghost use mathlib.Core.Path.{_≡_};
 ghost use mathlib.Core.List.{List, []};
 ghost use Prim.Native.Nat.{_≤_, _<_};
 ghost use lib.ListN.{length, drop, replicate};
-ghost use Rattle.reader.specs.Line.{lineOf, procsOf, sendOf, recvOf, saveOf, failOf};
+ghost use Rattle.lines.specs.Line.{lineOf};
 ghost use Rattle.reader.specs.Answer.{answerOf, ruleOf, readAnswer, readArea};
 ghost use Rattle.reader.specs.Failure.{failureOf, traceOf, failureAnswerOf, failureAnswer, failureArea};
 ghost use Rattle.words.specs.Area.{areaWords, wordsFrom};
@@ -14,20 +14,10 @@ ghost use Rattle.trace.specs.Tally.{Tally};
 ghost use Rattle.trace.specs.declared.Event.{Event};
 ghost use Rattle.reader.specs.Verdict.{faultHere, judgeEvent, judge, linesFrom, pieces, scan, verdict};
 ghost use Rattle.reader.specs.Reading.{countOnly, Holds, appended, stopOf, Outcome};
+use lines::Line;
 use text::LineEnd;
-use text::Num;
 use trace::Event;
 use words::AREA_WORDS;
-
-// What a line says: a process count, a send, a receive, a checkpoint or a failure, each with its numbers; or none of these.
-pub enum Line {
-    Procs(u64),
-    Send(u64, u64, u64),
-    Recv(u64, u64),
-    Save(u64),
-    Failure(u64, u64),
-    Malformed,
-}
 
 // A line where an event or a failure is due: a fit event, a failure, or the number of what is wrong.
 pub enum Judged {
@@ -58,127 +48,12 @@ pub struct FailureAnswer {
     pub set: u64,
 }
 
-const MOST: u64 = 4294967295;
-
-const MOST_SET: u64 = 18446744073709551615;
-
-fn procs_line(line: &[u8]) -> Line
-    ensures { λ r. ⌜ r ≡ procsOf (now (line .entry)) ⌝ }
-{
-    let Num::Value(n, p) = text::number(line, 6, MOST) else {
-        return Line::Malformed;
-    };
-    if p == line.len() {
-        Line::Procs(n)
-    } else {
-        Line::Malformed
-    }
-}
-
-fn send_line(line: &[u8]) -> Line
-    ensures { λ r. ⌜ r ≡ sendOf (now (line .entry)) ⌝ }
-{
-    let Num::Value(a, p) = text::number(line, 11, MOST) else {
-        return Line::Malformed;
-    };
-    if !text::key(line, p, b" to=") {
-        return Line::Malformed;
-    }
-    let Num::Value(b, q) = text::number(line, p + 4, MOST) else {
-        return Line::Malformed;
-    };
-    if !text::key(line, q, b" val=") {
-        return Line::Malformed;
-    }
-    let Num::Value(v, r) = text::number(line, q + 5, MOST) else {
-        return Line::Malformed;
-    };
-    if r == line.len() {
-        Line::Send(a, b, v)
-    } else {
-        Line::Malformed
-    }
-}
-
-fn recv_line(line: &[u8]) -> Line
-    ensures { λ r. ⌜ r ≡ recvOf (now (line .entry)) ⌝ }
-{
-    let Num::Value(a, p) = text::number(line, 11, MOST) else {
-        return Line::Malformed;
-    };
-    if !text::key(line, p, b" from=") {
-        return Line::Malformed;
-    }
-    let Num::Value(b, q) = text::number(line, p + 6, MOST) else {
-        return Line::Malformed;
-    };
-    if q == line.len() {
-        Line::Recv(a, b)
-    } else {
-        Line::Malformed
-    }
-}
-
-fn save_line(line: &[u8]) -> Line
-    ensures { λ r. ⌜ r ≡ saveOf (now (line .entry)) ⌝ }
-{
-    let Num::Value(a, p) = text::number(line, 11, MOST) else {
-        return Line::Malformed;
-    };
-    if p == line.len() {
-        Line::Save(a)
-    } else {
-        Line::Malformed
-    }
-}
-
-fn fail_line(line: &[u8]) -> Line
-    ensures { λ r. ⌜ r ≡ failOf (now (line .entry)) ⌝ }
-{
-    let Num::Value(k, p) = text::number(line, 5, MOST) else {
-        return Line::Malformed;
-    };
-    if !text::key(line, p, b" set=") {
-        return Line::Malformed;
-    }
-    let Num::Value(m, q) = text::number(line, p + 5, MOST_SET) else {
-        return Line::Malformed;
-    };
-    if q == line.len() {
-        Line::Failure(k, m)
-    } else {
-        Line::Malformed
-    }
-}
-
-// What a line says, by the key at its start.
-pub fn read_line(line: &[u8]) -> Line
-    ensures { λ r. ⌜ r ≡ lineOf (now (line .entry)) ⌝ }
-{
-    if text::key(line, 0, b"ev=send at=") {
-        return send_line(line);
-    }
-    if text::key(line, 0, b"ev=recv at=") {
-        return recv_line(line);
-    }
-    if text::key(line, 0, b"ev=save at=") {
-        return save_line(line);
-    }
-    if text::key(line, 0, b"procs=") {
-        return procs_line(line);
-    }
-    if text::key(line, 0, b"fail=") {
-        return fail_line(line);
-    }
-    Line::Malformed
-}
-
 // What the first line of a text says, where only a process count is due. (So `read_line` has one caller, whose loop it can become part of.)
 fn first_line(line: &[u8]) -> Line
     ensures { λ r. ⌜ r ≡ countOnly (lineOf (now (line .entry))) ⌝ }
 {
     if text::key(line, 0, b"procs=") {
-        return procs_line(line);
+        return lines::procs_line(line);
     }
     Line::Malformed
 }
@@ -267,7 +142,7 @@ fn read_events(
         let LineEnd::At(end) = text::line_end(text, at) else {
             return Scanned::Refused(1, n + 2);
         };
-        let j = judge_line(counts, procs, n, read_line(&text[at..end]));
+        let j = judge_line(counts, procs, n, lines::read_line(&text[at..end]));
         let Judged::Fit(e) = j else {
             return stop(j, n + 2, end + 1);
         };

@@ -1,38 +1,21 @@
--- From the full table of a trace and the gates of a line to what the layers below ask.
+-- From a full table and gates to what the replay is given.
 use Prim.Native.Nat.{ℕ, _+_, _-_, _<_, _≤_}
 use mathlib.Core.Path.{_≡_, ap, _∙_}
-use mathlib.Core.Bool.{Bool, true, _&&_}
 use mathlib.Core.List.{List}
 use native.Mathlib.Omega.{arith}
-use lib.Dec.{eqb}
-use lib.ListN.{length, getD}
-use borrow.Author.Tests.{eq-eqb, lt-ltb, le-ltb}
-use Rattle.words.specs.Area.{areaWords, wordsFrom}
+use lib.ListN.{getD}
+use borrow.Author.Tests.{lt-ltb, le-ltb}
+use Rattle.words.specs.Area.{wordsFrom}
 use Rattle.words.proofs.Area.{getD-words}
 use Rattle.trace.specs.Trace.{Trace}
-use Rattle.table.specs.Held.{held, holdsTrace}
 use Rattle.theory.specs.Events.{size}
 use Rattle.theory.specs.Epochs.{past}
 use Rattle.theory.specs.Line.{recorded, restartIn}
 use Rattle.theory.specs.Replay.{gate}
-use Rattle.theory.proofs.Refusals.{failure-fit}
 use Rattle.theory.proofs.WellFormed.{valid}
-use Rattle.protocol.specs.Columns.{Columns}
-use Rattle.protocol.proofs.Passes.{held-formed}
 use Rattle.recovery_line.specs.Given.{Tabled}
 use Rattle.gates.specs.Gates.{gateWord}
 use Rattle.links.specs.Given.{Given}
-use Rattle.recovery.specs.Prepared.{Filled}
-
--- `protocol::tabulate` on a table of 16,384 words says whether the area holds a trace
-pub tabled-holds : (a full : List ℕ) (r : Bool) → length full ≡ areaWords → r ≡ (eqb (length full) areaWords && holdsTrace a) → r ≡ holdsTrace a
-tabled-holds a full r l e = e ∙ ap (λ (b : Bool). b && holdsTrace a) (eq-eqb (length full) 16384 l)
-
-pub tabled : (a full : List ℕ) → holdsTrace a ≡ true → Columns (held a) full → Tabled (held a) full
-tabled a full h C = record { formed = held-formed a h; columns = C }
-
-pub step-within : (a : List ℕ) (room step set : ℕ) (full : List ℕ) → Filled a room step set full → step ≤ size (held a)
-step-within a room step set full F = failure-fit (held a) step set .0 (F .fit) .step-most
 
 module _ (t : Trace) (full : List ℕ) (G : Tabled t full) (cut : ℕ) (cl : cut ≤ size t) (line : ℕ → ℕ) (gates : List ℕ)
     (g : gates ≡ wordsFrom (gateWord t cut line) 0 192) where

@@ -1,6 +1,6 @@
 pub mod Given
-pub mod Preparing
-pub mod Replaying
 pub mod Listing
-pub mod Restarting
+pub mod Preparing
 pub mod Recovering
+pub mod Replaying
+pub mod Taking

@@ -13,9 +13,10 @@ use Rattle.theory.specs.Epochs.{past}
 use Rattle.theory.specs.Line.{Run, recorded}
 use Rattle.theory.specs.Order.{Outcome, carriedOut, refused}
 use Rattle.theory.proofs.WellFormed.{valid}
-use Rattle.protocol.proofs.Passes.{well-few}
-use Rattle.classes.specs.Listing.{listWord, Given as Listable}
-use Rattle.classes.proofs.Whole.{rows-few}
+use Rattle.columns.proofs.Bounds.{well-few}
+use Rattle.listing.specs.Listing.{listWord}
+use Rattle.classes.specs.Classes.{Given as Listable}
+use Rattle.listing.proofs.Whole.{rows-few}
 use Rattle.recovery_line.specs.declared.Line.{Line}
 use Rattle.machine.specs.Related.{recordEnd}
 use Rattle.orders.specs.Record.{recordAt}

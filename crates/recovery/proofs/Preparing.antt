@@ -1,11 +1,11 @@
 -- Each way out of `fill_table` and `prepare`: the number by the definitions.
-use Prim.Native.Nat.{ℕ, _^_, _<_, _≤_}
+use Prim.Native.Nat.{ℕ, _^_, _≤_}
 use mathlib.Core.Path.{_≡_, refl, _∙_}
 use mathlib.Core.Bool.{Bool, true, false, _&&_, _||_, not}
 use mathlib.Core.List.{List}
 use lib.Dec.{leb, ltb, eqb}
 use lib.ListN.{length}
-use borrow.Author.Tests.{lt-ltb, le-ltb}
+use borrow.Author.Tests.{le-ltb}
 use Rattle.words.specs.Area.{areaWords}
 use Rattle.trace.specs.Fit.{orElse}
 use Rattle.table.specs.Held.{held, holdsTrace}
@@ -17,8 +17,8 @@ use Rattle.protocol.proofs.Passes.{held-long}
 use Rattle.recovery_line.specs.declared.Line.{Line}
 use Rattle.recovery_line.specs.Given.{lineIn}
 use Rattle.recovery.specs.Answers.{faultOf}
-use Rattle.recovery.specs.Prepared.{failureFaultIn}
-use Rattle.recovery.specs.Restart.{failureFaultOf}
+use Rattle.restart.specs.Filled.{failureFaultIn}
+use Rattle.restart.specs.Restart.{failureFaultOf}
 
 -- the first of the tests that holds gives the number, also where more is looked for afterwards
 first : (b₁ b₂ b₃ b₄ b₅ : Bool) (rest : ℕ) → let n = orElse b₂ 12 (orElse b₁ 12 (orElse b₃ 13 (orElse b₄ 8 (orElse b₅ 9 0)))) in
@@ -31,21 +31,14 @@ first false false false true b₅ rest h = refl
 first false false false false true rest h = refl
 first false false false false false rest h = absurd (h refl)
 
-module _ (a : List ℕ) (room step set : ℕ) where
-  pub short-area : room < areaWords → 12 ≡ failureFaultIn a room step set
-  short-area h = rw (lt-ltb room 16384 h)
+module _ (a : List ℕ) (room step set : ℕ) (l : Line) where
+  pub failure-first : (n : ℕ) → n ≡ failureFaultIn a room step set → (n ≡ 0 → ⊥) → n ≡ faultOf a room step set l
+  unfolding faultOf failureFaultOf failureFault lineFault
+  failure-first n e z =
+      let t = held a in
+      e ∙ first (ltb (length a) 16384) (ltb room 16384) (not (holdsTrace a)) (ltb (size t) step) (eqb set 0 || leb (2 ^ (t .procs)) set)
+      (orElse (not (eqb (l .count) (t .procs) && permits t (reached t past step) (inSet set) (lineIn l))) 10 0) (λ h. z (e ∙ h))
 
-  pub by-failure : areaWords ≤ room → (n : ℕ) → n ≡ failureFaultOf a step set → n ≡ failureFaultIn a room step set
-  by-failure h n e = e ∙ rw (le-ltb room 16384 h)
-
-  module _ (l : Line) where
-    pub failure-first : (n : ℕ) → n ≡ failureFaultIn a room step set → (n ≡ 0 → ⊥) → n ≡ faultOf a room step set l
-    unfolding faultOf failureFaultOf failureFault lineFault
-    failure-first n e z =
-        let t = held a in
-        e ∙ first (ltb (length a) 16384) (ltb room 16384) (not (holdsTrace a)) (ltb (size t) step) (eqb set 0 || leb (2 ^ (t .procs)) set)
-        (orElse (not (eqb (l .count) (t .procs) && permits t (reached t past step) (inSet set) (lineIn l))) 10 0) (λ h. z (e ∙ h))
-
-    pub line-number : areaWords ≤ room → holdsTrace a ≡ true → faultOf a room step set l ≡ lineFault (held a) step set (l .count) (lineIn l)
-    unfolding faultOf
-    line-number lr h = rw (le-ltb (length a) 16384 (held-long a h), le-ltb room 16384 lr, h)
+  pub line-number : areaWords ≤ room → holdsTrace a ≡ true → faultOf a room step set l ≡ lineFault (held a) step set (l .count) (lineIn l)
+  unfolding faultOf
+  line-number lr h = rw (le-ltb (length a) 16384 (held-long a h), le-ltb room 16384 lr, h)

@@ -12,14 +12,16 @@ use Rattle.recovery_line.specs.declared.Line.{Line}
 use Rattle.recovery.specs.declared.Recovered.{Recovered}
 use Rattle.recovery.specs.Answers.{runOf, replayAnswer}
 use Rattle.recovery.specs.Messages.{messagesAnswer, messagesArea}
-use Rattle.recovery.specs.Prepared.{failureFaultIn, Filled, Recovering}
+use Rattle.restart.specs.Filled.{failureFaultIn, Filled}
+use Rattle.recovery.specs.Prepared.{Recovering}
 use Rattle.recovery.specs.Recover.{recoverRefusal, Succeeds}
-use Rattle.recovery.specs.Restart.{failureFaultOf, restartAnswer}
-use Rattle.recovery.proofs.Given.{step-within}
-use Rattle.recovery.proofs.Preparing.{short-area, by-failure, failure-first}
+use Rattle.restart.specs.Restart.{failureFaultOf, restartAnswer}
+use Rattle.restart.proofs.Filling.{step-within, short-area, by-failure}
+use Rattle.recovery.proofs.Preparing.{failure-first}
 use Rattle.recovery.proofs.Replaying.{refuses, completed}
 use Rattle.recovery.proofs.Listing.{refuses-messages, lists}
-use Rattle.recovery.proofs.Restarting.{Ready, short, refuses-restart, answers-restart, not-refused}
+use Rattle.restart.proofs.Restarting.{Ready, short, refuses-restart, answers-restart}
+use Rattle.recovery.proofs.Taking.{not-refused}
 
 module _ (a : List ℕ) (step set : ℕ) where
   abbrev pub Answered : Recovered → List ℕ → Type 0

@@ -2,4 +2,3 @@ pub mod Answers
 pub mod Messages
 pub mod Prepared
 pub mod Recover
-pub mod Restart

@@ -7,7 +7,7 @@ use Rattle.words.specs.Area.{areaWords, wordsFrom}
 use Rattle.theory.specs.Lists.{pick}
 use Rattle.theory.specs.Line.{Run}
 use Rattle.theory.specs.Answers.{orphans, keptOnes, lostOnes}
-use Rattle.classes.specs.Listing.{listWord}
+use Rattle.listing.specs.Listing.{listWord}
 use Rattle.recovery_line.specs.declared.Line.{Line}
 use Rattle.recovery.specs.declared.Counted.{Counted}
 use Rattle.recovery.specs.Answers.{runOf, faultOf}

@@ -4,34 +4,20 @@ use mathlib.Core.Path.{_≡_}
 use mathlib.Core.Bool.{true}
 use mathlib.Core.List.{List}
 use lib.ListN.{length}
-use lib.Dec.{ltb}
 use Rattle.words.specs.Area.{areaWords, wordsFrom}
 use Rattle.trace.specs.Trace.{Trace}
-use Rattle.trace.specs.Fit.{orElse}
 use Rattle.table.specs.Held.{held, holdsTrace}
 use Rattle.theory.specs.Epochs.{past}
 use Rattle.theory.specs.Line.{Run, recorded}
 use Rattle.theory.specs.Order.{run, lowestOrder}
-use Rattle.theory.specs.Refusals.{failureFault}
-use Rattle.classes.specs.Listing.{listWord}
+use Rattle.listing.specs.Listing.{listWord}
 use Rattle.recovery_line.specs.declared.Line.{Line}
-use Rattle.recovery_line.specs.Given.{Tabled, lineIn}
+use Rattle.recovery_line.specs.Given.{lineIn}
 use Rattle.orders.specs.Answer.{answerOf}
 use Rattle.links.specs.Given.{Given}
 use Rattle.recovery.specs.declared.Recovered.{Recovered}
 use Rattle.recovery.specs.Messages.{countsOf}
-use Rattle.recovery.specs.Restart.{failureFaultOf, restartOf, Restarts}
-
--- what is wrong with the areas (`room` is how many words the run area has) and the failure: 12, 13, 8, 9, or 0
-abbrev pub failureFaultIn : List ℕ → ℕ → ℕ → ℕ → ℕ
-failureFaultIn a room step set = orElse (ltb room areaWords) 12 (failureFaultOf a step set)
-
--- the full table
-pub record Filled (a : List ℕ) (room step set : ℕ) (full : List ℕ) : Type 0 where
-  pub enough : areaWords ≤ room
-  pub holds : holdsTrace a ≡ true
-  pub fit : failureFault (held a) step set ≡ 0
-  pub tabled : Tabled (held a) full
+use Rattle.restart.specs.Restart.{restartOf, Restarts}
 
 -- the full table and the gates of a line
 pub record Prepared (a : List ℕ) (room step set : ℕ) (l : Line) (full gates : List ℕ) : Type 0 where

@@ -7,7 +7,7 @@ use Rattle.table.specs.Held.{held}
 use Rattle.recovery.specs.declared.Recovered.{Recovered}
 use Rattle.recovery.specs.Answers.{faultOf, refusal, Completed}
 use Rattle.recovery.specs.Messages.{messagesRefusal}
-use Rattle.recovery.specs.Restart.{restartRefusal, Restarts}
+use Rattle.restart.specs.Restart.{restartRefusal, Restarts}
 
 -- What is wrong with the table or the failure is wrong whatever the line, so that a refusal has its number three times.
 abbrev pub recoverRefusal : ℕ → Recovered

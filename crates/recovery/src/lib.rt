@@ -1,25 +1,26 @@
-// Recovery: a table area, a failure, a recovery line and an order of choices, answered and carried out. specs/Restart, Messages,
-// Answers and Recover say what each function answers and leaves, for every input; no public function has a `requires`. Assumes nothing.
+// Recovery: a table area, a failure, a recovery line and an order of choices, answered and carried out. specs/Answers, Messages and Recover say
+// what each function answers and leaves, for every input; no public function has a `requires`. (`restart` is a crate of its own.) Assumes
+// nothing.
 ghost use mathlib.Core.Path.{_≡_};
-ghost use Prim.Native.Nat.{ℕ, _+_, _<_, _≤_};
+ghost use Prim.Native.Nat.{ℕ, _+_, _≤_};
 ghost use lib.ListN.{length, replicate};
 ghost use Rattle.words.specs.Area.{areaWords, wordsFrom};
 ghost use Rattle.trace.specs.Trace.{Trace};
-ghost use Rattle.table.specs.Held.{held};
 ghost use Rattle.theory.specs.Events.{size};
 ghost use Rattle.theory.specs.Epochs.{past};
 ghost use Rattle.theory.specs.Line.{recorded};
 ghost use Rattle.theory.specs.Order.{lowestOrder};
-ghost use Rattle.classes.specs.Listing.{listWord};
+ghost use Rattle.listing.specs.Listing.{listWord};
 ghost use Rattle.recovery_line.specs.Given.{Tabled};
 ghost use Rattle.links.specs.Given.{Given};
 ghost use Rattle.recovery.specs.Answers.{runOf, faultOf, refusal, replayAnswer, replayArea, Equal, Completed};
-ghost use Rattle.recovery.specs.Prepared.{failureFaultIn, Filled, Prepared, Recovering};
+ghost use Rattle.recovery.specs.Prepared.{Prepared, Recovering};
 ghost use Rattle.recovery.specs.Messages.{countsOf, messagesRefusal, messagesAnswer, messagesArea};
 ghost use Rattle.recovery.specs.Recover.{recoverRefusal, Succeeds};
-ghost use Rattle.recovery.specs.Restart.{restartRefusal, restartOf, restartAnswer, Restarts};
+ghost use Rattle.restart.specs.Restart.{restartAnswer};
 use orders::Replayed;
 use recovery_line::Line;
+use restart::Restarted;
 use words::AREA_WORDS;
 
 fn refused(number: u32) -> Replayed
@@ -30,25 +31,6 @@ fn refused(number: u32) -> Replayed
         place: 0,
         steps: 0,
         complete: false,
-    }
-}
-
-// Checks the areas and the failure that a call is given: 12, 13, 8, 9, or 0. Where nothing is wrong, fills the full table of the trace.
-fn fill_table(table: &[u32], room: usize, step: u64, set: u64, full: &mut [u32]) -> u32
-    requires { ⌜ length (now full) ≡ areaWords ⌝ }
-    ensures fault { λ r. ⌜ r ≡ failureFaultIn (now (table .entry)) room step set ⌝ }
-    ensures given { λ r. ⌜ (r ≡ 0 → Filled (now (table .entry)) room step set (now (full .exit))) ⌝ }
-{
-    if room < AREA_WORDS {
-        return 12;
-    }
-    if table.len() < AREA_WORDS {
-        return 12;
-    }
-    if protocol::tabulate(table, full) {
-        faults::failure_fault(full, step, set)
-    } else {
-        13
     }
 }
 
@@ -66,7 +48,7 @@ fn prepare(
     ensures fault { λ r. ⌜ r ≡ faultOf (now (table .entry)) room step set line ⌝ }
     ensures given { λ r. ⌜ (r ≡ 0 → Prepared (now (table .entry)) room step set line (now (full .exit)) (now (gates .exit))) ⌝ }
 {
-    let failure = fill_table(table, room, step, set, full);
+    let failure = restart::fill_table(table, room, step, set, full);
     if failure != 0 {
         return failure;
     }
@@ -146,7 +128,7 @@ fn list_from(full: &[u32], gates: &[u32], cut: usize, area: &mut [u32]) -> Count
     ensures words { λ _. ⌜ ((t : Trace) (line : ℕ → ℕ) → Given t line cut (now (full .entry)) (now (gates .entry)) → now (area .exit) ≡ wordsFrom (listWord (recorded t past cut line)) 0 areaWords) ⌝ }
     ensures few { λ r. ⌜ r .orphans + (r .kept + r .lost) ≤ 2048 ⌝ }
 {
-    classes::list(full, &gates[RESTARTS..], cut as u32, area);
+    listing::list(full, &gates[RESTARTS..], cut as u32, area);
     Counted {
         number: 0,
         place: 0,
@@ -172,68 +154,6 @@ pub fn messages(table: &[u32], step: u64, set: u64, line: Line, area: &mut [u32]
     list_from(&full, &gates, step as usize, &mut area[..AREA_WORDS])
 }
 
-// What a failure asks for: the engine's line, the set of the processes that go back and its size, and of each process its epoch at the cut
-// and its phase at the restart, or at the cut where it stays.
-pub struct Restarted {
-    pub number: u32,
-    pub place: usize,
-    pub line: Line,
-    pub going: u64,
-    pub back: u32,
-    pub epochs: [u32; 64],
-    pub phases: [u32; 64],
-}
-
-fn no_restart(number: u32) -> Restarted
-    ensures { λ r. ⌜ r ≡ restartRefusal number ⌝ }
-{
-    Restarted {
-        number: number,
-        place: 0,
-        line: Line {
-            epochs: [0u32; 64],
-            count: 0,
-        },
-        going: 0,
-        back: 0,
-        epochs: [0u32; 64],
-        phases: [0u32; 64],
-    }
-}
-
-// The answer for a failure that is not refused, from the full table.
-fn restart_from(full: &[u32], cut: usize, set: u64) -> Restarted
-    requires { ⌜ ((t : Trace) × Tabled t (now full) × (cut ≤ size t)) ⌝ }
-    ensures answer { λ r. ⌜ ((t : Trace) → Tabled t (now (full .entry)) → cut ≤ size t → r ≡ restartOf t cut set) ⌝ }
-    ensures means { λ r. ⌜ ((t : Trace) → Tabled t (now (full .entry)) → cut ≤ size t → Restarts t cut set r) ⌝ }
-{
-    let mut epochs = [0u32; 64];
-    let mut phases = [0u32; 64];
-    let line = greatest::greatest(full, cut, set, &mut epochs, &mut phases);
-    Restarted {
-        number: 0,
-        place: 0,
-        line: line,
-        going: recovery_line::back_set(line),
-        back: recovery_line::back(line),
-        epochs: epochs,
-        phases: phases,
-    }
-}
-
-// The greatest recovery line that loses no message, for a failure of a set of processes right after an event.
-pub fn restart(table: &[u32], step: u64, set: u64) -> Restarted
-    ensures answer { λ r. ⌜ r ≡ restartAnswer (now (table .entry)) step set ⌝ }
-    ensures means { λ r. ⌜ (r .number ≡ 0 → Restarts (held (now (table .entry))) step set r) ⌝ }
-{
-    let mut full = [0u32; AREA_WORDS];
-    let fault = fill_table(table, AREA_WORDS, step, set, &mut full);
-    if fault != 0 {
-        return no_restart(fault);
-    }
-    restart_from(&full, step as usize, set)
-}
-
 // What `restart` answers, and with its line `lowest` and `messages`.
 pub struct Recovered {
     pub restarted: Restarted,
@@ -245,7 +165,7 @@ fn not_recovered(number: u32) -> Recovered
     ensures { λ r. ⌜ r ≡ recoverRefusal number ⌝ }
 {
     Recovered {
-        restarted: no_restart(number),
+        restarted: restart::no_restart(number),
         replayed: refused(number),
         counted: no_messages(number),
     }
@@ -259,7 +179,7 @@ fn recover_from(full: &[u32], cut: usize, set: u64, area: &mut [u32]) -> Recover
     requires { ⌜ (length (now area) ≡ areaWords) × ((t : Trace) × Tabled t (now full) × (cut ≤ size t)) ⌝ }
     ensures { λ r. ⌜ ((t : Trace) → Tabled t (now (full .entry)) → cut ≤ size t → Recovering t cut set r (now (area .exit))) ⌝ }
 {
-    let restarted = restart_from(full, cut, set);
+    let restarted = restart::restart_from(full, cut, set);
     let mut gates = [0u32; gates::GATE_WORDS];
     gates::gates(full, restarted.line, cut, &mut gates);
     let replayed = search::lowest(full, &gates, area, cut);
@@ -282,7 +202,7 @@ pub fn recover(table: &mut [u32], step: u64, set: u64) -> Recovered
     ensures means { λ r. ⌜ (r .restarted .number ≡ 0 → Succeeds (now (table .entry)) step set r) ⌝ }
 {
     let mut full = [0u32; AREA_WORDS];
-    let fault = fill_table(table, AREA_WORDS, step, set, &mut full);
+    let fault = restart::fill_table(table, AREA_WORDS, step, set, &mut full);
     if fault != 0 {
         return not_recovered(fault);
     }

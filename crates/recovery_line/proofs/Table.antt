@@ -14,15 +14,14 @@ use Rattle.trace.specs.declared.Event.the-variants.{Send, Recv, Save}
 use Rattle.trace.specs.Trace.{Trace, isRecv}
 use Rattle.theory.specs.Events.{size, eventAt, at, recvs, checkpoints, rcvd}
 use Rattle.theory.specs.Epochs.{past, epochAt, phaseAt}
-use Rattle.protocol.proofs.Moves.{send-epoch, send-phase, recv-at, recv-epoch, recv-phase-other, save-at, save-epoch-other, save-phase-other}
+use Rattle.columns.proofs.Moves.{send-epoch, send-phase, recv-at, recv-epoch, recv-phase-other, save-at, save-epoch-other, save-phase-other}
 use Rattle.recovery_line.specs.Given.{Tabled}
 use Rattle.recovery_line.specs.Words.{atW, peerW, kindW, Sized}
 use Rattle.trace.specs.Table.{wordOf, tableWord}
 use Rattle.theory.proofs.Base.{eqb-self}
 use Rattle.theory.proofs.Events.{sends-is, partner}
 use Rattle.theory.proofs.WellFormed.{Valid, valid}
-use Rattle.protocol.proofs.Bounds.{sendOf-most}
-use Rattle.protocol.proofs.Passes.{well-few}
+use Rattle.columns.proofs.Bounds.{sendOf-most, well-few}
 
 -- an event changes the epoch and the phase of its own process only
 module _ (t : Trace) (x z : ℕ) (n : z ≢ at t (suc x)) where

@@ -8,7 +8,7 @@ use lib.Dec.{ltb, eqb}
 use Rattle.words.specs.Area.{wordsFrom}
 use Rattle.trace.specs.Trace.{Trace}
 use Rattle.trace.specs.Fit.{wellFormed}
-use Rattle.protocol.specs.Columns.{Columns}
+use Rattle.columns.specs.Columns.{Columns}
 use Rattle.theory.specs.Lists.{pick, keep}
 use Rattle.theory.specs.Epochs.{past, phaseAt}
 use Rattle.theory.specs.Line.{restartIn}

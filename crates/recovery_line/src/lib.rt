@@ -13,7 +13,7 @@ ghost use Rattle.theory.specs.Events.{size};
 ghost use Rattle.theory.specs.Line.{inSet, staysIn};
 ghost use Rattle.recovery_line.specs.Given.{lineIn, numbersOf, backOf, backOnes};
 ghost use Rattle.recovery_line.specs.Words.{matchW};
-use protocol::MATCH_BASE;
+use columns::MATCH_BASE;
 
 // A recovery line: for each process the epoch that it restarts in, or STAYS, and how many processes there are.
 pub struct Line {

@@ -20,19 +20,19 @@ use Rattle.theory.specs.Order.{steps, lowestOrder}
 use Rattle.theory.specs.Answers.{lineOf, gather, orphans, keptOnes, lostOnes}
 use Rattle.theory.proofs.WellFormed.{valid}
 use Rattle.protocol.proofs.Passes.{held-formed}
-use Rattle.classes.proofs.Channels.{gather-cong}
+use Rattle.listing.proofs.Channels.{gather-cong}
 use Rattle.recovery_line.specs.declared.Line.{Line}
 use Rattle.recovery_line.specs.Given.{each, lineIn, lineTo, numbersOf, backOnes}
-use Rattle.classes.specs.Listing.{listWord}
-use Rattle.recovery.specs.declared.Restarted.{Restarted}
+use Rattle.listing.specs.Listing.{listWord}
+use Rattle.restart.specs.declared.Restarted.{Restarted}
 use Rattle.recovery.specs.declared.Counted.{Counted}
 use Rattle.orders.specs.declared.Replayed.{Replayed}
 use Rattle.recovery.specs.Messages.{countsOf, messagesAnswer, messagesArea}
 use Rattle.recovery.specs.Recover.{Succeeds}
 use Rattle.recovery.specs.Answers.{faultOf, runOf as codeRun, Completed}
-use Rattle.recovery.specs.Restart.{ofEach, restartOf, engineLine as codeLine}
+use Rattle.restart.specs.Restart.{ofEach, restartOf, engineLine as codeLine}
 use Rattle.recovery.proofs.Listing.{counts-are, listed-at}
-use Rattle.recovery.proofs.Restarting.{Ready, line-is, count-in}
+use Rattle.restart.proofs.Restarting.{Ready, line-is, count-in}
 use Rattle.report.specs.Report.{given, Failure, runOf, Recovery, tabled, engineLine, recoveryBy, processLineOf, printedOf, reportBytes}
 use Rattle.report.specs.Rows.{processRow, recoveryRows}
 use Rattle.report.proofs.Lengths.{found-few}

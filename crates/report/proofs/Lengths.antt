@@ -8,8 +8,9 @@ use borrow.Author.Tests.{lt-ltb, le-ltb}
 use Rattle.words.proofs.Cases.{by-lt}
 use Rattle.text.specs.Number.{lastDigits, decimal}
 use Rattle.theory.specs.Answers.{Listed, gather}
-use Rattle.report.specs.Bytes.{bytesOf}
-use Rattle.report.specs.Report.{given, Recovery, processLine, processLineOf, messageLine, messageLines, totalLine, refusalLine, keyOrphan, keyKept, printedOf, reportBytes}
+use Rattle.printing.specs.Bytes.{bytesOf}
+use Rattle.report.specs.Report.{given, Recovery, processLineOf, messageLines, printedOf, reportBytes}
+use Rattle.printing.specs.Lines.{processLine, messageLine, totalLine, refusalLine, keyOrphan, keyKept}
 
 digits-few : (n v : ℕ) → length (lastDigits n v) ≤ n
 unfolding lastDigits

@@ -1,5 +1,5 @@
+pub mod Found
+pub mod Lengths
 pub mod Lines
 pub mod Messages
-pub mod Lengths
-pub mod Found
 pub mod Ways

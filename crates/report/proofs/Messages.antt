@@ -10,12 +10,14 @@ use Rattle.theory.specs.Lists.{iv, keep}
 use Rattle.theory.specs.Events.{size, sent}
 use Rattle.theory.specs.Line.{Run}
 use Rattle.theory.specs.Answers.{Listed, gather, messages, orphans, keptOnes, lostOnes}
-use Rattle.classes.specs.Listing.{Row, rowOf, rowWord, rowsOf, listWord}
-use Rattle.classes.proofs.Laying.{row-words, row-numbers, row-phases}
-use Rattle.classes.proofs.Channels.{gather-cong}
-use Rattle.report.specs.Bytes.{bytesOf}
-use Rattle.report.specs.Report.{messageLine, messageLines, keyOrphan, keyKept}
-use Rattle.report.specs.Rows.{rowBytes, wordsRow, messageRow}
+use Rattle.listing.specs.Listing.{Row, rowOf, rowWord, rowsOf, listWord}
+use Rattle.listing.proofs.Laying.{row-words, row-numbers, row-phases}
+use Rattle.listing.proofs.Channels.{gather-cong}
+use Rattle.printing.specs.Bytes.{bytesOf}
+use Rattle.printing.specs.Lines.{messageLine, keyOrphan, keyKept}
+use Rattle.report.specs.Report.{messageLines}
+use Rattle.printing.specs.Rows.{rowBytes, wordsRow}
+use Rattle.report.specs.Rows.{messageRow}
 
 -- ---- Lists gathered from the first
 

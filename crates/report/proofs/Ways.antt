@@ -10,19 +10,19 @@ use borrow.Author.Tests.{lt-ltb, le-ltb, ne-eqb}
 use Rattle.words.proofs.Cases.{by-eq}
 use Rattle.trace.specs.Trace.{Trace}
 use Rattle.reader.specs.declared.FailureAnswer.{FailureAnswer}
-use Rattle.reader.specs.Failure.{Failing, failureAnswerOf, failureAnswer, failureArea}
-use Rattle.reader.specs.Failure.{failureOf as lastFailure}
+use Rattle.reader.specs.Failure.{Failing, failureAnswerOf, failureAnswer, failureArea, failureOf as lastFailure}
 use Rattle.reader.proofs.Claims.{refusal-numbered}
 use Rattle.table.specs.Held.{held, holdsTrace, heldTrace}
 use Rattle.table.proofs.Holding.{told}
 use Rattle.table.proofs.Claims.{failing-held, held-iff}
 use Rattle.theory.specs.Refusals.{failureFault}
-use Rattle.recovery.specs.declared.Restarted.{Restarted}
-use Rattle.recovery.specs.Restart.{failureFaultOf, restartOf, restartRefusal, restartAnswer, Restarts}
-use Rattle.recovery.proofs.Restarting.{Ready}
+use Rattle.restart.specs.declared.Restarted.{Restarted}
+use Rattle.restart.specs.Restart.{failureFaultOf, restartOf, restartRefusal, restartAnswer, Restarts}
+use Rattle.restart.proofs.Restarting.{Ready}
 use Rattle.writer.specs.Buffer.{Puts, room, written}
 use Rattle.writer.proofs.Buffers.{same-bytes, whole}
-use Rattle.report.specs.Report.{Answer, refused, given, unless, failureOf, recoveryFor, recovery, refusalLine, printedOf, printed, reportBytes}
+use Rattle.report.specs.Report.{Answer, refused, given, unless, failureOf, recoveryFor, recovery, printedOf, printed, reportBytes}
+use Rattle.printing.specs.Lines.{refusalLine}
 
 -- from what was written to the contract
 pub answered : (x text out after : List ℕ) (n : ℕ) → x ≡ printed text → length x ≤ reportBytes → Puts x out 0 after n

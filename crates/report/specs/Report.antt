@@ -6,7 +6,6 @@ use Prim.Native.Nat.{ℕ, zero, suc}
 use Prim.Native.String.{String}
 use lib.ListN.{length, getD}
 use lib.Dec.{ltb, eqb}
-use Rattle.text.specs.Number.{decimal}
 use Rattle.trace.specs.Trace.{Trace}
 use Rattle.reader.specs.Failure.{Failing, failureOf as lastFailure}
 use Rattle.theory.specs.Lists.{pick, keep}
@@ -15,7 +14,7 @@ use Rattle.theory.specs.Line.{inSet, Run, recorded, current, reached, greatestL
 use Rattle.theory.specs.Order.{steps, lowestOrder}
 use Rattle.theory.specs.Answers.{lineOf, Listed, gather, orphans, keptOnes}
 use Rattle.theory.specs.Refusals.{failureFault}
-use Rattle.report.specs.Bytes.{bytesOf}
+use Rattle.printing.specs.Lines.{processLine, messageLine, totalLine, refusalLine, keyOrphan, keyKept}
 
 -- an answer, or a refusal: its number and its place
 pub data Answer (A : Type 0) : Type 0 where
@@ -97,37 +96,12 @@ recoveryFor t step set = recoveryOf (record { trace = t; step = step; failed = s
 unfoldable pub recovery : List ℕ → Answer Recovery
 recovery text = then (failureOf text) (λ f. given (recoveryOf f))
 
--- ---- What the program prints
-
--- a key and its number, before the rest of a line
-abbrev pub pair : String → ℕ → List ℕ → List ℕ
-pair key n rest = bytesOf key ++ decimal n ++ rest
-
-unfoldable pub processLine : ℕ → ℕ → ℕ → ℕ → List ℕ
-processLine at epoch restart phase = pair "out=proc at=" at (pair " epoch=" epoch (pair " restart=" restart (pair " phase=" phase (10 ∷ []))))
-
 abbrev pub processLineOf : Recovery → ℕ → List ℕ
 processLineOf r z = processLine z (getD (r .epochs) z 0) (getD (r .line) z 0) (getD (r .phases) z 0)
-
-unfoldable pub messageLine : String → ℕ → ℕ → ℕ → ℕ → List ℕ
-messageLine key from to number phase = pair key from (pair " to=" to (pair " no=" number (pair " phase=" phase (10 ∷ []))))
 
 unfoldable pub messageLines : String → List Listed → List ℕ
 messageLines key [] = []
 messageLines key (m ∷ ms) = messageLine key (m .from) (m .to) (m .number) (m .phase) ++ messageLines key ms
-
-unfoldable pub totalLine : ℕ → ℕ → ℕ → ℕ → List ℕ
-totalLine back orphans kept steps = pair "out=total back=" back (pair " orphans=" orphans (pair " kept=" kept (pair " steps=" steps (10 ∷ []))))
-
-unfoldable pub refusalLine : ℕ → ℕ → List ℕ
-refusalLine number place = pair "refused=" number (pair " place=" place (10 ∷ []))
-
--- "Orphans, then kept messages"
-abbrev pub keyOrphan : String
-keyOrphan = "out=orphan from="
-
-abbrev pub keyKept : String
-keyKept = "out=kept from="
 
 -- "A refusal prints only `refused=N place=P`."
 unfoldable pub printedOf : Answer Recovery → List ℕ

@@ -1,31 +1,17 @@
 -- The lines of the report from the words that the code has. No public contract cites these.
-use mathlib.Core.Bool.{Bool}
-use mathlib.Core.List.{List, [], _∷_, _++_}
-use Prim.Native.Nat.{ℕ, _+_, _/_, _%_}
+use mathlib.Core.List.{List, _++_}
+use Prim.Native.Nat.{ℕ, _+_}
 use lib.ListN.{getD}
-use Rattle.text.specs.Number.{decimal}
-use Rattle.theory.specs.Lists.{pick}
 use Rattle.theory.specs.Answers.{gather}
-use Rattle.recovery.specs.declared.Restarted.{Restarted}
+use Rattle.restart.specs.declared.Restarted.{Restarted}
 use Rattle.recovery.specs.declared.Recovered.{Recovered}
-use Rattle.report.specs.Bytes.{bytesOf}
-use Rattle.report.specs.Report.{processLine, totalLine, keyOrphan, keyKept}
-
--- four keys with their numbers
-unfoldable pub rowBytes : List ℕ → ℕ → List ℕ → ℕ → List ℕ → ℕ → List ℕ → ℕ → List ℕ
-rowBytes key a second b third c fourth d = key ++ decimal a ++ (second ++ decimal b ++ (third ++ decimal c ++ (fourth ++ decimal d ++ (10 ∷ []))))
+use Rattle.printing.specs.Bytes.{bytesOf}
+use Rattle.printing.specs.Lines.{processLine, totalLine, keyOrphan, keyKept}
+use Rattle.printing.specs.Rows.{wordsRow}
 
 -- the line of a process of an answer
 abbrev pub processRow : Restarted → ℕ → List ℕ
 processRow r z = processLine z (getD (r .epochs) z 0) (getD (r .line .epochs) z 0) (getD (r .phases) z 0)
-
--- the first key of a message's line
-abbrev pub messageKey : Bool → List ℕ
-messageKey kept = bytesOf (pick kept keyKept keyOrphan)
-
--- the line of a message, from its three words
-unfoldable pub wordsRow : List ℕ → ℕ → ℕ → ℕ → List ℕ
-wordsRow key w number phase = rowBytes key (w % 64) (bytesOf " to=") (w / 64 % 64) (bytesOf " no=") number (bytesOf " phase=") phase
 
 -- the line of message i, from 0, after the first ones of a list of messages
 abbrev pub messageRow : List ℕ → List ℕ → ℕ → ℕ → List ℕ

@@ -6,10 +6,11 @@ ghost use lib.ListN.{length};
 ghost use Rattle.words.specs.Area.{areaWords};
 ghost use Rattle.theory.specs.Answers.{gather};
 ghost use Rattle.writer.specs.Buffer.{Puts, room, written};
-ghost use Rattle.report.specs.Report.{processLine, totalLine, refusalLine, printed, reportBytes};
-ghost use Rattle.report.specs.Rows.{processRow, messageKey, wordsRow, messageRow, recoveryRows};
+ghost use Rattle.report.specs.Report.{printed, reportBytes};
+ghost use Rattle.report.specs.Rows.{processRow, messageRow, recoveryRows};
+ghost use Rattle.printing.specs.Rows.{messageKey};
 use recovery::Recovered;
-use recovery::Restarted;
+use restart::Restarted;
 use words::AREA_WORDS;
 
 // A buffer of so many bytes holds every report.
@@ -19,18 +20,6 @@ pub const REPORT_BYTES: usize = 262144;
 const TEXT_MOST: usize = 65536;
 
 pub const READ_BYTES: usize = TEXT_MOST + 1;
-
-// The line of a process. Each line has a function with its own keys, and not one that is given them, so that the compiler knows their
-// lengths.
-fn put_process(out: &mut [u8], at: usize, z: u64, epoch: u32, number: u32, phase: u32) -> usize
-    ensures { λ r. ⌜ Puts (processLine z epoch number phase) (now (out .entry)) at (now (out .exit)) r ⌝ }
-{
-    let to_epoch = writer::put_pair(out, at, b"out=proc at=", z);
-    let to_restart = writer::put_pair(out, to_epoch, b" epoch=", epoch as u64);
-    let to_phase = writer::put_pair(out, to_restart, b" restart=", number as u64);
-    let end = writer::put_pair(out, to_phase, b" phase=", phase as u64);
-    writer::put_bytes(out, end, b"\n")
-}
 
 // A line for each process of the recovery line.
 fn put_processes(out: &mut [u8], r: Restarted) -> usize
@@ -44,7 +33,7 @@ fn put_processes(out: &mut [u8], r: Restarted) -> usize
     let mut next: usize = 0;
     let mut z: usize = 0;
     while z < count {
-        next = put_process(out, next, z as u64, epochs[z], numbers[z], phases[z]);
+        next = printing::put_process(out, next, z as u64, epochs[z], numbers[z], phases[z]);
         z += 1;
     }
     next
@@ -56,30 +45,6 @@ const ROW_BASE: usize = 16;
 const ROW_NUMBER_BASE: usize = 2065;
 
 const ROW_PHASE_BASE: usize = 4114;
-
-// The first key of a message's line.
-fn put_key(out: &mut [u8], at: usize, kept: bool) -> usize
-    ensures { λ r. ⌜ Puts (messageKey kept) (now (out .entry)) at (now (out .exit)) r ⌝ }
-{
-    if kept {
-        return writer::put_bytes(out, at, b"out=kept from=");
-    }
-    writer::put_bytes(out, at, b"out=orphan from=")
-}
-
-// The line of a message, kept or an orphan, from its three words.
-fn put_message(out: &mut [u8], at: usize, kept: bool, w: u32, number: u32, phase: u32) -> usize
-    ensures { λ r. ⌜ Puts (wordsRow (messageKey kept) w number phase) (now (out .entry)) at (now (out .exit)) r ⌝ }
-{
-    let from = w % 64;
-    let to = w / 64 % 64;
-    let to_from = put_key(out, at, kept);
-    let to_to = writer::put_number(out, to_from, from as u64);
-    let to_number = writer::put_pair(out, to_to, b" to=", to as u64);
-    let to_phase = writer::put_pair(out, to_number, b" no=", number as u64);
-    let end = writer::put_pair(out, to_phase, b" phase=", phase as u64);
-    writer::put_bytes(out, end, b"\n")
-}
 
 // A line for each of `count` messages, all kept or all orphans, of the list that `recovery::recover` left, after the first `before` of them.
 fn put_messages(
@@ -98,7 +63,7 @@ fn put_messages(
     while i < count {
         let row = before + i + 1;
         let w = run[ROW_BASE + row];
-        next = put_message(
+        next = printing::put_message(
             out,
             next,
             kept,
@@ -111,31 +76,6 @@ fn put_messages(
     next
 }
 
-fn put_refusal(out: &mut [u8], number: u32, place: usize) -> usize
-    ensures { λ r. ⌜ Puts (refusalLine number place) (now (out .entry)) 0 (now (out .exit)) r ⌝ }
-{
-    let next = writer::put_pair(out, 0, b"refused=", number as u64);
-    let end = writer::put_pair(out, next, b" place=", place as u64);
-    writer::put_bytes(out, end, b"\n")
-}
-
-fn put_total(
-    out: &mut [u8],
-    at: usize,
-    back: u32,
-    orphans: usize,
-    kept: usize,
-    steps: usize,
-) -> usize
-    ensures { λ r. ⌜ Puts (totalLine back orphans kept steps) (now (out .entry)) at (now (out .exit)) r ⌝ }
-{
-    let to_orphans = writer::put_pair(out, at, b"out=total back=", back as u64);
-    let to_kept = writer::put_pair(out, to_orphans, b" orphans=", orphans as u64);
-    let to_steps = writer::put_pair(out, to_kept, b" kept=", kept as u64);
-    let end = writer::put_pair(out, to_steps, b" steps=", steps as u64);
-    writer::put_bytes(out, end, b"\n")
-}
-
 // The report of a failure that is not refused, from the answers and the list that `recover` leaves.
 fn put_recovery(out: &mut [u8], r: Recovered, run: &[u32]) -> usize
     requires { ⌜ (length (now run) ≡ areaWords) × (r .restarted .line .count ≤ 64) × (r .counted .orphans + r .counted .kept ≤ 2048) ⌝ }
@@ -146,7 +86,7 @@ fn put_recovery(out: &mut [u8], r: Recovered, run: &[u32]) -> usize
     let to_orphans = put_processes(out, r.restarted);
     let to_kept = put_messages(out, to_orphans, false, run, 0, orphans);
     let to_total = put_messages(out, to_kept, true, run, orphans, kept);
-    put_total(
+    printing::put_total(
         out,
         to_total,
         r.restarted.back,
@@ -163,16 +103,16 @@ pub fn report(text: &[u8], out: &mut [u8]) -> usize
     ensures few { λ _. ⌜ length (printed (now (text .entry))) ≤ reportBytes ⌝ }
 {
     if text.len() > TEXT_MOST {
-        return put_refusal(out, 1, 0);
+        return printing::put_refusal(out, 1, 0);
     }
     let mut table = [0u32; AREA_WORDS];
     let read = reader::read_failure(text, &mut table);
     if read.number != 0 {
-        return put_refusal(out, read.number, read.place);
+        return printing::put_refusal(out, read.number, read.place);
     }
     let r = recovery::recover(&mut table, read.step, read.set);
     if r.restarted.number != 0 {
-        return put_refusal(out, r.restarted.number, 0);
+        return printing::put_refusal(out, r.restarted.number, 0);
     }
     put_recovery(out, r, &table)
 }

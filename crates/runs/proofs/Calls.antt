@@ -31,20 +31,21 @@ use Rattle.theory.proofs.Claims.{record-iff, record-test, complete-test}
 use Rattle.theory.proofs.Epochs.{laws}
 use Rattle.theory.proofs.Refusals.{failure-fit, line-fit}
 use Rattle.protocol.proofs.Passes.{held-long, held-formed, held-valid}
-use Rattle.classes.specs.Listing.{Row, rowOf, rowsOf, listWord}
+use Rattle.listing.specs.Listing.{Row, rowOf, rowsOf, listWord}
 use Rattle.recovery_line.specs.declared.Line.{Line}
 use Rattle.recovery_line.specs.Given.{lineIn, numbersOf}
 use Rattle.orders.specs.Record.{faultlessAt}
 use Rattle.orders.specs.declared.Replayed.{Replayed}
 use Rattle.orders.specs.Answer.{answerOf, wordsOf}
 use Rattle.recovery.specs.declared.Counted.{Counted}
-use Rattle.recovery.specs.declared.Restarted.{Restarted}
+use Rattle.restart.specs.declared.Restarted.{Restarted}
 use Rattle.recovery.specs.Answers.{faultOf, replayAnswer, replayArea, Completed, runOf as codeRun}
 use Rattle.recovery.specs.Messages.{countsOf}
-use Rattle.recovery.specs.Restart.{failureFaultOf, restartOf, restartRefusal, restartAnswer}
+use Rattle.restart.specs.Restart.{failureFaultOf, restartOf, restartRefusal, restartAnswer}
 use Rattle.recovery.proofs.Listing.{Listed as Messages, counts-are, listed-at}
 use Rattle.recovery.proofs.Replaying.{Answered as Replay}
-use Rattle.recovery.proofs.Restarting.{Answered as Restart, Ready, not-refused}
+use Rattle.restart.proofs.Restarting.{Answered as Restart, Ready}
+use Rattle.recovery.proofs.Taking.{not-refused}
 use Rattle.report.specs.Report.{Answer, refused, given, unless, then, Failure, runOf, Recovery, recoveryBy, engineLine, recoveryOf, recovery, failureOf}
 use Rattle.report.proofs.Found.{tabled-length, run-same, steps-are, epochs-at, phases-at, numbers-are, back-is}
 use Rattle.report.proofs.Messages.{blank, At, front-row, later-row, word-in, number-in, phase-in, orphan-row, kept-row}

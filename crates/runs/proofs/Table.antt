@@ -11,7 +11,7 @@ use Rattle.trace.specs.declared.Event.{Event}
 use Rattle.trace.specs.declared.Event.the-variants.{Send, Recv, Save}
 use Rattle.trace.specs.Trace.{Trace}
 use Rattle.trace.specs.Fit.{wellFormed}
-use Rattle.reader.specs.Line.{procsOf, sendOf, recvOf, saveOf, failOf, lineOf as lineIn}
+use Rattle.lines.specs.Line.{procsOf, sendOf, recvOf, saveOf, failOf, lineOf as lineIn}
 use Rattle.reader.specs.Failure.{failureOf as lastFailure}
 use Rattle.reader.specs.Verdict.{pieces, faultHere, judgeEvent, judge, linesFrom, scanPieces, scan, Verdict, accepted, verdict}
 use Rattle.theory.specs.Events.{size}
@@ -21,9 +21,10 @@ use Rattle.theory.specs.Answers.{lineOf, Listed}
 use Rattle.theory.specs.Refusals.{failureFault, permits, lineFault}
 use Rattle.theory.proofs.Runs.{opens}
 use Rattle.theory.proofs.Claims.{reached-usable, greatest-line, greatest-only}
-use Rattle.report.specs.Bytes.{bytesOf, linesOf}
+use Rattle.printing.specs.Bytes.{bytesOf, linesOf}
 use Rattle.runs.specs.Texts.{linesH, linesL, linesS, linesT, linesFirst, failing, textH}
-use Rattle.report.specs.Report.{Answer, refused, given, Failure, failureOf, Recovery, engineLine, recoveryBy, recovery, processLine, messageLine, messageLines, totalLine, refusalLine, printedOf, printed}
+use Rattle.report.specs.Report.{Answer, refused, given, Failure, failureOf, Recovery, engineLine, recoveryBy, recovery, messageLines, printedOf, printed}
+use Rattle.printing.specs.Lines.{processLine, messageLine, totalLine, refusalLine}
 use Rattle.runs.specs.Answers.{losses, Replayed, replay}
 
 -- all that a row computes with, beside what the theory's rows do: `opens`

@@ -1,11 +1,12 @@
--- Laws of `wordsFrom` and `ruled`: an area is what its places say.
+-- Laws of `wordsFrom` and `ruled`: an area is what its places say; and of a clear area.
 use Prim.Native.Nat.{ℕ, suc, zero, _+_, _<_}
 use mathlib.Core.Path.{_≡_, refl, sym, ap, _∙_}
 use mathlib.Core.List.{List}
 use native.Mathlib.Omega.{arith}
-use lib.ListN.{length, getD}
+use lib.ListN.{length, getD, replicate, length-replicate, getD-replicate, List·getD-eq-default}
 use lib.Seq.{ext-getD}
 use Rattle.words.specs.Area.{wordsFrom}
+use Rattle.words.proofs.Cases.{by-lt}
 
 pub length-words : (f : ℕ → ℕ) (i n : ℕ) → length (wordsFrom f i n) ≡ n
 unfolding wordsFrom
@@ -23,3 +24,10 @@ pub words-ext : (f : ℕ → ℕ) (n : ℕ) (x : List ℕ) → length x ≡ n �
 words-ext f n x e h =
     ext-getD 0 x (wordsFrom f 0 n) (e ∙ sym (length-words f 0 n))
     (λ i l. h i (omega arith) ∙ sym (getD-words f 0 n i (omega arith) ∙ ap f (omega arith)))
+
+-- a word of a clear list, and past its end
+pub zero-word : (n k : ℕ) → _≡_ {A = ℕ} (getD (replicate n 0) k 0) 0
+zero-word n k =
+    by-lt k n
+    (λ h. getD-replicate {A = ℕ} n k 0 0 h)
+    (λ h. List·getD-eq-default {A = ℕ} (replicate n 0) 0 {n = k} (rw (length-replicate {A = ℕ} n 0) h))

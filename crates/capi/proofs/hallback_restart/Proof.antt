@@ -1,6 +1,6 @@
 -- `capi::hallback_restart` meets its contract: what `restart` promises, the answer in numbers.
 use mathlib.Core.Path.{ap}
-use Rattle.recovery.specs.declared.Restarted.{Restarted}
+use Rattle.restart.specs.declared.Restarted.{Restarted}
 use Rattle.capi.specs.Answers.{restartNumbers}
 use Rattle.capi.proofs.Giving.{answer-is}
 use borrow.Author.Needs.{needs}

@@ -2,7 +2,7 @@
 -- newest events before and after that.
 use mathlib.Core.Path.{_≡_, _∙_}
 use lib.ListN.{length}
-use Rattle.protocol.proofs.Passes.{zero-word}
+use Rattle.words.proofs.Area.{zero-word}
 use Rattle.recovery_line.proofs.Table.{procs-most, sized}
 use Rattle.lowering.proofs.Worklist.{looking-begins, pending}
 use Rattle.greatest.proofs.Newest.{phases-few, Done, line-done, means-done, epochs-done, phases-done}

@@ -4,7 +4,7 @@ use Prim.Native.Nat.{ℕ, _-_, _≤_, _<_}
 use lib.ListN.{length, getD, length-set}
 use lib.Dec.{ltb}
 use Rattle.theory.specs.Lists.{pick}
-use Rattle.protocol.specs.Columns.{epochBase}
+use Rattle.columns.specs.Columns.{epochBase}
 use Rattle.greatest.specs.Newest.{afterW}
 use Rattle.recovery_line.proofs.Loops.{rule-next}
 use native.Mathlib.Omega.{arith}

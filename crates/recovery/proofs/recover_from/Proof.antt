@@ -7,7 +7,7 @@ use Rattle.theory.specs.Line.{recorded}
 use Rattle.recovery_line.specs.Given.{lineIn}
 use Rattle.recovery.proofs.Given.{given}
 use Rattle.recovery.proofs.Listing.{record-cleared}
-use Rattle.recovery.proofs.Restarting.{count-in}
+use Rattle.restart.proofs.Restarting.{count-in}
 use borrow.Author.Needs.{needs}
 use Rattle.recovery.proofs.recover_from.Statement.{statement}
 use Rattle.recovery.proofs.recover_from.Tie as tie

@@ -5,7 +5,8 @@ use lib.ListN.{length}
 use Rattle.theory.specs.Answers.{gather}
 use Rattle.writer.specs.Buffer.{Puts}
 use Rattle.writer.proofs.Buffers.{same-bytes}
-use Rattle.report.specs.Rows.{messageKey, messageRow}
+use Rattle.printing.specs.Rows.{messageKey}
+use Rattle.report.specs.Rows.{messageRow}
 use Rattle.report.proofs.Lines.{lines-none, lines-next, message-at}
 use native.Mathlib.Omega.{arith}
 use borrow.Author.Needs.{needs}

@@ -4,7 +4,7 @@ use Prim.Native.Nat.{_-_, _≤_}
 use lib.ListN.{length, getD}
 use Rattle.theory.specs.Answers.{gather}
 use Rattle.writer.specs.Buffer.{Puts}
-use Rattle.report.specs.Report.{processLine}
+use Rattle.printing.specs.Lines.{processLine}
 use Rattle.report.proofs.Lines.{lines-none, lines-next}
 use native.Mathlib.Omega.{arith}
 use borrow.Author.Needs.{needs}

@@ -1,0 +1,69 @@
+-- The numbers of the columns are small: an event's number is at most 2,048, a phase at most one more than the events so far.
+use Prim.Native.Nat.{ℕ, zero, suc, _<_, _≤_, _+_}
+use mathlib.Core.Path.{_≡_, refl}
+use mathlib.Core.Bool.{Bool, true, false, _&&_}
+use native.Mathlib.Omega.{arith}
+use lib.Dec.{ltb, leb}
+use Rattle.words.proofs.Cases.{by-eq, by-lt, and-left, and-right}
+use Rattle.trace.specs.declared.Event.{Event}
+use Rattle.trace.specs.declared.Event.the-variants.{Send, Recv, Save}
+use Rattle.trace.specs.Trace.{Trace}
+use Rattle.theory.specs.Events.{size, eventAt, sendOf}
+use Rattle.theory.specs.Epochs.{past, joined, notes, epochAt, phaseAt}
+use Rattle.theory.proofs.Base.{place-le}
+use Rattle.theory.proofs.WellFormed.{Valid}
+use Rattle.theory.proofs.Events.{partner}
+use Rattle.theory.proofs.Epochs.{epoch-is}
+use Rattle.columns.proofs.Moves.{send-phase, recv-here, recv-phase, recv-phase-other, save-phase, save-phase-other}
+use mathlib.Core.List.{[]}
+use borrow.Author.Tests.{leb-true}
+use Rattle.trace.specs.Fit.{allFit, wellFormed}
+
+joined-most : (b : Bool) (f m n : ℕ) → f ≤ n → m < n → joined b f m ≤ n
+joined-most true f m n h k = omega arith
+joined-most false f m n h k = omega arith
+
+module _ (t : Trace) (A : Valid t) where
+  pub sendOf-most : (p q k : ℕ) → sendOf t p q k ≤ size t
+  unfolding sendOf
+  sendOf-most p q k = place-le _ k (size t)
+
+  phase-start : (z : ℕ) → phaseAt t past z 0 ≤ 1
+  unfolding notes
+  phase-start z = omega arith
+
+  -- the phases after event x + 1, from those up to x
+  phase-next : (x : ℕ) → suc x ≤ size t → ((y : ℕ) → y ≤ x → (z : ℕ) → phaseAt t past z y ≤ suc y) → (z : ℕ) (v : Event) → eventAt t (suc x) ≡ v
+      → phaseAt t past z (suc x) ≤ suc (suc x)
+  phase-next x l ih z (Send a b v) e = omega (arith, send-phase t x a b v e z, ih x (omega arith) z)
+  phase-next x l ih z (Recv a b) e =
+      by-eq z a
+      (λ h. let p = partner t (A .causal) b a (suc x) (recv-here t x a b e) (omega arith) l in
+      rw (h, recv-phase t x a b e A l (p .0) (p .3) (p .1) (omega (arith, p .2)) (p .4))
+      (joined-most (ltb (epochAt t past b (p .0)) (epochAt t past a x)) (phaseAt t past a x) (phaseAt t past b (p .0)) (suc (suc x)) (omega (arith, ih x (omega arith) a)) (omega (arith, ih (p .0) (omega (arith, p .2)) b, p .2))))
+      (λ n. omega (arith, recv-phase-other t x a b e z n, ih x (omega arith) z))
+  phase-next x l ih z (Save a) e =
+      by-eq z a
+      (λ h. rw h (omega (arith, save-phase t x a e, ih x (omega arith) a)))
+      (λ n. omega (arith, save-phase-other t x a e z n, ih x (omega arith) z))
+
+  phases-most : (x : ℕ) → x ≤ size t → (y : ℕ) → y ≤ x → (z : ℕ) → phaseAt t past z y ≤ suc y
+  phases-most zero l y h z = let e : y ≡ 0 = omega arith in rw e (phase-start z)
+  phases-most (suc x) l y h z =
+      by-lt y (suc x)
+      (λ g. phases-most x (omega arith) y (omega arith) z)
+      (λ g. let e : y ≡ suc x = omega arith in rw e (phase-next x l (λ w k v. phases-most x (omega arith) w k v) z (eventAt t (suc x)) refl))
+
+  pub phase-most : (z x : ℕ) → x ≤ size t → phaseAt t past z x ≤ suc x
+  phase-most z x l = phases-most x l x (omega arith) z
+
+  pub epoch-most : (z x : ℕ) → x ≤ size t → epochAt t past z x ≤ 31
+  epoch-most z x l = omega (arith, epoch-is t past x z, A .checkpoints-few z x l)
+
+pub well-few : (t : Trace) → wellFormed t ≡ true → size t ≤ 2048
+unfolding wellFormed
+well-few t w =
+    let fits = allFit (t .procs) [] (t .events) in
+    let b = and-right (leb 2 (t .procs)) (leb (t .procs) 64 && (leb (size t) 2048 && fits)) w in
+    let c = and-right (leb (t .procs) 64) (leb (size t) 2048 && fits) b in
+    leb-true (size t) 2048 (and-left (leb (size t) 2048) fits c)

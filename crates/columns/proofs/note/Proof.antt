@@ -1,0 +1,45 @@
+-- `columns::note` meets its contract, case by case.
+use borrow.Author.Needs.{needs}
+use Rattle.columns.proofs.note.Statement.{statement}
+use Rattle.columns.proofs.note.Tie as tie
+
+note-send-requires : tie.Need-note-send-requires
+note-send-requires c κs =
+    let pre = c .before .before .before .before .before .before .before .pre in
+    let event = c .before .before .before .event in
+    ((pre .0), rw (event .given .1) at (pre .1))
+
+note-recv-requires : tie.Need-note-recv-requires
+note-recv-requires c κs =
+    let pre = c .before .before .before .before .before .before .before .pre in
+    let event2 = c .before .before .before .event2 in
+    ((pre .0), rw (event2 .given .1) at (pre .1))
+
+note-save-requires : tie.Need-note-save-requires
+note-save-requires c κs =
+    let pre = c .before .before .before .before .before .before .before .pre in
+    let event3 = c .before .before .before .event3 in
+    ((pre .0), rw (event3 .given .1) at (pre .1))
+
+returns : tie.Need-returns
+returns c =
+    let event = c .before .before .before .before .before .before .before .before .event in
+    let note-send = c .before .before .before .before .note-send in
+    rw (event .given .1) ((note-send .ensures .0), (note-send .ensures .1))
+
+returns-2 : tie.Need-returns-2
+returns-2 c =
+    let event2 = c .before .before .before .before .before .before .before .before .event2 in
+    let note-recv = c .before .before .before .before .note-recv in
+    rw (event2 .given .1) ((note-recv .ensures .0), (note-recv .ensures .1))
+
+returns-3 : tie.Need-returns-3
+returns-3 c =
+    let event3 = c .before .before .before .before .before .before .before .before .event3 in
+    let note-save = c .before .before .before .before .note-save in
+    rw (event3 .given .1) ((note-save .ensures .0), (note-save .ensures .1))
+
+pub note-spec : {M : Type 1} → statement M
+note-spec =
+    tie.close
+    (tie.spec (λ c. search needs) note-send-requires (λ c. search needs) note-recv-requires (λ c. search needs) note-save-requires (λ c. search needs) (λ c. search needs) returns (λ c. search needs) (λ c. search needs) returns-2 (λ c. search needs) (λ c. search needs) returns-3)

@@ -1,0 +1,153 @@
+-- One line: what is read of a line is what stands there, and a rendered line is read as itself. From the laws of fields.
+use Prim.Native.Nat.{ℕ, _≤_}
+use mathlib.Core.Path.{_≡_, refl, ap, _∙_}
+use mathlib.Core.List.{List, [], _∷_, _++_, append-assoc, append-nil}
+use mathlib.Core.Bool.{true}
+use Rattle.words.proofs.Cases.{by-bool}
+use Rattle.text.specs.Number.{isDigit, decimal}
+use Rattle.text.specs.Key.{startsWith, keyAt}
+use Rattle.text.proofs.Keys.{field-1}
+use Rattle.trace.specs.declared.Event.{Event}
+use Rattle.trace.specs.declared.Event.the-variants.{Send, Recv, Save}
+use Rattle.lines.specs.declared.Line.{Line}
+use Rattle.lines.specs.declared.Line as line
+use Rattle.lines.specs.Line.{kProcs, kSend, kTo, kVal, kRecv, kFrom, kSave, kFail, kSet, most, mostSet, procsOf, sendOf, recvOf, saveOf, failOf, lineOf}
+use Rattle.lines.specs.Render.{renderEvent, renderFailure}
+use Rattle.lines.proofs.Field.{behind-start, read-field, read-end, rendered-field, rendered-end}
+
+-- no number of an event is more than its key can hold
+abbrev pub Small : Event → Type 0
+Small (Send at to val) = (at ≤ most) × (to ≤ most) × (val ≤ most)
+Small (Recv at from) = (at ≤ most) × (from ≤ most)
+Small (Save at) = at ≤ most
+
+-- a failure line without its LF, field behind field
+abbrev pub failureText : ℕ → ℕ → List ℕ
+failureText step set = kFail ++ (decimal step ++ (kSet ++ (decimal set ++ [])))
+
+-- What a line that was read says of its bytes: by cases of the line, so that no form has to be told from another.
+abbrev pub Says : List ℕ → Line → Type 0
+Says l (line.the-variants.Procs n) = (l ≡ kProcs ++ decimal n) × (n ≤ most)
+Says l (line.the-variants.Send at to val) = (l ≡ renderEvent (Send at to val)) × Small (Send at to val)
+Says l (line.the-variants.Recv at from) = (l ≡ renderEvent (Recv at from)) × Small (Recv at from)
+Says l (line.the-variants.Save at) = (l ≡ renderEvent (Save at)) × Small (Save at)
+Says l (line.the-variants.Failure step set) = (l ≡ failureText step set) × (step ≤ most) × (set ≤ mostSet)
+Says l line.the-variants.Malformed = Unit
+
+-- the rendered lines, field behind field
+procs-text : (n : ℕ) → kProcs ++ decimal n ≡ kProcs ++ (decimal n ++ [])
+procs-text n = simp append-nil
+
+pub send-text : (a b v : ℕ) → renderEvent (Send a b v) ≡ kSend ++ (decimal a ++ (kTo ++ (decimal b ++ (kVal ++ (decimal v ++ [])))))
+unfolding renderEvent
+send-text a b v = simp (append-assoc, append-nil)
+
+pub recv-text : (a b : ℕ) → renderEvent (Recv a b) ≡ kRecv ++ (decimal a ++ (kFrom ++ (decimal b ++ [])))
+unfolding renderEvent
+recv-text a b = simp (append-assoc, append-nil)
+
+pub save-text : (a : ℕ) → renderEvent (Save a) ≡ kSave ++ (decimal a ++ [])
+unfolding renderEvent
+save-text a = simp append-nil
+
+-- a failure line and whatever follows its LF
+pub failure-text : (step set : ℕ) (rest : List ℕ) → renderFailure step set ++ rest ≡ failureText step set ++ 10 ∷ rest
+unfolding renderFailure
+failure-text step set rest = simp (append-assoc, append-nil)
+
+-- ---- what is read is what stands there
+
+-- each form, its key at the line's start: the number behind that key is read as a field's is
+module _ (l : List ℕ) where
+  send-says : keyAt l 0 kSend ≡ true → Says l (sendOf l)
+  unfolding sendOf
+  send-says t =
+      rw (field-1 l 0 kSend most (keyAt l 0 kSend) refl t)
+      (read-field most refl l (Says l) 0 kSend l _ (behind-start l) tt (λ a p x e s h.
+      read-field most refl l (Says l) p kTo x _ s tt (λ b q y f u i.
+      read-field most refl l (Says l) q kVal y _ u tt (λ v r z g w j.
+      read-end (Says l) l r z (line.the-variants.Send a b v) w tt (λ n. (rw (e, f, g, n, send-text), (h, i, j)))))))
+
+  recv-says : keyAt l 0 kRecv ≡ true → Says l (recvOf l)
+  unfolding recvOf
+  recv-says t =
+      rw (field-1 l 0 kRecv most (keyAt l 0 kRecv) refl t)
+      (read-field most refl l (Says l) 0 kRecv l _ (behind-start l) tt (λ a p x e s h.
+      read-field most refl l (Says l) p kFrom x _ s tt (λ b q y f u i.
+      read-end (Says l) l q y (line.the-variants.Recv a b) u tt (λ n. (rw (e, f, n, recv-text), (h, i))))))
+
+  save-says : keyAt l 0 kSave ≡ true → Says l (saveOf l)
+  unfolding saveOf
+  save-says t =
+      rw (field-1 l 0 kSave most (keyAt l 0 kSave) refl t)
+      (read-field most refl l (Says l) 0 kSave l _ (behind-start l) tt (λ a p x e s h.
+      read-end (Says l) l p x (line.the-variants.Save a) s tt (λ n. (rw (e, n, save-text), h))))
+
+  procs-says : keyAt l 0 kProcs ≡ true → Says l (procsOf l)
+  unfolding procsOf
+  procs-says t =
+      rw (field-1 l 0 kProcs most (keyAt l 0 kProcs) refl t)
+      (read-field most refl l (Says l) 0 kProcs l _ (behind-start l) tt (λ a p x e s h.
+      read-end (Says l) l p x (line.the-variants.Procs a) s tt (λ n. (rw (e, n, append-nil), h))))
+
+  fail-says : keyAt l 0 kFail ≡ true → Says l (failOf l)
+  unfolding failOf
+  fail-says t =
+      rw (field-1 l 0 kFail most (keyAt l 0 kFail) refl t)
+      (read-field most refl l (Says l) 0 kFail l _ (behind-start l) tt (λ k p x e s h.
+      read-field mostSet refl l (Says l) p kSet x _ s tt (λ m q y f u i.
+      read-end (Says l) l q y (line.the-variants.Failure k m) u tt (λ n. (rw (e, f, n), h, i)))))
+
+  pub line-says : Says l (lineOf l)
+  unfolding lineOf
+  line-says =
+      by-bool (keyAt l 0 kSend) (λ t. rw t (send-says t)) (λ f. rw f (
+      by-bool (keyAt l 0 kRecv) (λ t. rw t (recv-says t)) (λ f. rw f (
+      by-bool (keyAt l 0 kSave) (λ t. rw t (save-says t)) (λ f. rw f (
+      by-bool (keyAt l 0 kProcs) (λ t. rw t (procs-says t)) (λ f. rw f (
+      by-bool (keyAt l 0 kFail) (λ t. rw t (fail-says t)) (λ f. rw f tt)))))))))
+
+-- ---- what is rendered is read
+
+pub procs-line : (n : ℕ) → n ≤ most → lineOf (kProcs ++ decimal n) ≡ line.the-variants.Procs n
+unfolding lineOf procsOf startsWith isDigit
+procs-line n h =
+    let l = kProcs ++ (decimal n ++ []) in
+    ap lineOf (procs-text n)
+    ∙ rw (field-1 l 0 kProcs most true refl refl)
+    (rendered-field most refl l 0 kProcs n _ _ _ (behind-start l) h refl (λ p s. rendered-end l p _ s))
+
+-- an event as a line
+abbrev pub lineFor : Event → Line
+lineFor (Send at to val) = line.the-variants.Send at to val
+lineFor (Recv at from) = line.the-variants.Recv at from
+lineFor (Save at) = line.the-variants.Save at
+
+pub event-line : (e : Event) → Small e → lineOf (renderEvent e) ≡ lineFor e
+unfolding lineOf sendOf recvOf saveOf startsWith isDigit
+event-line (Send a b v) h =
+    let l = kSend ++ (decimal a ++ (kTo ++ (decimal b ++ (kVal ++ (decimal v ++ []))))) in
+    ap lineOf (send-text a b v)
+    ∙ rw (field-1 l 0 kSend most true refl refl)
+    (rendered-field most refl l 0 kSend a _ _ _ (behind-start l) (h .0) refl (λ p s.
+    rendered-field most refl l p kTo b _ _ _ s (h .1) refl (λ q u.
+    rendered-field most refl l q kVal v _ _ _ u (h .2) refl (λ r w. rendered-end l r _ w))))
+event-line (Recv a b) h =
+    let l = kRecv ++ (decimal a ++ (kFrom ++ (decimal b ++ []))) in
+    ap lineOf (recv-text a b)
+    ∙ rw (field-1 l 0 kRecv most true refl refl)
+    (rendered-field most refl l 0 kRecv a _ _ _ (behind-start l) (h .0) refl (λ p s.
+    rendered-field most refl l p kFrom b _ _ _ s (h .1) refl (λ q u. rendered-end l q _ u)))
+event-line (Save a) h =
+    let l = kSave ++ (decimal a ++ []) in
+    ap lineOf (save-text a)
+    ∙ rw (field-1 l 0 kSave most true refl refl)
+    (rendered-field most refl l 0 kSave a _ _ _ (behind-start l) h refl (λ p s. rendered-end l p _ s))
+
+pub failure-line : (step set : ℕ) → step ≤ most → set ≤ mostSet → lineOf (failureText step set) ≡ line.the-variants.Failure step set
+unfolding lineOf failOf startsWith isDigit
+failure-line step set h i =
+    let l = failureText step set in
+    rw (field-1 l 0 kFail most true refl refl)
+    (rendered-field most refl l 0 kFail step _ _ _ (behind-start l) h refl (λ p s.
+    rendered-field mostSet refl l p kSet set _ _ _ s i refl (λ q u. rendered-end l q _ u)))

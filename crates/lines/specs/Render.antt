@@ -1,0 +1,17 @@
+-- The text of an event and of a failure: the one line that is read as it.
+use Prim.Native.Nat.{ℕ}
+use mathlib.Core.List.{List, [], _∷_, _++_}
+use Rattle.text.specs.Number.{decimal}
+use Rattle.trace.specs.declared.Event.{Event}
+use Rattle.trace.specs.declared.Event.the-variants.{Send, Recv, Save}
+use Rattle.lines.specs.Line.{kSend, kTo, kVal, kRecv, kFrom, kSave, kFail, kSet}
+
+-- the line of an event, without its LF
+unfoldable pub renderEvent : Event → List ℕ
+renderEvent (Send at to val) = kSend ++ decimal at ++ kTo ++ decimal to ++ kVal ++ decimal val
+renderEvent (Recv at from) = kRecv ++ decimal at ++ kFrom ++ decimal from
+renderEvent (Save at) = kSave ++ decimal at
+
+-- the last line of the program's text, ended by LF
+unfoldable pub renderFailure : ℕ → ℕ → List ℕ
+renderFailure step set = kFail ++ decimal step ++ kSet ++ decimal set ++ 10 ∷ []

@@ -1,0 +1,131 @@
+// What one line of text says: a process count, a send, a receive, a checkpoint or a failure, each with its numbers, or none of these. specs/Line
+// says it for every line, specs/Render the text of an event and of a failure; proofs/OneLine that a line says it exactly if it is that text.
+// No public function has a `requires`. Assumes nothing.
+ghost use mathlib.Core.Path.{_≡_};
+ghost use Rattle.lines.specs.Line.{lineOf, procsOf, sendOf, recvOf, saveOf, failOf};
+use text::Num;
+
+// What a line says: a process count, a send, a receive, a checkpoint or a failure, each with its numbers; or none of these.
+pub enum Line {
+    Procs(u64),
+    Send(u64, u64, u64),
+    Recv(u64, u64),
+    Save(u64),
+    Failure(u64, u64),
+    Malformed,
+}
+
+const MOST: u64 = 4294967295;
+
+const MOST_SET: u64 = 18446744073709551615;
+
+pub fn procs_line(line: &[u8]) -> Line
+    ensures { λ r. ⌜ r ≡ procsOf (now (line .entry)) ⌝ }
+{
+    let Num::Value(n, p) = text::number(line, 6, MOST) else {
+        return Line::Malformed;
+    };
+    if p == line.len() {
+        Line::Procs(n)
+    } else {
+        Line::Malformed
+    }
+}
+
+fn send_line(line: &[u8]) -> Line
+    ensures { λ r. ⌜ r ≡ sendOf (now (line .entry)) ⌝ }
+{
+    let Num::Value(a, p) = text::number(line, 11, MOST) else {
+        return Line::Malformed;
+    };
+    if !text::key(line, p, b" to=") {
+        return Line::Malformed;
+    }
+    let Num::Value(b, q) = text::number(line, p + 4, MOST) else {
+        return Line::Malformed;
+    };
+    if !text::key(line, q, b" val=") {
+        return Line::Malformed;
+    }
+    let Num::Value(v, r) = text::number(line, q + 5, MOST) else {
+        return Line::Malformed;
+    };
+    if r == line.len() {
+        Line::Send(a, b, v)
+    } else {
+        Line::Malformed
+    }
+}
+
+fn recv_line(line: &[u8]) -> Line
+    ensures { λ r. ⌜ r ≡ recvOf (now (line .entry)) ⌝ }
+{
+    let Num::Value(a, p) = text::number(line, 11, MOST) else {
+        return Line::Malformed;
+    };
+    if !text::key(line, p, b" from=") {
+        return Line::Malformed;
+    }
+    let Num::Value(b, q) = text::number(line, p + 6, MOST) else {
+        return Line::Malformed;
+    };
+    if q == line.len() {
+        Line::Recv(a, b)
+    } else {
+        Line::Malformed
+    }
+}
+
+fn save_line(line: &[u8]) -> Line
+    ensures { λ r. ⌜ r ≡ saveOf (now (line .entry)) ⌝ }
+{
+    let Num::Value(a, p) = text::number(line, 11, MOST) else {
+        return Line::Malformed;
+    };
+    if p == line.len() {
+        Line::Save(a)
+    } else {
+        Line::Malformed
+    }
+}
+
+fn fail_line(line: &[u8]) -> Line
+    ensures { λ r. ⌜ r ≡ failOf (now (line .entry)) ⌝ }
+{
+    let Num::Value(k, p) = text::number(line, 5, MOST) else {
+        return Line::Malformed;
+    };
+    if !text::key(line, p, b" set=") {
+        return Line::Malformed;
+    }
+    let Num::Value(m, q) = text::number(line, p + 5, MOST_SET) else {
+        return Line::Malformed;
+    };
+    if q == line.len() {
+        Line::Failure(k, m)
+    } else {
+        Line::Malformed
+    }
+}
+
+// What a line says, by the key at its start.
+pub fn read_line(line: &[u8]) -> Line
+    ensures { λ r. ⌜ r ≡ lineOf (now (line .entry)) ⌝ }
+{
+    if text::key(line, 0, b"ev=send at=") {
+        return send_line(line);
+    }
+    if text::key(line, 0, b"ev=recv at=") {
+        return recv_line(line);
+    }
+    if text::key(line, 0, b"ev=save at=") {
+        return save_line(line);
+    }
+    if text::key(line, 0, b"procs=") {
+        return procs_line(line);
+    }
+    if text::key(line, 0, b"fail=") {
+        return fail_line(line);
+    }
+    Line::Malformed
+}

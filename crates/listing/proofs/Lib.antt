@@ -1,0 +1,8 @@
+pub mod Chains
+pub mod Channels
+pub mod Following
+pub mod Laying
+pub mod Pairs
+pub mod Room
+pub mod Rows
+pub mod Whole

@@ -1,0 +1,97 @@
+-- Each way out of `restart_from` and `restart`: the answer by its definition, and demand 2.
+use Prim.Native.Nat.{ℕ, _<_, _≤_}
+use mathlib.Core.Path.{_≡_, sym, ap, _∙_}
+use mathlib.Core.Bool.{true, false, _&&_, not}
+use mathlib.Core.List.{List}
+use native.Mathlib.Omega.{arith}
+use lib.Count.{ones}
+use lib.Dec.{ltb}
+use lib.ListN.{length}
+use borrow.Author.Tests.{lt-ltb, le-ltb, ne-eqb}
+use Rattle.words.specs.Area.{areaWords}
+use Rattle.trace.specs.Trace.{Trace}
+use Rattle.table.specs.Held.{held, holdsTrace}
+use Rattle.theory.specs.Events.{size}
+use Rattle.theory.specs.Epochs.{past}
+use Rattle.theory.specs.Line.{inSet, staysIn, current, reached, Greatest, greatestLine}
+use Rattle.theory.specs.Refusals.{failureFault}
+use Rattle.theory.proofs.Claims.{floor-failed}
+use Rattle.theory.proofs.WellFormed.{valid}
+use Rattle.recovery_line.specs.declared.Line.{Line}
+use Rattle.recovery_line.specs.Given.{Tabled, lineIn, lineTo, restartPhaseIn, numbersOf, backOf, backOnes}
+use Rattle.restart.specs.declared.Restarted.{Restarted}
+use Rattle.restart.specs.Restart.{failureFaultOf, engineLine, ofEach, restartBy, restartOf, restartRefusal, restartAnswer, Restarts}
+
+-- ---- From the full table
+
+module _ (t : Trace) (full : List ℕ) (G : Tabled t full) (cut set : ℕ) (cl : cut ≤ size t) (l : Line)
+    (e : l ≡ lineTo t (greatestLine t past cut (reached t past cut) (inSet set))) where
+  pub count-of : l .count ≡ t .procs
+  count-of = ap (λ (x : Line). x .count) e
+
+  pub count-few : l .count ≤ 64
+  count-few = omega (arith, count-of, valid t (G .formed) .few)
+
+  pub made : (s b : ℕ) (x p : List ℕ) → s ≡ backOf (numbersOf l) → b ≡ ones (backOf (numbersOf l)) → x ≡ ofEach t (current t past cut)
+      → p ≡ ofEach t (restartPhaseIn t cut (lineIn l))
+      → record { number = 0; place = 0; line = l; going = s; back = b; epochs = x; phases = p } ≡ restartOf t cut set
+  unfolding restartOf engineLine
+  made s b x p hs hb hx hp = rw (hs, hb, hx, hp) (ap (restartBy t cut) e)
+
+  pub means : (s b : ℕ) (x p : List ℕ) → Greatest t past cut (reached t past cut) (inSet set) (lineIn l)
+      → s ≡ backOf (numbersOf l) → ((z : ℕ) → inSet s z ≡ (ltb z (l .count) && not (staysIn (lineIn l) z)))
+      → b ≡ ones (backOf (numbersOf l)) → b ≡ length (backOnes (numbersOf l))
+      → Restarts t cut set (record { number = 0; place = 0; line = l; going = s; back = b; epochs = x; phases = p })
+  means s b x p g hs bits hb hn =
+      record {
+        greatest = g;
+        floor = λ y ly fy least z lz. floor-failed t (G .formed) cut cl (inSet set) y ly fy least (lineIn l) g z lz;
+        goes = λ z. bits z ∙ ap (λ (n : ℕ). ltb z n && not (staysIn (lineIn l) z)) count-of;
+        ones-are = hb ∙ ap ones (sym hs);
+        numbers-are = hn;
+      }
+
+-- ---- From the table area
+
+module _ (a : List ℕ) (step set : ℕ) where
+  pub short : length a < areaWords → 12 ≡ failureFaultOf a step set
+  unfolding failureFaultOf
+  short h = rw (lt-ltb (length a) 16384 h)
+
+  module _ (la : areaWords ≤ length a) where
+    pub none-held : holdsTrace a ≡ false → 13 ≡ failureFaultOf a step set
+    unfolding failureFaultOf
+    none-held h = rw (le-ltb (length a) 16384 la, h)
+
+    pub failure-number : (f : ℕ) → holdsTrace a ≡ true → f ≡ failureFault (held a) step set → f ≡ failureFaultOf a step set
+    unfolding failureFaultOf
+    failure-number f h q = q ∙ rw (le-ltb (length a) 16384 la, h)
+
+  abbrev pub Answered : Restarted → Type 0
+  Answered r = (r ≡ restartAnswer a step set) × (r .number ≡ 0 → Restarts (held a) step set r)
+
+  pub refuses-restart : (n : ℕ) (r : Restarted) → n ≡ failureFaultOf a step set → (n ≡ 0 → ⊥) → r ≡ restartRefusal n → Answered r
+  unfolding restartAnswer
+  refuses-restart n r f z e =
+      (e ∙ rw (← f, ne-eqb n 0 z), λ h. absurd (z (sym (ap (λ (x : Restarted). x .number) e) ∙ h)))
+
+  pub answers-restart : (n : ℕ) (r : Restarted) → n ≡ failureFaultOf a step set → n ≡ 0 → r ≡ restartOf (held a) step set → Restarts (held a) step set r → Answered r
+  unfolding restartAnswer
+  answers-restart n r f z e m = (e ∙ rw (← f, z), λ _. m)
+
+-- ---- A failure that is not refused
+
+-- a table area that holds a trace, a failure that is fit, and the answer to it
+pub record Ready (a : List ℕ) (step set : ℕ) (r : Restarted) : Type 0 where
+  pub holds : holdsTrace a ≡ true
+  pub fit : failureFault (held a) step set ≡ 0
+  pub answer : r ≡ restartOf (held a) step set
+  pub means : Restarts (held a) step set r
+
+module _ (t : Trace) (step set : ℕ) (r : Restarted) (e : r ≡ restartOf t step set) where
+  pub line-is : r .line ≡ lineTo t (greatestLine t past step (reached t past step) (inSet set))
+  unfolding restartOf engineLine
+  line-is = ap (λ (x : Restarted). x .line) e
+
+  pub count-in : r .line .count ≡ t .procs
+  count-in = ap (λ (l : Line). l .count) line-is

@@ -1,0 +1,24 @@
+-- What a call has once nothing is wrong with the areas and the failure that it was given. No public contract cites these.
+use Prim.Native.Nat.{ℕ, _≤_}
+use mathlib.Core.Path.{_≡_}
+use mathlib.Core.Bool.{true}
+use mathlib.Core.List.{List}
+use lib.Dec.{ltb}
+use Rattle.words.specs.Area.{areaWords}
+use Rattle.trace.specs.Fit.{orElse}
+use Rattle.table.specs.Held.{held, holdsTrace}
+use Rattle.theory.specs.Order.{run}
+use Rattle.theory.specs.Refusals.{failureFault}
+use Rattle.recovery_line.specs.Given.{Tabled}
+use Rattle.restart.specs.Restart.{failureFaultOf}
+
+-- what is wrong with the areas (`room` is how many words the run area has) and the failure: 12, 13, 8, 9, or 0
+abbrev pub failureFaultIn : List ℕ → ℕ → ℕ → ℕ → ℕ
+failureFaultIn a room step set = orElse (ltb room areaWords) 12 (failureFaultOf a step set)
+
+-- the full table
+pub record Filled (a : List ℕ) (room step set : ℕ) (full : List ℕ) : Type 0 where
+  pub enough : areaWords ≤ room
+  pub holds : holdsTrace a ≡ true
+  pub fit : failureFault (held a) step set ≡ 0
+  pub tabled : Tabled (held a) full

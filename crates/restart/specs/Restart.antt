@@ -1,0 +1,75 @@
+-- What `restart` answers: the engine's line for a failure, who goes back, and what the program prints of each process.
+use Prim.Native.Nat.{ℕ, _<_, _≤_}
+use mathlib.Core.Path.{_≡_}
+use mathlib.Core.Bool.{true, _&&_, not}
+use mathlib.Core.List.{List}
+use lib.Count.{ones}
+use lib.ListN.{length, replicate}
+use lib.Dec.{ltb, eqb}
+use Rattle.words.specs.Area.{areaWords, wordsFrom}
+use Rattle.trace.specs.Trace.{Trace}
+use Rattle.trace.specs.Fit.{orElse}
+use Rattle.table.specs.Held.{held, holdsTrace}
+use Rattle.theory.specs.Lists.{pick}
+use Rattle.theory.specs.Epochs.{past}
+use Rattle.theory.specs.Line.{inSet, staysIn, current, reached, Greatest, greatestLine}
+use Rattle.theory.specs.Refusals.{failureFault}
+use Rattle.recovery_line.specs.declared.Line.{Line}
+use Rattle.recovery_line.specs.Given.{each, lineIn, lineTo, restartPhaseIn, numbersOf, backOf, backOnes}
+use Rattle.restart.specs.declared.Restarted.{Restarted}
+
+-- what is wrong with the table area and the failure: 12, 13, 8, 9, or 0
+unfoldable pub failureFaultOf : List ℕ → ℕ → ℕ → ℕ
+failureFaultOf a step set = orElse (ltb (length a) areaWords) 12 (orElse (not (holdsTrace a)) 13 (failureFault (held a) step set))
+
+-- "The engine's line is the greatest without a lost message." "Places of a line past its N numbers are 0 when the engine gives it."
+unfoldable pub engineLine : Trace → ℕ → ℕ → Line
+engineLine t step set = lineTo t (greatestLine t past step (reached t past step) (inSet set))
+
+-- Of each process what a rule says, and 0 past the last: the 64 words of an array in the answer.
+abbrev pub ofEach : Trace → (ℕ → ℕ) → List ℕ
+ofEach t f = wordsFrom (each t f) 0 64
+
+-- "Epoch is at the cut; phase is at the restart, or at the cut for 32." "The zones that go back form a set of the same kind, and back is its size."
+abbrev pub restartBy : Trace → ℕ → Line → Restarted
+restartBy t step l =
+    record {
+      number = 0;
+      place = 0;
+      line = l;
+      going = backOf (numbersOf l);
+      back = ones (backOf (numbersOf l));
+      epochs = ofEach t (current t past step);
+      phases = ofEach t (restartPhaseIn t step (lineIn l));
+    }
+
+unfoldable pub restartOf : Trace → ℕ → ℕ → Restarted
+restartOf t step set = restartBy t step (engineLine t step set)
+
+-- "In a refused answer every other number is 0"
+abbrev pub restartRefusal : ℕ → Restarted
+restartRefusal n =
+    record {
+      number = n;
+      place = 0;
+      line = record { epochs = replicate 64 0; count = 0 };
+      going = 0;
+      back = 0;
+      epochs = replicate 64 0;
+      phases = replicate 64 0;
+    }
+
+unfoldable pub restartAnswer : List ℕ → ℕ → ℕ → Restarted
+restartAnswer a step set =
+    pick (eqb (failureFaultOf a step set) 0) (restartOf (held a) step set) (restartRefusal (failureFaultOf a step set))
+
+-- Demand 2, of an answer that is no refusal: permitted, loss-free, at or above every permitted line without loss, for every process; "No zone
+-- in it restarts in an epoch below the smallest current epoch of a failed zone"; the set of those that go back, and its size twice over.
+pub record Restarts (t : Trace) (step set : ℕ) (r : Restarted) : Type 0 where
+  pub greatest : Greatest t past step (reached t past step) (inSet set) (lineIn (r .line))
+  pub floor : (y : ℕ) → y < t .procs → inSet set y ≡ true
+      → ((z : ℕ) → z < t .procs → inSet set z ≡ true → current t past step y ≤ current t past step z)
+      → (z : ℕ) → z < t .procs → current t past step y ≤ lineIn (r .line) z
+  pub goes : (z : ℕ) → inSet (r .going) z ≡ (ltb z (t .procs) && not (staysIn (lineIn (r .line)) z))
+  pub ones-are : r .back ≡ ones (r .going)
+  pub numbers-are : r .back ≡ length (backOnes (numbersOf (r .line)))
