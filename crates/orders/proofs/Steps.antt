@@ -6,7 +6,6 @@ use native.Mathlib.Omega.{arith}
 use lib.ListN.{length, getD, set}
 use lib.Seq.{getD-set-same, getD-set-other}
 use Rattle.words.proofs.Cases.{by-eq}
-use Rattle.machine.proofs.Steps.{more}
 
 -- one word more is 0
 pub zero-more : (a : List ℕ) (from i : ℕ) → i < length a → ((k : ℕ) → from ≤ k → k < i → getD a k 0 ≡ 0) → (k : ℕ) → from ≤ k → k < i + 1 → getD (set a i 0) k 0 ≡ 0
