@@ -18,7 +18,8 @@ use machine::TAKEN;
 use trace::EVENT_BASE;
 use trace::VALUE_BASE;
 
-// The same where none is below the one given: an orphan of that phase is looked for from one process on, before all are looked at.
+// The least phase of an orphan that is not sent again, where none is below the one given: an orphan of that phase is looked for from one
+// process on, before all are looked at.
 fn lowest_phase_from(full: &[u32], area: &[u32], from: usize, procs: usize, least: u32) -> u32
     requires { ⌜ (procs ≤ 64) × (length (now full) ≡ areaWords) × (length (now area) ≡ areaWords) × Bounded (now area) × (least ≤ lowOf (now full) (now area) procs) ⌝ }
     ensures { λ r. ⌜ r ≡ lowOf (now (full .entry)) (now (area .entry)) procs ⌝ }
