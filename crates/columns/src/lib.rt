@@ -1,5 +1,6 @@
 // The full table of a trace: for each event the number of its message, the epoch and the phase of its process, and the event that it is matched
-// with. specs/Columns says what each word means; the functions store what one event adds, by specs/Filling. Assumes nothing.
+// with. specs/Columns says what each word means; the functions store what one event adds, by specs/Filling, and proofs/Passes says that event by
+// event that makes the columns. Assumes nothing.
 ghost use mathlib.Core.Path.{_≡_};
 ghost use Prim.Native.Nat.{max, _≤_, _<_};
 ghost use lib.Dec.{ltb};

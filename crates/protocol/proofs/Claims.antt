@@ -13,7 +13,7 @@ use Rattle.theory.specs.Line.{recorded}
 use Rattle.theory.specs.Laws.{Laws}
 use Rattle.theory.proofs.Epochs.{laws}
 use Rattle.columns.specs.Columns.{Columns, Others}
-use Rattle.protocol.proofs.Others.{same-table}
+use Rattle.columns.proofs.Others.{same-table}
 use Rattle.protocol.proofs.Passes.{held-formed, held-valid}
 
 -- "Recovery relies on what the protocol part promises and never on the text." The trace that an area holds is well formed, and with any

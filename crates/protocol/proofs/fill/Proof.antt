@@ -7,8 +7,9 @@ use Rattle.table.specs.Held.{held, heldEvent}
 use Rattle.theory.specs.Events.{size}
 use Rattle.columns.specs.Columns.{Others}
 use Rattle.columns.specs.Filling.{Filled, Working}
-use Rattle.protocol.proofs.Others.{begin-others}
-use Rattle.protocol.proofs.Passes.{held-long, held-valid, held-size, held-few, held-event, notable, next-filled, next-others, next-working, filled-columns}
+use Rattle.columns.proofs.Others.{begin-others}
+use Rattle.protocol.proofs.Passes.{held-long, held-valid, held-size, held-few, held-event}
+use Rattle.columns.proofs.Passes.{notable, next-filled, next-others, next-working, filled-columns}
 use native.Mathlib.Omega.{arith}
 use borrow.Author.Needs.{needs}
 use Rattle.protocol.proofs.fill.Statement.{statement}

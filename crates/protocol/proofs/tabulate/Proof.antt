@@ -3,7 +3,8 @@ use mathlib.Core.Path.{refl, sym, _∙_}
 use mathlib.Core.Bool.{true, false}
 use borrow.Author.Tests.{eq-eqb, ne-eqb}
 use Rattle.words.proofs.Cases.{clash}
-use Rattle.protocol.proofs.Passes.{held-long, copied-filled, copied-others, begun-working}
+use Rattle.protocol.proofs.Passes.{held-long, copied-filled}
+use Rattle.columns.proofs.Passes.{copied-others, begun-working}
 use native.Mathlib.Omega.{arith}
 use borrow.Author.Needs.{needs}
 use Rattle.protocol.proofs.tabulate.Statement.{statement}

@@ -16,9 +16,9 @@ use Rattle.theory.specs.Lists.{pick}
 use Rattle.theory.specs.Events.{size, eventAt, at, sends, sent, rcvd, sendOf}
 use Rattle.theory.proofs.WellFormed.{Valid}
 use Rattle.theory.proofs.Events.{sendOf-at, sent-le}
 use Rattle.columns.specs.Filling.{orNew, sendWork, recvPhase, recvWork, saveWork, Filled, Working}
 use Rattle.columns.proofs.Moves.{sent-more, sent-same, rcvd-same, send-here, send-else, send-recvs, send-epoch, send-phase, recv-else, recv-sends, recv-epoch, recv-phase-other, save-sends, save-recvs, save-epoch, save-epoch-other, save-phase, save-phase-other}
-use Rattle.protocol.proofs.Columns.{one-channel, no-message, found, oldest-found, phase-is}
+use Rattle.columns.proofs.Columns.{one-channel, no-message, found, oldest-found, phase-is}
 
 -- this channel, or another
 pub by-channel {ℓ} : {B : Type ℓ} (p q a b : ℕ) → (p ≡ a → q ≡ b → B) → (((p ≡ a) × (q ≡ b) → ⊥) → B) → B

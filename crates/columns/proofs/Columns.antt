@@ -18,9 +18,9 @@ use Rattle.theory.specs.Epochs.{past, epochAt, phaseAt}
 use Rattle.theory.proofs.Base.{place-zero}
 use Rattle.theory.proofs.WellFormed.{Valid}
 use Rattle.theory.proofs.Events.{sends-is, recvs-is, send-of, sendOf-at, recvOf-at}
 use Rattle.columns.specs.Filling.{stored, sendFull, recvPhase, recvFull, saveFull, Filled, Working}
 use Rattle.columns.proofs.Moves.{sent-more, sent-same, rcvd-more, rcvd-same, send-at, send-here, send-recvs, send-epoch, send-phase, recv-at, recv-here, recv-else, recv-sends, recv-epoch, recv-phase, save-at, save-sends, save-recvs, save-epoch, save-phase}
-use Rattle.protocol.proofs.Storing.{length-stored, stored-match, stored-other, stored-phase, stored-epoch, stored-number, Step, filled-step, by-event}
+use Rattle.columns.proofs.Storing.{length-stored, stored-match, stored-other, stored-phase, stored-epoch, stored-number, Step, filled-step, by-event}
 
 -- an event is on one channel only
 pub one-channel : (t : Trace) (p q a b e : ℕ) → sends t p q e ≡ true → sends t a b e ≡ true → (p ≡ a) × (q ≡ b)
