@@ -1,4 +1,5 @@
--- Answers as numbers in a lent slice, one after another: as many as there is room for, and the rest of the slice as it was (`written`, crate writer).
+-- Answers as numbers in a lent slice, one after another: as many as there is room for, and the rest of the slice as it
+-- was (`written`, crate writer).
 use Prim.Native.Nat.{ℕ}
 use mathlib.Core.List.{List, [], _∷_, _++_}
 use lib.ListN.{length, getD}

@@ -1,6 +1,6 @@
-// The library for C and Rust: its public functions under plain names, numbers and slices only (include/hallback.h). Each returns the number
-// of the refusal, or 0, and writes the rest of its answer into a lent slice, as far as that has room (specs/Answers). No function has a
-// `requires`. Assumes nothing.
+// The library for C and Rust: its public functions under plain names, numbers and slices only (include/hallback.h).
+// Each returns the number of the refusal, or 0, and writes the rest of its answer into a lent slice, as far as that has
+// room (specs/Answers). No function has a `requires`. Assumes nothing.
 ghost use mathlib.Core.Path.{_≡_};
 ghost use mathlib.Core.List.{[], _∷_};
 ghost use lib.ListN.{length, getD};
@@ -131,8 +131,8 @@ fn put_restart(answer: &mut [u64], r: Restarted) -> usize
     put_words(answer, to_phases, &phases)
 }
 
-// The greatest line without a lost message. Answer: place, count, back, the set of those that go back; then 64 words each: the line's
-// numbers, the epochs at the cut, the phases at the restart or at the cut.
+// The greatest line without a lost message. Answer: place, count, back, the set of those that go back; then 64 words
+// each: the line's numbers, the epochs at the cut, the phases at the restart or at the cut.
 #[no_mangle]
 pub extern "C" fn hallback_restart(table: &[u32], step: u64, set: u64, answer: &mut [u64]) -> u32
     ensures number { λ r. ⌜ r ≡ restartAnswer (now (table .entry)) step set .number ⌝ }

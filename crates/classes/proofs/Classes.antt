@@ -27,8 +27,8 @@ use Rattle.columns.proofs.Bounds.{well-few}
 use Rattle.classes.specs.Classes.{Given, Classed}
 use Rattle.classes.specs.Words.{doneBy, classW, eventW, matchW}
 
--- the tests of specs/Line over the tests of the words: a before the sender's restart, c by the cut, b the receive before the receiver's
--- restart, d by the cut, l logged
+-- the tests of specs/Line over the tests of the words: a before the sender's restart, c by the cut, b the receive
+-- before the receiver's restart, d by the cut, l logged
 pub pick-class : Bool → Bool → Bool → Bool → Bool → ℕ
 pick-class a c b d l = pick a (pick b 0 (pick d (pick l 2 3) 2)) (pick c (pick b 1 0) 0)
 

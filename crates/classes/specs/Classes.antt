@@ -1,4 +1,5 @@
--- What a class is by the theory's definitions, and what is given: the full table of a trace and where each process restarts.
+-- What a class is by the theory's definitions, and what is given: the full table of a trace and where each process
+-- restarts.
 use Prim.Native.Nat.{ℕ, _-_, _≤_, _<_}
 use mathlib.Core.Path.{_≡_}
 use mathlib.Core.Bool.{true}

@@ -1,4 +1,5 @@
--- The numbers of the columns are small: an event's number is at most 2,048, a phase at most one more than the events so far.
+-- The numbers of the columns are small: an event's number is at most 2,048, a phase at most one more than the events so
+-- far.
 use Prim.Native.Nat.{ℕ, zero, suc, _<_, _≤_, _+_}
 use mathlib.Core.Path.{_≡_, refl}
 use mathlib.Core.Bool.{Bool, true, false, _&&_}

@@ -1,5 +1,5 @@
--- How the theory's counts, epochs and phases move at one event, by its kind. From the definitions, and the claims of the theory on what a
--- message carries.
+-- How the theory's counts, epochs and phases move at one event, by its kind. From the definitions, and the claims of
+-- the theory on what a message carries.
 use Prim.Native.Nat.{ℕ, suc, _<_, _≤_}
 use mathlib.Core.Path.{_≡_, refl, sym, ap, _∙_}
 use mathlib.Core.Logic.{_≢_}

@@ -1,5 +1,5 @@
--- The words that the columns do not name: each kind of event leaves them right, from what its stores leave; and with the columns they
--- are all words (`same-table`).
+-- The words that the columns do not name: each kind of event leaves them right, from what its stores leave; and with
+-- the columns they are all words (`same-table`).
 use Prim.Native.Nat.{ℕ, suc, _+_, _-_, _<_, _≤_}
 use mathlib.Core.Path.{_≡_, refl, sym, subst, _∙_}
 use mathlib.Core.Logic.{_≢_}

@@ -1,5 +1,5 @@
--- The pass over the events: where it begins, that each event keeps the tables right, and that they end as the full table, its columns and its
--- other words.
+-- The pass over the events: where it begins, that each event keeps the tables right, and that they end as the full
+-- table, its columns and its other words.
 use Prim.Native.Nat.{ℕ, suc, _+_, _*_, _<_, _≤_}
 use mathlib.Core.Path.{_≡_, refl, sym, _∙_}
 use mathlib.Core.List.{List}

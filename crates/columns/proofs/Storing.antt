@@ -68,8 +68,8 @@ module _ (full : List ℕ) (e n ep ph m : ℕ) (whole : length full ≡ areaWord
       getD-set-other f₃ (12310 + e) (6163 + e) m 0 (λ q. omega arith) ∙ getD-set-other f₂ (10261 + e) (6163 + e) ph 0 (λ q. omega arith)
       ∙ getD-set-other f₁ (8212 + e) (6163 + e) ep 0 (λ q. omega arith) ∙ getD-set-same full (6163 + e) n 0 (omega arith)
 
--- What a table with one event more must have, to be filled so far: its words but those of the event as they were, the event's own columns,
--- and the matching of every event so far.
+-- What a table with one event more must have, to be filled so far: its words but those of the event as they were, the
+-- event's own columns, and the matching of every event so far.
 module _ (t : Trace) (x : ℕ) (full next : List ℕ) (F : Filled t x full) (few : size t ≤ 2048) (l : suc x ≤ size t) where
   pub record Step : Type 0 where
     pub whole : length next ≡ areaWords

@@ -1,4 +1,5 @@
--- Each kind of event keeps the working words right: `send-working`, `recv-working`, `save-working`. From how counts, epochs and phases move.
+-- Each kind of event keeps the working words right: `send-working`, `recv-working`, `save-working`. From how counts,
+-- epochs and phases move.
 use Prim.Native.Nat.{ℕ, suc, _+_, _*_, _<_, _≤_}
 use mathlib.Core.Path.{_≡_, sym, ap, subst, _∙_}
 use mathlib.Core.Logic.{_≢_}

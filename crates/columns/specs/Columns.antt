@@ -1,5 +1,6 @@
--- The full table: the words of a trace and what the protocol derives from it, a plane of words for each column (docs/LAYOUT.md).
--- `Columns` says what each column means, by the theory's definitions; everything above cites it. `Others` says what the other words are.
+-- The full table: the words of a trace and what the protocol derives from it, a plane of words for each column
+-- (docs/LAYOUT.md). `Columns` says what each column means, by the theory's definitions; everything above cites it.
+-- `Others` says what the other words are.
 use Prim.Native.Nat.{ℕ, _+_, _<_, _≤_}
 use mathlib.Core.Path.{_≡_}
 use mathlib.Core.Bool.{true}
@@ -42,15 +43,16 @@ pub record Columns (t : Trace) (full : List ℕ) : Type 0 where
   pub match-send : (p q e : ℕ) → sends t p q e ≡ true → 0 < e → e ≤ size t → getD full (matchBase + e) 0 ≡ recvOf t p q (sent t p q e)
   pub match-recv : (p q e : ℕ) → recvs t p q e ≡ true → 0 < e → e ≤ size t → getD full (matchBase + e) 0 ≡ sendOf t p q (rcvd t p q e)
 
--- The words that `Columns` does not name, where the columns of the first x events are filled in a table that was `before`. With x = size t
--- both records together name every word (`one-table`, proofs/Claims).
+-- The words that `Columns` does not name, where the columns of the first x events are filled in a table that was
+-- `before`. With x = size t both records together name every word (`one-table`, proofs/Claims).
 pub record Others (t : Trace) (x : ℕ) (before after : List ℕ) : Type 0 where
   -- a checkpoint has no message
   pub number-checkpoint : (z e : ℕ) → checkpoints t z e ≡ true → 0 < e → e ≤ x → getD after (numberBase + e) 0 ≡ 0
   pub match-checkpoint : (z e : ℕ) → checkpoints t z e ≡ true → 0 < e → e ≤ x → getD after (matchBase + e) 0 ≡ 0
   -- there is no event 0; its word is 0, and a channel's first message gets one more
   pub number-none : getD after numberBase 0 ≡ 0
-  -- the others are as they were: in each column those after event x, up to the next column's event 0, and all words after the last column
+  -- the others are as they were: in each column those after event x, up to the next column's event 0, and all words
+  -- after the last column
   pub after-number : (k : ℕ) → numberBase + x < k → k ≤ epochBase → getD after k 0 ≡ getD before k 0
   pub after-epoch : (k : ℕ) → epochBase + x < k → k ≤ phaseBase → getD after k 0 ≡ getD before k 0
   pub after-phase : (k : ℕ) → phaseBase + x < k → k ≤ matchBase → getD after k 0 ≡ getD before k 0

@@ -1,5 +1,5 @@
--- How the full table is filled, one event after another: the words that each kind of event stores, and what the table and the working
--- words hold after some events. No public contract cites these.
+-- How the full table is filled, one event after another: the words that each kind of event stores, and what the table
+-- and the working words hold after some events. No public contract cites these.
 use Prim.Native.Nat.{ℕ, suc, _+_, _*_, _<_, _≤_}
 use mathlib.Core.Path.{_≡_}
 use mathlib.Core.Bool.{true}
@@ -16,8 +16,8 @@ use Rattle.theory.specs.Events.{at, sends, recvs, sent, rcvd, sendOf, recvOf}
 use Rattle.theory.specs.Epochs.{past, joined, epochAt, phaseAt}
 use Rattle.columns.specs.Columns.{numberBase, epochBase, phaseBase, matchBase, traceWords}
 
--- Working words: process z's epoch at z and its phase at phasesBase + z; of channel c = 64 p + q the oldest send in transit and the
--- latest send, as events, 0 where there is none; of a send the next send on its channel.
+-- Working words: process z's epoch at z and its phase at phasesBase + z; of channel c = 64 p + q the oldest send in
+-- transit and the latest send, as events, 0 where there is none; of a send the next send on its channel.
 abbrev pub phasesBase : ℕ
 phasesBase = 64
 
@@ -108,7 +108,8 @@ pub record Working (t : Trace) (x : ℕ) (work : List ℕ) : Type 0 where
   pub next : (p q d : ℕ) → sends t p q d ≡ true → 0 < d → d ≤ x
       → getD work (nextBase + d) 0 ≡ pick (ltb (sent t p q d) (sent t p q x)) (sendOf t p q (suc (sent t p q d))) 0
 
--- the words that an event reads are in their range, so that no index is past its end, no sum wraps and 16 bits are enough
+-- the words that an event reads are in their range, so that no index is past its end, no sum wraps and 16 bits are
+-- enough
 abbrev pub Notable : List ℕ → List ℕ → Event → Type 0
 Notable full work (Send a b v) =
     (a < 64) × (b < 64) × (getD work (latestBase + (64 * a + b)) 0 ≤ 2048) × (getD full (numberBase + getD work (latestBase + (64 * a + b)) 0) 0 < 4294967295)

@@ -1,6 +1,6 @@
-// The full table of a trace: for each event the number of its message, the epoch and the phase of its process, and the event that it is matched
-// with. specs/Columns says what each word means; the functions store what one event adds, by specs/Filling, and proofs/Passes says that event by
-// event that makes the columns. Assumes nothing.
+// The full table of a trace: for each event the number of its message, the epoch and the phase of its process, and the
+// event that it is matched with. specs/Columns says what each word means; the functions store what one event adds, by
+// specs/Filling, and proofs/Passes says that event by event that makes the columns. Assumes nothing.
 ghost use mathlib.Core.Path.{_≡_};
 ghost use Prim.Native.Nat.{max, _≤_, _<_};
 ghost use lib.Dec.{ltb};
@@ -20,8 +20,8 @@ pub const PHASE_BASE: usize = 10261;
 
 pub const MATCH_BASE: usize = 12310;
 
-// Where the working words begin: each process's phase, each channel's oldest and latest send, each send's next on its channel. They have
-// 16 bits, so that they take less to clear.
+// Where the working words begin: each process's phase, each channel's oldest and latest send, each send's next on its
+// channel. They have 16 bits, so that they take less to clear.
 const PHASES: usize = 64;
 
 const OLDEST: usize = 128;

@@ -1,5 +1,5 @@
-// What is wrong with a failure and a line, from the full table of a trace: 8, 9, 10, or 0. The contracts are the theory's definitions, for every
-// trace that the table is of. Assumes nothing.
+// What is wrong with a failure and a line, from the full table of a trace: 8, 9, 10, or 0. The contracts are the
+// theory's definitions, for every trace that the table is of. Assumes nothing.
 ghost use mathlib.Core.Path.{_≡_};
 ghost use mathlib.Core.Bool.{_&&_};
 ghost use lib.Dec.{leb};

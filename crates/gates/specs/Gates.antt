@@ -8,8 +8,8 @@ use Rattle.theory.specs.Line.{staysIn, restartIn, recorded}
 use Rattle.theory.specs.Replay.{gate}
 use Rattle.recovery_line.specs.Given.{each, restartPhaseIn}
 
--- ---- The words of each process in `gates`: word z its phase at the restart or its gate, word 64 + z the event that it restarts after,
--- word 128 + z 1 if it stays
+-- ---- The words of each process in `gates`: word z its phase at the restart or its gate, word 64 + z the event that it
+-- restarts after, word 128 + z 1 if it stays
 
 abbrev pub planes : (ℕ → ℕ) → (ℕ → ℕ) → (ℕ → ℕ) → ℕ → ℕ
 planes a b c k = pick (ltb k 64) (a k) (pick (ltb k 128) (b (k - 64)) (c (k - 128)))

@@ -23,7 +23,8 @@ abbrev pub RestartsBegun : List ℕ → ℕ → ℕ → ℕ → List ℕ → Typ
 RestartsBegun numbers count cut =
     Planes (λ z. pick (ltb z count) 1 0) (λ z. pick (staysW numbers count z) cut 0) (λ z. pick (staysW numbers count z) 1 0)
 
--- Event e: the phase of a process that stays is the latest; a process that goes back restarts after its checkpoint that raised it to its number.
+-- Event e: the phase of a process that stays is the latest; a process that goes back restarts after its checkpoint that
+-- raised it to its number.
 abbrev pub raises : List ℕ → List ℕ → ℕ → Bool
 raises full numbers e = eqb (kindW full e) 3 && eqb (epochW full e) (getD numbers (atW full e) 0)
 

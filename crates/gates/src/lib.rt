@@ -1,5 +1,5 @@
-// The gates of a line: of each process where it restarts, whether it stays, and which phase must be ready before it may run. specs/Gates says
-// it by the theory's definitions. Assumes nothing.
+// The gates of a line: of each process where it restarts, whether it stays, and which phase must be ready before it may
+// run. specs/Gates says it by the theory's definitions. Assumes nothing.
 ghost use mathlib.Core.Path.{_≡_};
 ghost use Prim.Native.Nat.{_≤_, _<_};
 ghost use lib.ListN.{length};
@@ -73,7 +73,8 @@ fn note_restart(full: &[u32], numbers: &[u32], gates: &mut [u32], e: usize)
     gates[RESTARTS + z] = e as u32;
 }
 
-// Of each process its phase at the restart, or at the cut where it stays, the event that it restarts after, and whether it stays.
+// Of each process its phase at the restart, or at the cut where it stays, the event that it restarts after, and whether
+// it stays.
 fn restarts(full: &[u32], line: Line, cut: usize, gates: &mut [u32])
     requires { ⌜ (length (now gates) ≡ 192) × ((t : Trace) × Tabled t (now full) × (cut ≤ size t) × (line .count ≡ t .procs)) ⌝ }
     ensures { λ _. ⌜ ((t : Trace) → Tabled t (now (full .entry)) → cut ≤ size t → line .count ≡ t .procs → now (gates .exit) ≡ wordsFrom (restartWord t cut (lineIn line)) 0 192) ⌝ }
@@ -87,7 +88,8 @@ fn restarts(full: &[u32], line: Line, cut: usize, gates: &mut [u32])
     }
 }
 
-// "A zone that goes back may run when its phase at restart, less 1, is ready. A zone that stays may run when its phase at the cut is ready."
+// "A zone that goes back may run when its phase at restart, less 1, is ready. A zone that stays may run when its phase
+// at the cut is ready."
 fn gate(stay: u32, phase: u32) -> u32
     ensures { λ r. ⌜ r ≡ gateW stay phase ⌝ }
 {

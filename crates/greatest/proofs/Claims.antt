@@ -1,4 +1,5 @@
--- What holds of the lines that this crate gives, in the words of document 01. The contracts of src/lib.rt are the definitions themselves; read this first.
+-- What holds of the lines that this crate gives, in the words of document 01. The contracts of src/lib.rt are the
+-- definitions themselves; read this first.
 use mathlib.Core.Path.{_≡_, _∙_, ap}
 use mathlib.Core.Bool.{true, false}
 use mathlib.Core.List.{List}

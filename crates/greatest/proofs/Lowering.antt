@@ -1,4 +1,5 @@
--- The words of a line, lowered at one event after another, become the greatest line without a lost message: `greatest-words`.
+-- The words of a line, lowered at one event after another, become the greatest line without a lost message:
+-- `greatest-words`.
 use mathlib.Core.Path.{_≡_, refl, sym, _∙_, ap, subst, fun-ext}
 use mathlib.Core.Bool.{Bool, true, false, _&&_, not}
 use mathlib.Core.List.{List}

@@ -206,8 +206,8 @@ module _ (t : Trace) (full : List ℕ) (G : Tabled t full) (cut : ℕ) (cl : cut
   numbers-may failed line g =
       number-of t past (fit t full G) cut cl (reached t past cut) (reached-usable t (G .formed) past cut cl) failed line (g .permitted)
 
--- What `greatest` has done: events linked, d the epochs at the cut, m the first line, r the line lowered, with the newest events before its
--- restarts left, and p the phases there.
+-- What `greatest` has done: events linked, d the epochs at the cut, m the first line, r the line lowered, with the
+-- newest events before its restarts left, and p the phases there.
 pub record Done (full : List ℕ) (cut set count : ℕ) (earlier latest d m r left p : List ℕ) : Type 0 where
   pub counted : count ≡ getD full 0 0
   pub linked : Linked full cut earlier latest

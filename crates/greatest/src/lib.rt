@@ -1,6 +1,6 @@
-// The greatest line without a lost message after a failure, with epochs at the cut and phases at the restarts, from the full table of a trace.
-// The contract is the theory's definition, for every trace that the table is of; proofs/Claims says what holds of the lines given. Assumes
-// nothing.
+// The greatest line without a lost message after a failure, with epochs at the cut and phases at the restarts, from the
+// full table of a trace. The contract is the theory's definition, for every trace that the table is of; proofs/Claims
+// says what holds of the lines given. Assumes nothing.
 ghost use mathlib.Core.Path.{_≡_};
 ghost use lib.Dec.{ltb};
 ghost use Prim.Native.Nat.{ℕ, _+_, _≤_, _<_};
@@ -42,7 +42,8 @@ fn first_line(epochs: &[u32], count: usize, set: u64, numbers: &mut [u32])
     }
 }
 
-// The epoch or the phase of a process after its newest event e, from the column that begins at `base`; 1 where there is no event.
+// The epoch or the phase of a process after its newest event e, from the column that begins at `base`; 1 where there is
+// no event.
 fn after(full: &[u32], base: usize, e: usize) -> u32
     requires { ⌜ (length (now full) ≡ areaWords) × (base + 2048 < areaWords) × (e ≤ 2048) ⌝ }
     ensures { λ r. ⌜ r ≡ afterW (now (full .entry)) base e ⌝ }
@@ -65,7 +66,8 @@ fn newest_epochs(full: &[u32], latest: &[u16], count: usize, epochs: &mut [u32])
     }
 }
 
-// The phase of a process at its restart, from its newest event e before that: the checkpoint that it goes back to has raised it by one.
+// The phase of a process at its restart, from its newest event e before that: the checkpoint that it goes back to has
+// raised it by one.
 fn restart_phase(full: &[u32], number: u32, e: usize) -> u32
     requires { ⌜ (length (now full) ≡ areaWords) × (e ≤ 2048) × (0 < e → phaseW (now full) e < 65536) ⌝ }
     ensures { λ r. ⌜ r ≡ restartPhase (now (full .entry)) number e ⌝ }
@@ -95,8 +97,9 @@ fn restart_phases(full: &[u32], latest: &[u16], numbers: &[u32], count: usize, p
     }
 }
 
-// The greatest permitted line without a lost message, for a failure of a set of processes right after event `cut`. Leaves the epochs of the
-// processes at the cut, and their phases at the line's restarts, or at the cut for those that stay.
+// The greatest permitted line without a lost message, for a failure of a set of processes right after event `cut`.
+// Leaves the epochs of the processes at the cut, and their phases at the line's restarts, or at the cut for those that
+// stay.
 pub fn greatest(full: &[u32], cut: usize, set: u64, epochs: &mut [u32], phases: &mut [u32]) -> Line
     requires { ⌜ (length (now epochs) ≡ 64) × (length (now phases) ≡ 64) × ((t : Trace) × Tabled t (now full) × (cut ≤ size t)) ⌝ }
     ensures line { λ r. ⌜ ((t : Trace) → Tabled t (now (full .entry)) → cut ≤ size t → r ≡ lineTo t (greatestLine t past cut (reached t past cut) (inSet set))) ⌝ }

@@ -1,5 +1,5 @@
--- Decimals: a number that is read stands there as its decimal, and a decimal before no digit is read as its number. From the
--- definitions of crate text.
+-- Decimals: a number that is read stands there as its decimal, and a decimal before no digit is read as its number.
+-- From the definitions of crate text.
 use Prim.Native.Nat.{ℕ, suc, zero, _+_, _-_, _*_, _/_, _%_, _^_, _<_, _≤_, zero-le}
 use mathlib.Core.Path.{_≡_, refl, sym, ap, ap₂, subst₂, _∙_}
 use mathlib.Core.List.{List, [], _∷_, _++_, append-assoc}

@@ -1,4 +1,5 @@
--- Fields of a line: what a key and a number that are read say of the bytes, and that rendered fields are read. From the laws of decimals.
+-- Fields of a line: what a key and a number that are read say of the bytes, and that rendered fields are read. From the
+-- laws of decimals.
 use Prim.Native.Nat.{ℕ, _+_, _^_, _≤_}
 use mathlib.Core.Path.{_≡_, refl, sym, ap, ap₂, _∙_}
 use mathlib.Core.List.{List, [], _∷_, _++_}

@@ -1,4 +1,5 @@
--- One line: what is read of a line is what stands there, and a rendered line is read as itself. From the laws of fields.
+-- One line: what is read of a line is what stands there, and a rendered line is read as itself. From the laws of
+-- fields.
 use Prim.Native.Nat.{ℕ, _≤_}
 use mathlib.Core.Path.{_≡_, refl, ap, _∙_}
 use mathlib.Core.List.{List, [], _∷_, _++_, append-assoc, append-nil}

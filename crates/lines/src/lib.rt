@@ -1,11 +1,12 @@
-// What one line of text says: a process count, a send, a receive, a checkpoint or a failure, each with its numbers, or none of these. specs/Line
-// says it for every line, specs/Render the text of an event and of a failure; proofs/OneLine that a line says it exactly if it is that text.
-// No public function has a `requires`. Assumes nothing.
+// What one line of text says: a process count, a send, a receive, a checkpoint or a failure, each with its numbers, or
+// none of these. specs/Line says it for every line, specs/Render the text of an event and of a failure; proofs/OneLine
+// that a line says it exactly if it is that text. No public function has a `requires`. Assumes nothing.
 ghost use mathlib.Core.Path.{_≡_};
 ghost use Rattle.lines.specs.Line.{lineOf, procsOf, sendOf, recvOf, saveOf, failOf};
 use text::Num;
 
-// What a line says: a process count, a send, a receive, a checkpoint or a failure, each with its numbers; or none of these.
+// What a line says: a process count, a send, a receive, a checkpoint or a failure, each with its numbers; or none of
+// these.
 pub enum Line {
     Procs(u64),
     Send(u64, u64, u64),

@@ -1,4 +1,5 @@
--- What a replay is given begins it: the words of the first state are in their ranges and stand for the run, for every trace and line that are given.
+-- What a replay is given begins it: the words of the first state are in their ranges and stand for the run, for every
+-- trace and line that are given.
 use mathlib.Core.Path.{_≡_, refl, _∙_, ap}
 use mathlib.Core.List.{List}
 use Prim.Native.Nat.{ℕ, _+_, _≤_, _<_}

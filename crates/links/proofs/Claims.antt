@@ -18,8 +18,8 @@ use Rattle.links.specs.Linking.{linkedL, linkedA, beginA}
 use Rattle.links.proofs.Passes.{linked-cols, linked-rel}
 use Rattle.links.proofs.Columns.{few, base, tested}
 
--- The pass over the events sets the links of the recorded run and its first state. The words of processes that the run does not have may hold
--- anything in the gates.
+-- The pass over the events sets the links of the recorded run and its first state. The words of processes that the run
+-- does not have may hold anything in the gates.
 module _ (t : Trace) (wf : wellFormed t ≡ true) (full : List ℕ) (C : Columns t full) (cut : ℕ) (line : ℕ → ℕ) (cl : cut ≤ size t) (gates : List ℕ)
     (G : Gated (recorded t past cut line) gates) where
   pub started : (links area : List ℕ) → 8197 ≤ length links → length area ≡ 16384 → ((k : ℕ) → getD links k 0 ≡ 0) → ((k : ℕ) → getD area k 0 ≡ 0)

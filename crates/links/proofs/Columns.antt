@@ -1,5 +1,6 @@
--- The run of a trace with a failure and a line: its words are those of the full table. So the full table and its gates are a base of the run
--- (`base`), and the tests of the pass mean what they should (`tested`). From the columns of the full table alone, by Matches.
+-- The run of a trace with a failure and a line: its words are those of the full table. So the full table and its gates
+-- are a base of the run (`base`), and the tests of the pass mean what they should (`tested`). From the columns of the
+-- full table alone, by Matches.
 use mathlib.Core.Path.{_≡_, refl, sym, _∙_, ap}
 use mathlib.Core.Bool.{true, false, _&&_, and-true, and-false}
 use mathlib.Core.List.{List, [], _∷_, _++_, map}

@@ -1,4 +1,5 @@
--- When every event is linked, the words stand for the first state of the replay, and the links are those of the run. From the laws of the run.
+-- When every event is linked, the words stand for the first state of the replay, and the links are those of the run.
+-- From the laws of the run.
 use mathlib.Core.Path.{_≡_, refl, sym, _∙_, ap}
 use mathlib.Core.Logic.{_≢_}
 use mathlib.Core.Bool.{Bool, true, false, _&&_}

@@ -1,5 +1,5 @@
--- One event of the pass that sets the links and the first state: if the events after it are linked, it is, too. From what the tests of the
--- pass mean at the event (`Tests`).
+-- One event of the pass that sets the links and the first state: if the events after it are linked, it is, too. From
+-- what the tests of the pass mean at the event (`Tests`).
 use mathlib.Core.Path.{_≡_, refl, sym, _∙_, ap, subst}
 use mathlib.Core.Logic.{_≢_}
 use mathlib.Core.Bool.{Bool, true, false, _&&_, and-true, and-false}

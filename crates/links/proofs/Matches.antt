@@ -1,5 +1,5 @@
--- What the tests of the pass mean, where each event's match is that of its message: received up to an event, gone through its channel, an orphan,
--- the record at the start. From the laws of the run, by counts.
+-- What the tests of the pass mean, where each event's match is that of its message: received up to an event, gone
+-- through its channel, an orphan, the record at the start. From the laws of the run, by counts.
 use mathlib.Core.Path.{_≡_, refl, sym, _∙_, ap}
 use mathlib.Core.Bool.{Bool, true, false, _&&_}
 use mathlib.Core.List.{List, [], _∷_, map}

@@ -1,5 +1,5 @@
--- The whole pass of specs/Linking, from the last event to the first: it sets the links of the run and its first state. From what its tests mean
--- at every event (`Tested`), by Linking and Begin.
+-- The whole pass of specs/Linking, from the last event to the first: it sets the links of the run and its first state.
+-- From what its tests mean at every event (`Tested`), by Linking and Begin.
 use mathlib.Core.Path.{_≡_, refl, sym, _∙_, ap, subst}
 use mathlib.Core.Bool.{Bool, true, false, _&&_}
 use mathlib.Core.List.{List, [], _∷_}

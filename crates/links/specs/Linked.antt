@@ -1,4 +1,5 @@
--- What the pass of specs/Linking has done when it has come down to event x: every event after x is linked. Definitions only.
+-- What the pass of specs/Linking has done when it has come down to event x: every event after x is linked. Definitions
+-- only.
 use mathlib.Core.Path.{_≡_}
 use mathlib.Core.Bool.{Bool, true, _&&_}
 use mathlib.Core.List.{List}

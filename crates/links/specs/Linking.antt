@@ -1,5 +1,6 @@
--- What sets the links and the first state of a replay, by words: one pass over the events, from the last to the first. Definitions only.
--- At an event the pass writes where a test of the full table and the gates holds; `proofs/` says what the tests mean.
+-- What sets the links and the first state of a replay, by words: one pass over the events, from the last to the first.
+-- Definitions only. At an event the pass writes where a test of the full table and the gates holds; `proofs/` says what
+-- the tests mean.
 use mathlib.Core.Bool.{Bool, true, false}
 use mathlib.Core.List.{List}
 use Prim.Native.Nat.{ℕ, zero, suc, _+_, _-_, _*_, _%_}
@@ -35,8 +36,8 @@ mineW t g e = ltb (getD g (64 + atW t e) 0) e
 unfoldable pub orphanW : List ℕ → List ℕ → ℕ → Bool
 orphanW t g e = pick (eqb (kindW t e) 1) (pick (mineW t g e) (backW t g e) false) false
 
--- event e sends a message that goes through its channel: not received before the receiver's restart; and sent after the sender's restart, or
--- not received by the cut, or logged
+-- event e sends a message that goes through its channel: not received before the receiver's restart; and sent after the
+-- sender's restart, or not received by the cut, or logged
 unfoldable pub goesW : List ℕ → List ℕ → ℕ → ℕ → Bool
 goesW t g cut e = pick (eqb (kindW t e) 1)
     (pick (backW t g e) false (pick (mineW t g e) true (pick (doneW t cut e) (ltb (epochW t e) (epochW t (pairW t e))) true))) false

@@ -1,6 +1,6 @@
-// What a replay begins with: the links between events, and the words of the first state, from the full table of a trace and the gates of a line.
-// specs/Linking says what the pass over the events does, specs/Given what it is given; proofs/Passes that what it leaves stands for the theory's
-// first state. Assumes nothing.
+// What a replay begins with: the links between events, and the words of the first state, from the full table of a trace
+// and the gates of a line. specs/Linking says what the pass over the events does, specs/Given what it is given;
+// proofs/Passes that what it leaves stands for the theory's first state. Assumes nothing.
 ghost use mathlib.Core.Path.{_≡_};
 ghost use mathlib.Core.Bool.{true};
 ghost use Prim.Native.Nat.{_+_, _*_, _≤_, _<_};
@@ -22,11 +22,13 @@ use machine::TAKEN;
 use trace::EVENT_BASE;
 use trace::VALUE_BASE;
 
-// Words of the links: word 4 e is the next event of the process of event e, 4 e + 1 the next send whose message goes through its
-// channel, 4 e + 2 the next orphan's send of its process. They have 16 bits, so that they take less to clear.
+// Words of the links: word 4 e is the next event of the process of event e, 4 e + 1 the next send whose message goes
+// through its channel, 4 e + 2 the next orphan's send of its process. They have 16 bits, so that they take less to
+// clear.
 pub const LINK_WORDS: usize = 8200;
 
-// The event that event e is matched with: the receive of the message that it sends, or the send of the message that it receives.
+// The event that event e is matched with: the receive of the message that it sends, or the send of the message that it
+// receives.
 fn pair(full: &[u32], e: usize) -> usize
     requires { ⌜ (e < 2049) × (length (now full) ≡ areaWords) × (pairW (now full) e < 2049) ⌝ }
     ensures word { λ r. ⌜ r ≡ pairW (now (full .entry)) e ⌝ }
@@ -72,8 +74,8 @@ fn orphan(full: &[u32], gates: &[u32], e: usize) -> bool
     false
 }
 
-// Does event e send a message that goes through its channel: it was not received before the receiver's restart; and it is sent after
-// the sender's, or was not received by the cut, or is logged.
+// Does event e send a message that goes through its channel: it was not received before the receiver's restart; and it
+// is sent after the sender's, or was not received by the cut, or is logged.
 fn goes(full: &[u32], gates: &[u32], cut: usize, e: usize) -> bool
     requires { ⌜ (e < 2049) × (length (now full) ≡ areaWords) × (128 ≤ length (now gates)) × Paired (now full) e ⌝ }
     ensures { λ r. ⌜ r ≡ goesW (now (full .entry)) (now (gates .entry)) cut e ⌝ }

@@ -1,5 +1,5 @@
--- The work of `lower`: each undone event is looked at once, from the newest event of its process back, and where none is left no receive up to
--- the cut is lost.
+-- The work of `lower`: each undone event is looked at once, from the newest event of its process back, and where none
+-- is left no receive up to the cut is lost.
 use mathlib.Core.Path.{_≡_, refl, sym, _∙_, ap, subst}
 use mathlib.Core.Bool.{true, false, _&&_, not}
 use mathlib.Core.List.{List, [], _∷_}
@@ -86,7 +86,8 @@ lower-falls t m e z len =
     (λ n. rw (k, getD-set-other m (peerW t e) z d 0 n) (omega arith)))
     (λ k. rw k (omega arith))
 
--- The message that event e receives is not lost, whatever becomes of its receiver: it is logged, or its sender restarts no later than the send.
+-- The message that event e receives is not lost, whatever becomes of its receiver: it is logged, or its sender restarts
+-- no later than the send.
 abbrev Settled : List ℕ → List ℕ → ℕ → Type 0
 Settled t m e = kindW t e ≡ 2 → epochW t e ≤ epochW t (matchW t e) → getD m (peerW t e) 0 ≤ epochW t (matchW t e)
 

@@ -10,8 +10,8 @@ use Rattle.theory.specs.Lists.{pick}
 use Rattle.sets.specs.Sets.{withIn}
 use Rattle.recovery_line.specs.Words.{atW, peerW, kindW, epochW, matchW}
 
--- Does the line lose a message from p to q, sent by event d and received by event e: q restarts in no later epoch than the receive's, p in a
--- later one than the send's, and the message is not logged.
+-- Does the line lose a message from p to q, sent by event d and received by event e: q restarts in no later epoch than
+-- the receive's, p in a later one than the send's, and the message is not logged.
 unfoldable pub lostE : List ℕ → List ℕ → ℕ → ℕ → ℕ → ℕ → Bool
 lostE t m p q d e = leb (getD m q 0) (epochW t e) && (ltb (epochW t d) (getD m p 0) && not (ltb (epochW t d) (epochW t e)))
 
@@ -68,12 +68,13 @@ pub record Pending (t m latest : List ℕ) : Type 0 where
 abbrev pub undoneW : List ℕ → List ℕ → List ℕ → ℕ → Bool
 undoneW t m latest z = ltb 0 (getD latest z 0) && leb (getD m z 0) (epochW t (getD latest z 0))
 
--- the processes that may have an undone event not looked at, after event e was: its sender, where that was lowered, may have one more
+-- the processes that may have an undone event not looked at, after event e was: its sender, where that was lowered, may
+-- have one more
 abbrev pub joinedBy : List ℕ → List ℕ → ℕ → ℕ → ℕ
 joinedBy t m e pending = pick (lostW t m e) (withIn pending (peerW t e)) pending
 
--- of each process the newest event before its restart, 0 where there is none: its epoch is below the line's number, and all later events up to
--- the cut are undone
+-- of each process the newest event before its restart, 0 where there is none: its epoch is below the line's number, and
+-- all later events up to the cut are undone
 pub record Before (t : List ℕ) (cut : ℕ) (m latest : List ℕ) : Type 0 where
   pub within : (z : ℕ) → z < 64 → getD latest z 0 ≤ cut
   pub own : (z : ℕ) → z < 64 → 0 < getD latest z 0 → atW t (getD latest z 0) ≡ z

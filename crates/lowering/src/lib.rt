@@ -1,5 +1,5 @@
-// A line lowered until it loses no message: a worklist of processes that may have undone events not looked at. specs/Lowering says what
-// lowering at an event does and when it is done. Assumes nothing.
+// A line lowered until it loses no message: a worklist of processes that may have undone events not looked at.
+// specs/Lowering says what lowering at an event does and when it is done. Assumes nothing.
 ghost use mathlib.Core.Path.{_≡_};
 ghost use Prim.Native.Nat.{ℕ, _<_};
 ghost use lib.ListN.{length, getD, set};
@@ -12,7 +12,8 @@ use trace::EVENT_BASE;
 // The kinds of an event's word.
 const RECEIVE: u32 = 2;
 
-// Where event e receives a message that the line loses, its sender is lowered to the epoch of the send; whether that is so.
+// Where event e receives a message that the line loses, its sender is lowered to the epoch of the send; whether that is
+// so.
 fn lower_at(full: &[u32], epochs: &mut [u32], e: usize) -> bool
     requires { ⌜ Lowerable (now full) (now epochs) e ⌝ }
     ensures line { λ _. ⌜ now (epochs .exit) ≡ lowerAt (now (full .entry)) (now (epochs .entry)) e ⌝ }
@@ -40,8 +41,8 @@ fn lower_at(full: &[u32], epochs: &mut [u32], e: usize) -> bool
     true
 }
 
-// Links the events of each process up to the cut, from the newest back: for each event the one of its process before it, and for each process
-// its newest; 0 where there is none. Links have 16 bits, so that they take less to clear.
+// Links the events of each process up to the cut, from the newest back: for each event the one of its process before
+// it, and for each process its newest; 0 where there is none. Links have 16 bits, so that they take less to clear.
 pub fn link(full: &[u32], cut: usize, earlier: &mut [u16], latest: &mut [u16])
     requires { ⌜ Sized (now full) cut × (length (now earlier) ≡ 2049) × (length (now latest) ≡ 64) × ((z : ℕ) → getD (now latest) z 0 ≡ 0) ⌝ }
     ensures { λ _. ⌜ Linked (now (full .entry)) cut (now (earlier .exit)) (now (latest .exit)) ⌝ }
@@ -67,8 +68,8 @@ fn undoes(full: &[u32], epochs: &[u32], latest: &[u16], z: usize) -> bool
     epochs[z] <= full[EPOCH_BASE + e]
 }
 
-// Looks at the newest event of process z that was not looked at yet. A sender that is lowered joins those that may have undone events not
-// looked at.
+// Looks at the newest event of process z that was not looked at yet. A sender that is lowered joins those that may have
+// undone events not looked at.
 fn look(
     full: &[u32],
     earlier: &[u16],
@@ -90,9 +91,10 @@ fn look(
     pending
 }
 
-// Lowers the line until it loses no message, where the events up to the cut are linked. An undone event is looked at once: then its message is
-// logged, or its sender restarts no later than the send, and since numbers only fall that stays so. An event that is not undone receives no
-// lost message. `latest` is left with the newest event of each process before its restart.
+// Lowers the line until it loses no message, where the events up to the cut are linked. An undone event is looked at
+// once: then its message is logged, or its sender restarts no later than the send, and since numbers only fall that
+// stays so. An event that is not undone receives no lost message. `latest` is left with the newest event of each
+// process before its restart.
 pub fn lower(full: &[u32], earlier: &[u16], epochs: &mut [u32], latest: &mut [u16])
     requires { ⌜ (length (now epochs) ≡ 64) × ((cut : ℕ) × Sized (now full) cut × Linked (now full) cut (now earlier) (now latest)) ⌝ }
     ensures line { λ _. ⌜ ((cut : ℕ) → Sized (now (full .entry)) cut → Linked (now (full .entry)) cut (now (earlier .entry)) (now (latest .entry)) → Lowered (now (full .entry)) cut (now (epochs .entry)) (now (epochs .exit))) ⌝ }

@@ -1,4 +1,5 @@
--- A choice number: allowed by the words exactly where the machine allows it, and then the words stand for the next state. From Facts and Moves.
+-- A choice number: allowed by the words exactly where the machine allows it, and then the words stand for the next
+-- state. From Facts and Moves.
 use mathlib.Core.Path.{_≡_, refl, sym, _∙_, ap, subst}
 use mathlib.Core.Logic.{_⊎_, inl, inr}
 use mathlib.Core.Bool.{Bool, true, false}

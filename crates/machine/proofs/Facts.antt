@@ -1,5 +1,6 @@
--- What the relation says of channels, of orphans and of gates: the two pointers of a channel tell whether a kept message is left and whether a
--- message is in it; the least phase of an orphan tells which phases are ready. From the laws of the run and the invariants of the theory.
+-- What the relation says of channels, of orphans and of gates: the two pointers of a channel tell whether a kept
+-- message is left and whether a message is in it; the least phase of an orphan tells which phases are ready. From the
+-- laws of the run and the invariants of the theory.
 use mathlib.Core.Path.{_≡_, refl, sym, _∙_, ap}
 use mathlib.Core.Bool.{Bool, true, false, _&&_, and-false}
 use mathlib.Core.List.{List, [], _∷_, _++_, map}

@@ -1,4 +1,5 @@
--- One choice: the words do what the machine does. One law for each kind of step, that the relation is kept. From Facts and the theory's Flow.
+-- One choice: the words do what the machine does. One law for each kind of step, that the relation is kept. From Facts
+-- and the theory's Flow.
 use mathlib.Core.Path.{_≡_, refl, sym, _∙_, ap, subst}
 use mathlib.Core.Logic.{_≢_}
 use mathlib.Core.Bool.{true, false, _&&_}

@@ -23,7 +23,8 @@ abbrev pub recordEnd : ℕ
 recordEnd = 4098
 
 module _ (R : Run) where
-  -- a send on the channel whose message goes through it in the replay: kept, or sent after the restart and not received before the other's
+  -- a send on the channel whose message goes through it in the replay: kept, or sent after the restart and not received
+  -- before the other's
   unfoldable pub goes : ℕ → ℕ → ℕ → Bool
   goes p q e = sends (R .trace) p q e
       && pick (leb e (R .restart p)) (kept R p q (sent (R .trace) p q e)) (ltb (rcvd (R .trace) p q (R .restart q)) (sent (R .trace) p q e))
@@ -58,7 +59,8 @@ module _ (R : Run) where
   unfoldable pub valueAt : State → ℕ → ℕ
   valueAt s e = pick (ltb 0 e && leb e (size (R .trace))) (tookValue (s .got) e (kind (R .trace) e)) 0
 
-  -- The gates are those of the run. Only its own processes are told of: no gate of another is asked, since its pointers are 0.
+  -- The gates are those of the run. Only its own processes are told of: no gate of another is asked, since its pointers
+  -- are 0.
   pub record Gated (g : List ℕ) : Type 0 where
     pub gates : (z : ℕ) → z < R .trace .procs → getD g z 0 ≡ gate R z
     pub places : (z : ℕ) → z < R .trace .procs → getD g (64 + z) 0 ≡ R .restart z

@@ -1,4 +1,5 @@
--- Sizes and ranges of the words that the replay reads and writes, which index safety needs, and what the word of the least phase is.
+-- Sizes and ranges of the words that the replay reads and writes, which index safety needs, and what the word of the
+-- least phase is.
 use Prim.Native.Nat.{ℕ, _≤_}
 use mathlib.Core.Path.{_≡_}
 use mathlib.Core.List.{List}
@@ -10,7 +11,8 @@ use Rattle.machine.specs.Words.{noPhase, lowW, lowOf, Bounded, Small}
 abbrev pub Readable : List ℕ → List ℕ → List ℕ → Type 0
 Readable full gates area = (length full ≡ areaWords) × (128 ≤ length gates) × (length area ≡ areaWords) × Bounded area
 
--- the word of the least phase is the least of the orphans not sent again (a word of 32 bits is at most noPhase; here it may be any number)
+-- the word of the least phase is the least of the orphans not sent again (a word of 32 bits is at most noPhase; here it
+-- may be any number)
 unfoldable pub LowIs : List ℕ → List ℕ → Type 0
 LowIs full area = lowW area ≤ noPhase → lowW area ≡ lowOf full area (getD full 0 0)
 

@@ -1,6 +1,7 @@
--- What the replay does with words: definitions only. `full` is the full table (crate protocol), `links`, `gates` and the run area are described here.
--- Links of event e: word 4 e the next event of its process; 4 e + 1 the next send whose message goes through its channel; 4 e + 2 the next orphan's
--- send of its process. Gates of process z: word z its gate, word 64 + z the event that it restarts after. Every "next" is an event, 0 where there is none.
+-- What the replay does with words: definitions only. `full` is the full table (crate protocol), `links`, `gates` and
+-- the run area are described here. Links of event e: word 4 e the next event of its process; 4 e + 1 the next send
+-- whose message goes through its channel; 4 e + 2 the next orphan's send of its process. Gates of process z: word z its
+-- gate, word 64 + z the event that it restarts after. Every "next" is an event, 0 where there is none.
 use mathlib.Core.Bool.{Bool, true, false, _&&_, _||_, not}
 use mathlib.Core.List.{List}
 use Prim.Native.Nat.{ℕ, zero, suc, _+_, _-_, _*_, _/_, _%_, _≤_, _<_}
@@ -12,7 +13,8 @@ use Rattle.theory.specs.Lists.{pick}
 use Rattle.theory.specs.Events.{Kind, send, recv, other}
 use Rattle.theory.specs.Order.{run}
 
--- The run area: word e the number of the message that receive e took, word takenBase + e its value; then working words, zero again at the end.
+-- The run area: word e the number of the message that receive e took, word takenBase + e its value; then working words,
+-- zero again at the end.
 abbrev pub takenBase : ℕ
 takenBase = 2049
 
@@ -55,8 +57,8 @@ numberW t e = getD t (numberBase + e) 0
 unfoldable pub kindOf : ℕ → ℕ → Kind
 kindOf k p = pick (eqb k 1) (send p) (pick (eqb k 2) (recv p) other)
 
--- of the area: the process's next event, its next unsent orphan; the channel's next message to take, to put in; the least
--- phase of an unsent orphan
+-- of the area: the process's next event, its next unsent orphan; the channel's next message to take, to put in; the
+-- least phase of an unsent orphan
 abbrev pub curW : List ℕ → ℕ → ℕ
 curW a z = getD a (currentBase + z) 0
 

@@ -1,7 +1,7 @@
-// The state of a replay in words, and which choices are allowed in it. Every message is its send event, every queue the stretch between two
-// pointers into events, so a test costs the same however long the run is. Tests write nothing; what a choice does is in crate moves.
-// specs/Words says what tests and steps do with words, specs/Related how words stand for a state of the theory's machine; proofs/Choices
-// that the two agree choice by choice. Assumes nothing.
+// The state of a replay in words, and which choices are allowed in it. Every message is its send event, every queue the
+// stretch between two pointers into events, so a test costs the same however long the run is. Tests write nothing; what
+// a choice does is in crate moves. specs/Words says what tests and steps do with words, specs/Related how words stand
+// for a state of the theory's machine; proofs/Choices that the two agree choice by choice. Assumes nothing.
 ghost use mathlib.Core.Path.{_≡_};
 ghost use Prim.Native.Nat.{_≤_, _<_};
 ghost use lib.ListN.{length, getD};
@@ -11,9 +11,9 @@ ghost use Rattle.machine.specs.Shapes.{Readable};
 use columns::PHASE_BASE;
 use trace::EVENT_BASE;
 
-// Words of the run area. Word e is the number of the message that receive e took, word TAKEN + e its value; the working words come
-// after: of each process its next event and the send of its next orphan, of each channel the send of its next message to take and of
-// its next message to put in, and the least phase of an orphan that is not sent again.
+// Words of the run area. Word e is the number of the message that receive e took, word TAKEN + e its value; the working
+// words come after: of each process its next event and the send of its next orphan, of each channel the send of its
+// next message to take and of its next message to put in, and the least phase of an orphan that is not sent again.
 pub const TAKEN: usize = 2049;
 
 pub const CURRENT: usize = 6147;
@@ -32,7 +32,8 @@ pub const NO_PHASE: u32 = 4294967295;
 // Words of the gates: word z is the gate of process z, word RESTART + z the event that it restarts after.
 pub const RESTART: usize = 64;
 
-// Choices: below HANDS a process, then for each channel that its oldest kept message is handed over; CHOICES and above are none.
+// Choices: below HANDS a process, then for each channel that its oldest kept message is handed over; CHOICES and above
+// are none.
 pub const HANDS: usize = 64;
 
 const CHOICES: usize = 4160;
@@ -46,7 +47,8 @@ pub fn pointer(area: &[u32], k: usize) -> usize
     area[k] as usize
 }
 
-// Is no kept message left on a channel whose next message to put in is sent by event m, and whose sender restarts after event x.
+// Is no kept message left on a channel whose next message to put in is sent by event m, and whose sender restarts after
+// event x.
 fn send_ok(x: u32, m: usize) -> bool
     ensures { λ r. ⌜ r ≡ sendOk x m ⌝ }
 {
@@ -56,7 +58,8 @@ fn send_ok(x: u32, m: usize) -> bool
     (x as usize) < m
 }
 
-// May process z do event e: a send waits for the kept messages of its channel, a receive needs a message in its channel.
+// May process z do event e: a send waits for the kept messages of its channel, a receive needs a message in its
+// channel.
 fn event_ok(full: &[u32], gates: &[u32], area: &[u32], z: usize, e: usize) -> bool
     requires { ⌜ (z < 64) × (e < 2049) × Readable (now full) (now gates) (now area) ⌝ }
     ensures { λ r. ⌜ r ≡ eventOk (now (full .entry)) (now (gates .entry)) (now (area .entry)) z e ⌝ }
@@ -142,7 +145,8 @@ pub fn lower(full: &[u32], o: usize, low: u32) -> u32
     lesser(full[PHASE_BASE + o], low)
 }
 
-// The least phase of an orphan that is not sent again: of each process the next one is looked at, since its phases never fall.
+// The least phase of an orphan that is not sent again: of each process the next one is looked at, since its phases
+// never fall.
 pub fn lowest_phase(full: &[u32], area: &[u32], procs: usize) -> u32
     requires { ⌜ (procs ≤ 64) × (length (now full) ≡ areaWords) × (length (now area) ≡ areaWords) × Bounded (now area) ⌝ }
     ensures { λ r. ⌜ r ≡ lowOf (now (full .entry)) (now (area .entry)) procs ⌝ }

@@ -1,5 +1,5 @@
-// One choice carried out in words: a step for each, that tests nothing (the tests are in crate machine, whose specs/Words says what each step
-// does). Assumes nothing.
+// One choice carried out in words: a step for each, that tests nothing (the tests are in crate machine, whose
+// specs/Words says what each step does). Assumes nothing.
 ghost use mathlib.Core.Path.{_≡_};
 ghost use Prim.Native.Nat.{_≤_, _<_};
 ghost use lib.ListN.{length};
@@ -18,8 +18,8 @@ use machine::TAKEN;
 use trace::EVENT_BASE;
 use trace::VALUE_BASE;
 
-// The least phase of an orphan that is not sent again, where none is below the one given: an orphan of that phase is looked for from one
-// process on, before all are looked at.
+// The least phase of an orphan that is not sent again, where none is below the one given: an orphan of that phase is
+// looked for from one process on, before all are looked at.
 fn lowest_phase_from(full: &[u32], area: &[u32], from: usize, procs: usize, least: u32) -> u32
     requires { ⌜ (procs ≤ 64) × (length (now full) ≡ areaWords) × (length (now area) ≡ areaWords) × Bounded (now area) × (least ≤ lowOf (now full) (now area) procs) ⌝ }
     ensures { λ r. ⌜ r ≡ lowOf (now (full .entry)) (now (area .entry)) procs ⌝ }
@@ -61,8 +61,9 @@ fn take_out(full: &[u32], links: &[u16], area: &mut [u32], c: usize, e: usize)
     area[TAKEN + e] = full[VALUE_BASE + m];
 }
 
-// The send e of process z is an orphan's: its message is dropped, and counts as sent again. No orphan has a phase below the least so far,
-// except perhaps the next of process z. Mostly that one has the least again, or one of a later process, since in the lowest order those wait.
+// The send e of process z is an orphan's: its message is dropped, and counts as sent again. No orphan has a phase below
+// the least so far, except perhaps the next of process z. Mostly that one has the least again, or one of a later
+// process, since in the lowest order those wait.
 fn drop_orphan(full: &[u32], links: &[u16], area: &mut [u32], z: usize, e: usize)
     requires { ⌜ (z < 64) × (e < 2049) × Movable (now full) (now links) (now area) ⌝ }
     ensures { λ _. ⌜ now (area .exit) ≡ dropW (now (full .entry)) (now (links .entry)) (now (area .entry)) z e ⌝ }

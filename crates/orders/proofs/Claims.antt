@@ -1,5 +1,6 @@
--- What the words of a replay promise to the code above: the full table, links and gates of a trace begin the replay of its recorded run; every
--- choice by words is the machine's; the record that is left tells the machine's record. Each claim is proved in the file that its law comes from.
+-- What the words of a replay promise to the code above: the full table, links and gates of a trace begin the replay of
+-- its recorded run; every choice by words is the machine's; the record that is left tells the machine's record. Each
+-- claim is proved in the file that its law comes from.
 use mathlib.Core.Path.{_≡_}
 use mathlib.Core.Logic.{_↔_}
 use mathlib.Core.Bool.{true, false}
@@ -19,8 +20,8 @@ use Rattle.orders.proofs.Orders.{live-start, live-bad, live-next, live-
 use Rattle.links.proofs.Columns.{few, base}
 use Rattle.orders.proofs.Records.{order-record, complete-record}
 
--- Orders, from what a replay begins with: `Live` holds before the first choice, each allowed choice keeps it, and the order is refused at the first
--- that is not allowed.
+-- Orders, from what a replay begins with: `Live` holds before the first choice, each allowed choice keeps it, and the
+-- order is refused at the first that is not allowed.
 module _ (R : Run) (full links gates first : List ℕ) (S : Started R full links gates first) where
   pub begins : (order : List ℕ) → Live R first 0 order (run R order)
   begins order = live-start R (S .laws) full links gates (S .cols) first order (S .rel)
@@ -49,7 +50,8 @@ module _ (R : Run) (full links gates first : List ℕ) (S : Started R full links
         → ((k : ℕ) → currentBase ≤ k → k ≤ lowPlace → getD b k 0 ≡ 0) → b ≡ wordsFrom (recordAt R s) 0 16384
     record-words b = record-left R (S .laws) full links gates (S .cols) area b s r
 
-  -- The words of the record are those of the run without failure exactly if the record is; after a complete order exactly if no message is lost.
+  -- The words of the record are those of the run without failure exactly if the record is; after a complete order
+  -- exactly if no message is lost.
   module _ (order : List ℕ) (s : State) (h : run R order ≡ carriedOut s) where
     pub same-words : (wordsFrom (recordAt R s) 0 16384 ≡ wordsFrom (faultlessAt (R .trace)) 0 16384) ↔ SameRecord R s
     same-words = order-record R (S .laws) (S .cols .base .few) order s h

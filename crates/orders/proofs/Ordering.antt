@@ -1,4 +1,5 @@
--- An order carried out by words: one law for each way out of the functions that do it, for every run that the words stand for.
+-- An order carried out by words: one law for each way out of the functions that do it, for every run that the words
+-- stand for.
 use mathlib.Core.Path.{_≡_, refl, sym, _∙_, ap, subst}
 use mathlib.Core.Bool.{Bool, true, false}
 use mathlib.Core.List.{List}

@@ -1,5 +1,5 @@
--- A whole order by words: what is still to do from a place on is what there was to do from the start (`Live`); which choices are left; and what
--- the run area holds at the end (`record-left`). From Choices.
+-- A whole order by words: what is still to do from a place on is what there was to do from the start (`Live`); which
+-- choices are left; and what the run area holds at the end (`record-left`). From Choices.
 use mathlib.Core.Path.{_≡_, refl, sym, _∙_, ap}
 use mathlib.Core.Bool.{Bool, true, false, _&&_, not}
 use mathlib.Core.List.{List, [], _∷_}

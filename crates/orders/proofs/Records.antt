@@ -1,5 +1,6 @@
--- The words of a record tell the record: they are those of the run without failure exactly if the record of every channel is. From the invariants
--- of the theory: a state has received at most as many messages as the trace, so that numbers that are all there are all that there are.
+-- The words of a record tell the record: they are those of the run without failure exactly if the record of every
+-- channel is. From the invariants of the theory: a state has received at most as many messages as the trace, so that
+-- numbers that are all there are all that there are.
 use mathlib.Core.Path.{_≡_, refl, sym, _∙_, ap}
 use mathlib.Core.Logic.{_↔_}
 use mathlib.Core.Bool.{true, false, _&&_}
@@ -131,7 +132,8 @@ module _ (R : Run) (L : Laws R) (s : State) where
         let same : length g ≡ length (iv 0 m) = omega (arith, length-iv 0 m) in
         ext-getD 0 g (iv 0 m) same (λ j l. told-slot p q j (omega arith) ∙ sym (getD-iv 0 m j (omega arith) ∙ omega arith))
 
-  -- the words of the record are those of the run without failure exactly if the record is the record of the run without failure
+  -- the words of the record are those of the run without failure exactly if the record is the record of the run without
+  -- failure
   pub record-iff : n ≤ 2048 → Inv R s → (wordsFrom (recordAt R s) 0 16384 ≡ wordsFrom (faultlessAt t) 0 16384) ↔ SameRecord R s
   record-iff few i = (
     λ h. all-same (told-all few i (λ k l. words-at (recordAt R s) (faultlessAt t) 16384 h k (omega arith))),

@@ -11,7 +11,8 @@ use Rattle.orders.specs.Record.{recordAt}
 use Rattle.orders.specs.declared.Replayed.{Replayed}
 
 module _ (R : Run) where
-  -- 0, how many choices were carried out, and whether none is left; or 11 and the place of the first choice that is not allowed, from 1
+  -- 0, how many choices were carried out, and whether none is left; or 11 and the place of the first choice that is not
+  -- allowed, from 1
   unfoldable pub answerOf : Outcome → ℕ → Replayed
   answerOf (carriedOut s) n = record { number = 0; place = 0; steps = n; complete = complete R s }
   answerOf (refused i) n = record { number = orderFault (refused i); place = i; steps = 0; complete = false }

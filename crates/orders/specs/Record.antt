@@ -1,5 +1,5 @@
--- What a replay leaves in the run area: the record. Word e the number, word takenBase + e the value of the message that receive e took; the
--- rest 0. Definitions only.
+-- What a replay leaves in the run area: the record. Word e the number, word takenBase + e the value of the message that
+-- receive e took; the rest 0. Definitions only.
 use mathlib.Core.Path.{_≡_}
 use mathlib.Core.List.{List}
 use Prim.Native.Nat.{ℕ, suc, _-_}

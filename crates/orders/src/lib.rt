@@ -1,5 +1,5 @@
-// An order of choices carried out in words: its answer, and the delivery record that it leaves. specs/Answer says it by the theory's machine.
-// proofs/Claims is to be read first. Assumes nothing.
+// An order of choices carried out in words: its answer, and the delivery record that it leaves. specs/Answer says it by
+// the theory's machine. proofs/Claims is to be read first. Assumes nothing.
 ghost use mathlib.Core.Path.{_≡_};
 ghost use Prim.Native.Nat.{ℕ, _≤_, _<_};
 ghost use lib.ListN.{length, getD};
@@ -17,8 +17,8 @@ use links::LINK_WORDS;
 use machine::CURRENT;
 use machine::LOW;
 
-// What a replay answers: 0, or 11 with the place of the first choice that is not allowed, from 1; how many choices were carried out,
-// and whether no choice is left.
+// What a replay answers: 0, or 11 with the place of the first choice that is not allowed, from 1; how many choices were
+// carried out, and whether no choice is left.
 pub struct Replayed {
     pub number: u32,
     pub place: usize,
@@ -63,7 +63,8 @@ fn clear(area: &mut [u32], from: usize, to: usize)
     }
 }
 
-// The answer to an order that was carried out; the area keeps the record, its working words are 0 again. Those after them were 0 all along.
+// The answer to an order that was carried out; the area keeps the record, its working words are 0 again. Those after
+// them were 0 all along.
 pub fn finish(area: &mut [u32], steps: usize, done: bool) -> Replayed
     requires { ⌜ length (now area) ≡ areaWords ⌝ }
     ensures answer { λ r. ⌜ r ≡ (record { number = 0; place = 0; steps = steps; complete = done }) ⌝ }

@@ -1,10 +1,11 @@
-// The lines that the program prints, each from its numbers into a lent buffer, byte for byte by specs/Lines. Assumes nothing.
+// The lines that the program prints, each from its numbers into a lent buffer, byte for byte by specs/Lines. Assumes
+// nothing.
 ghost use Rattle.writer.specs.Buffer.{Puts};
 ghost use Rattle.printing.specs.Lines.{processLine, totalLine, refusalLine};
 ghost use Rattle.printing.specs.Rows.{messageKey, wordsRow};
 
-// The line of a process. Each line has a function with its own keys, and not one that is given them, so that the compiler knows their
-// lengths.
+// The line of a process. Each line has a function with its own keys, and not one that is given them, so that the
+// compiler knows their lengths.
 pub fn put_process(out: &mut [u8], at: usize, z: u64, epoch: u32, number: u32, phase: u32) -> usize
     ensures { λ r. ⌜ Puts (processLine z epoch number phase) (now (out .entry)) at (now (out .exit)) r ⌝ }
 {

@@ -1,5 +1,5 @@
--- What the protocol part promises: the words of the full table (specs/Columns, by the contract of `tabulate`), of which recovery relies on
--- the columns only, and the laws of a recorded run.
+-- What the protocol part promises: the words of the full table (specs/Columns, by the contract of `tabulate`), of which
+-- recovery relies on the columns only, and the laws of a recorded run.
 use Prim.Native.Nat.{ℕ, _≤_}
 use mathlib.Core.Path.{_≡_}
 use mathlib.Core.Bool.{true}
@@ -16,8 +16,8 @@ use Rattle.columns.specs.Columns.{Columns, Others}
 use Rattle.columns.proofs.Others.{same-table}
 use Rattle.protocol.proofs.Passes.{held-formed, held-valid}
 
--- "Recovery relies on what the protocol part promises and never on the text." The trace that an area holds is well formed, and with any
--- failure, line and rule of logging it is a recorded run with the laws.
+-- "Recovery relies on what the protocol part promises and never on the text." The trace that an area holds is well
+-- formed, and with any failure, line and rule of logging it is a recorded run with the laws.
 pub well-formed : (a : List ℕ) → holdsTrace a ≡ true → wellFormed (held a) ≡ true
 well-formed = held-formed
 

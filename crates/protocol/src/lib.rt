@@ -1,5 +1,6 @@
-// The full table of the trace that a table area holds, filled in one pass over the events (crate columns says what its words mean). proofs/Claims
-// says that no word is left free, and that the laws of a recorded run follow. No public function has a `requires`. Assumes nothing.
+// The full table of the trace that a table area holds, filled in one pass over the events (crate columns says what its
+// words mean). proofs/Claims says that no word is left free, and that the laws of a recorded run follow. No public
+// function has a `requires`. Assumes nothing.
 ghost use mathlib.Core.Path.{_≡_};
 ghost use mathlib.Core.Bool.{true, false, _&&_};
 ghost use Prim.Native.Nat.{ℕ, _≤_, _<_};
@@ -61,8 +62,8 @@ fn fill(area: &[u32], full: &mut [u32], work: &mut [u16])
     }
 }
 
-// The full table of the trace that an area holds, in a lent area of exactly 16,384 words; false where the area holds no trace, or
-// the lent one has another size.
+// The full table of the trace that an area holds, in a lent area of exactly 16,384 words; false where the area holds no
+// trace, or the lent one has another size.
 pub fn tabulate(area: &[u32], full: &mut [u32]) -> bool
     ensures answer { λ r. ⌜ r ≡ (eqb (length (now (full .entry))) areaWords && holdsTrace (now (area .entry))) ⌝ }
     ensures columns { λ r. ⌜ (r ≡ true → Columns (held (now (area .entry))) (now (full .exit))) ⌝ }

@@ -1,4 +1,5 @@
--- What the reader promises of texts and traces, over its definitions alone: each claim under the sentence that it stands for.
+-- What the reader promises of texts and traces, over its definitions alone: each claim under the sentence that it
+-- stands for.
 use Prim.Native.Nat.{ℕ, _≤_}
 use mathlib.Core.Path.{_≡_, refl, sym, ap, _∙_}
 use mathlib.Core.Logic.{_↔_}
@@ -13,7 +14,8 @@ use Rattle.reader.specs.Failure.{refused, failing, failureOf}
 use Rattle.reader.specs.Verdict.{accepted, verdict}
 use Rattle.reader.proofs.Whole.{verdict-taken, render-taken, failing-taken, render-failing, refused-taken}
 
--- The canonical text theorem: a text is accepted as a trace exactly where the trace is well formed and the text is its rendering, byte for byte.
+-- The canonical text theorem: a text is accepted as a trace exactly where the trace is well formed and the text is its
+-- rendering, byte for byte.
 pub canonical : (text : List ℕ) (t : Trace) → (verdict text ≡ accepted t) ↔ ((wellFormed t ≡ true) × (text ≡ render t))
 canonical text t = (verdict-taken text t, λ h. ap verdict (h .1) ∙ render-taken t (h .0))
 
@@ -39,8 +41,9 @@ one-trace s t v w e =
 
 -- ---- The program's text, whose last line is a failure line
 
--- The canonical text theorem for the program: a text is accepted as a trace and a failure exactly where the trace is well formed, the failure's numbers
--- are no more than their keys can hold, and the text is the rendering of both, byte for byte.
+-- The canonical text theorem for the program: a text is accepted as a trace and a failure exactly where the trace is
+-- well formed, the failure's numbers are no more than their keys can hold, and the text is the rendering of both, byte
+-- for byte.
 pub canonical-failing : (text : List ℕ) (t : Trace) (step set : ℕ)
     → (failureOf text ≡ failing t step set) ↔ ((wellFormed t ≡ true) × (step ≤ most) × (set ≤ mostSet) × (text ≡ render t ++ renderFailure step set))
 canonical-failing text t step set = (failing-taken text t step set, λ h. ap failureOf (h .3) ∙ render-failing t step set (h .0) (h .1) (h .2))

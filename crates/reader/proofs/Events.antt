@@ -1,4 +1,5 @@
--- The lines after the first: what is read there is rendered events, all fit, and fit events rendered are read. From the laws of one line and of pieces.
+-- The lines after the first: what is read there is rendered events, all fit, and fit events rendered are read. From the
+-- laws of one line and of pieces.
 use Prim.Native.Nat.{ℕ, _+_, _<_, _≤_}
 use mathlib.Core.Path.{_≡_, refl, sym, ap, _∙_}
 use mathlib.Core.List.{List, [], _∷_, _++_, append-assoc, append-nil}
@@ -64,7 +65,8 @@ judge-told t l line.the-variants.Malformed s = λ z. omega arith
 abbrev pub Grown : Trace → List Event → Trace → Type 0
 Grown t es u = (u ≡ longer t es) × (allFit (t .procs) (t .events) es ≡ true) × (length (t .events) + length es ≤ 2048)
 
--- what the reading of lines after a trace t says: of a refusal its number, of a trace its events and their bytes, and of a failure line its own
+-- what the reading of lines after a trace t says: of a refusal its number, of a trace its events and their bytes, and
+-- of a failure line its own
 abbrev pub Heard : Trace → List (List ℕ) → Scan → Type 0
 Heard t ps (Scan.refused n k) = n ≡ 0 → ⊥
 Heard t ps (Scan.ended u k) = (es : List Event) × (joined ps ≡ renderEvents es) × Grown t es u

@@ -1,4 +1,5 @@
--- The text cut into pieces: joined again they are the text, and a rendered line is one piece. From the definition of `pieces`.
+-- The text cut into pieces: joined again they are the text, and a rendered line is one piece. From the definition of
+-- `pieces`.
 use Prim.Native.Nat.{ℕ, zero, suc, _+_, _/_, _%_}
 use mathlib.Core.Path.{_≡_, refl, sym, ap, ap₂, _∙_}
 use mathlib.Core.List.{List, [], _∷_, _++_}

@@ -1,4 +1,5 @@
--- The whole text: an accepted text is a well-formed trace rendered, and a well-formed trace rendered is accepted; also with a failure line. From the laws of its lines.
+-- The whole text: an accepted text is a well-formed trace rendered, and a well-formed trace rendered is accepted; also
+-- with a failure line. From the laws of its lines.
 use Prim.Native.Nat.{ℕ, _≤_}
 use mathlib.Core.Path.{_≡_, refl, sym, ap, subst, _∙_}
 use mathlib.Core.List.{List, [], _∷_, _++_, append-assoc, append-nil}
@@ -24,7 +25,8 @@ use Rattle.lines.proofs.OneLine.{Says, failureText, failure-text, line-says, pr
 use Rattle.reader.proofs.Pieces.{joined, first-piece, joined-pieces, line-piece, plain-procs, plain-failure}
 use Rattle.reader.proofs.Events.{Grown, Heard, lines-heard, events-read}
 
--- what reading says of the text: a refusal has a number, a trace is well formed, and the text is its rendering, up to a failure line that is rendered too
+-- what reading says of the text: a refusal has a number, a trace is well formed, and the text is its rendering, up to a
+-- failure line that is rendered too
 abbrev pub Taken : List ℕ → Scan → Type 0
 Taken text (Scan.refused n k) = n ≡ 0 → ⊥
 Taken text (Scan.ended t k) = (wellFormed t ≡ true) × (text ≡ render t)

@@ -1,4 +1,5 @@
--- What reading a text answers, and what it leaves in the table area (document 01, "Numbers given by whoever causes them").
+-- What reading a text answers, and what it leaves in the table area (document 01, "Numbers given by whoever causes
+-- them").
 use Prim.Native.Nat.{ℕ}
 use mathlib.Core.List.{List}
 use mathlib.Core.Bool.{Bool, true, false}

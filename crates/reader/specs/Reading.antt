@@ -1,5 +1,5 @@
--- What the reader's loop holds between two lines: the words it has stored, and how its outcome stands for a `Scan`; and what it makes of the
--- first line. No public contract cites these.
+-- What the reader's loop holds between two lines: the words it has stored, and how its outcome stands for a `Scan`; and
+-- what it makes of the first line. No public contract cites these.
 use Prim.Native.Nat.{ℕ, _+_, _<_, _≤_}
 use mathlib.Core.Path.{_≡_}
 use mathlib.Core.List.{List}

@@ -1,5 +1,5 @@
--- The reader's verdict on a text: line by line from the top, the first faulty line decides (document 01, "Numbers given by whoever
--- causes them": "for text line by line 1, 7, 2, 3, 4, 5, 6").
+-- The reader's verdict on a text: line by line from the top, the first faulty line decides (document 01, "Numbers given
+-- by whoever causes them": "for text line by line 1, 7, 2, 3, 4, 5, 6").
 use Prim.Native.Nat.{ℕ, _+_}
 use mathlib.Core.List.{List, [], _∷_, _++_}
 use mathlib.Core.Bool.{Bool, true, false}
@@ -24,7 +24,8 @@ abbrev pub grow : ℕ → List (List ℕ) → List (List ℕ)
 grow b [] = (b ∷ []) ∷ []
 grow b (l ∷ ls) = (b ∷ l) ∷ ls
 
--- The text cut at each LF: the bytes of each line, and last those that follow the last LF, which are none where every line ends with LF.
+-- The text cut at each LF: the bytes of each line, and last those that follow the last LF, which are none where every
+-- line ends with LF.
 unfoldable pub pieces : List ℕ → List (List ℕ)
 pieces [] = [] ∷ []
 pieces (b ∷ bs) = pickPieces (eqb b 10) ([] ∷ pieces bs) (grow b (pieces bs))
@@ -37,7 +38,8 @@ abbrev pub pickJudged : Bool → Judged → Judged → Judged
 pickJudged true a b = a
 pickJudged false a b = b
 
--- what is wrong with an event as the next of a trace, or 0: a 2,049th is 7, before its processes are looked at; then 3, 4, 5, 6
+-- what is wrong with an event as the next of a trace, or 0: a 2,049th is 7, before its processes are looked at; then 3,
+-- 4, 5, 6
 unfoldable pub faultHere : Trace → Event → ℕ
 faultHere t e = orElse (leb 2048 (length (t .events))) 7 (faultOf (t .procs) (t .events) e)
 
@@ -53,8 +55,8 @@ judge t (line.the-variants.Save at) = judgeEvent t (Save at)
 judge t (line.the-variants.Failure step set) = Fails step set
 judge t line.the-variants.Malformed = Unfit 1
 
--- What reading the lines gives: a refusal's number and place; the trace, and the line after its last; or the trace before a failure
--- line, that line's numbers and place, and what follows it.
+-- What reading the lines gives: a refusal's number and place; the trace, and the line after its last; or the trace
+-- before a failure line, that line's numbers and place, and what follows it.
 pub data Scan : Type 0 where
   refused : ℕ → ℕ → Scan
   ended : Trace → ℕ → Scan

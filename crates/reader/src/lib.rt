@@ -1,7 +1,7 @@
-// The reader of trace texts. `read` gives the verdict on a text, the refusal with its number and place or the trace, and leaves the trace's
-// words in the table area. The definitions are in specs/: Verdict (the verdict on a text), Render (the text of a trace) and Answer (answer and
-// area). proofs/Claims states that a text is accepted exactly if it is the text of a well-formed trace. No public function has a `requires`.
-// Assumes nothing.
+// The reader of trace texts. `read` gives the verdict on a text, the refusal with its number and place or the trace,
+// and leaves the trace's words in the table area. The definitions are in specs/: Verdict (the verdict on a text),
+// Render (the text of a trace) and Answer (answer and area). proofs/Claims states that a text is accepted exactly if it
+// is the text of a well-formed trace. No public function has a `requires`. Assumes nothing.
 ghost use mathlib.Core.Path.{_≡_};
 ghost use mathlib.Core.List.{List, []};
 ghost use Prim.Native.Nat.{_≤_, _<_};
@@ -26,8 +26,8 @@ pub enum Judged {
     Unfit(u32),
 }
 
-// Where reading the lines ends: a refusal's number and line; the line after the last; or a failure line, its step, its set, its
-// own line and the place after it.
+// Where reading the lines ends: a refusal's number and line; the line after the last; or a failure line, its step, its
+// set, its own line and the place after it.
 pub enum Scanned {
     Refused(u32, usize),
     Ended(usize),
@@ -48,7 +48,8 @@ pub struct FailureAnswer {
     pub set: u64,
 }
 
-// What the first line of a text says, where only a process count is due. (So `read_line` has one caller, whose loop it can become part of.)
+// What the first line of a text says, where only a process count is due. (So `read_line` has one caller, whose loop it
+// can become part of.)
 fn first_line(line: &[u8]) -> Line
     ensures { λ r. ⌜ r ≡ countOnly (lineOf (now (line .entry))) ⌝ }
 {
@@ -260,8 +261,8 @@ fn read_failure_in(text: &[u8], table: &mut [u32]) -> FailureAnswer
     }
 }
 
-// Reads a trace text whose last line is a failure line into the table area: the answer with the failure's numbers, and the area's
-// first 16,384 words, by the lines of the text.
+// Reads a trace text whose last line is a failure line into the table area: the answer with the failure's numbers, and
+// the area's first 16,384 words, by the lines of the text.
 pub fn read_failure(text: &[u8], table: &mut [u32]) -> FailureAnswer
     ensures answer { λ r. ⌜ r ≡ failureAnswer (now (text .entry)) (now (table .entry)) ⌝ }
     ensures words { λ _. ⌜ now (table .exit) ≡ failureArea (now (text .entry)) (now (table .entry)) ⌝ }

@@ -1,4 +1,5 @@
--- Each way out of `list_from` and `messages`: the counts and the list by the definitions; and the run areas that they find cleared.
+-- Each way out of `list_from` and `messages`: the counts and the list by the definitions; and the run areas that they
+-- find cleared.
 use Prim.Native.Nat.{ℕ, _+_, _-_, _<_, _≤_}
 use mathlib.Core.Path.{_≡_, sym, ap, _∙_}
 use mathlib.Core.List.{List, _++_}

@@ -1,5 +1,6 @@
--- What the public functions of recovery answer and leave, for every input (document 01, "Numbers given by whoever causes them": the order is
--- 12, 13, 8, 9, 10, 11; "In a refused answer every other number is 0 and every yes or no is no"; "Other refusals change nothing").
+-- What the public functions of recovery answer and leave, for every input (document 01, "Numbers given by whoever
+-- causes them": the order is 12, 13, 8, 9, 10, 11; "In a refused answer every other number is 0 and every yes or no is
+-- no"; "Other refusals change nothing").
 use Prim.Native.Nat.{ℕ}
 use mathlib.Core.Path.{_≡_}
 use mathlib.Core.Logic.{_↔_}
@@ -25,7 +26,8 @@ use Rattle.orders.specs.Answer.{answerOf, wordsOf}
 abbrev pub runOf : List ℕ → ℕ → Line → Run
 runOf a step l = recorded (held a) past step (lineIn l)
 
--- what is wrong with the areas (`room` is how many words the run area has), the failure and the line: 12, 13, 8, 9, 10, or 0
+-- what is wrong with the areas (`room` is how many words the run area has), the failure and the line: 12, 13, 8, 9, 10,
+-- or 0
 unfoldable pub faultOf : List ℕ → ℕ → ℕ → ℕ → Line → ℕ
 faultOf a room step set l =
     orElse (ltb (length a) areaWords) 12
@@ -36,7 +38,8 @@ faultOf a room step set l =
 abbrev pub refusal : ℕ → Replayed
 refusal n = record { number = n; place = 0; steps = 0; complete = false }
 
--- an order carried out from a line, by the theory's machine: answer and run area. After 11 its first 16,384 words are zero.
+-- an order carried out from a line, by the theory's machine: answer and run area. After 11 its first 16,384 words are
+-- zero.
 unfoldable pub replayAnswer : List ℕ → List ℕ → ℕ → ℕ → Line → List ℕ → Replayed
 replayAnswer a area step set l order =
     pick (eqb (faultOf a (length area) step set l) 0) (answerOf (runOf a step l) (run (runOf a step l) order) (length order)) (refusal (faultOf a (length area) step set l))
@@ -45,12 +48,14 @@ unfoldable pub replayArea : List ℕ → List ℕ → ℕ → ℕ → Line → L
 replayArea a area step set l order =
     pick (eqb (faultOf a (length area) step set l) 0) (wordsOf (runOf a step l) (run (runOf a step l) order) ++ drop areaWords area) area
 
--- Demand 3: after a complete order the record in the run area is that of the run without failure exactly if the line loses no message.
+-- Demand 3: after a complete order the record in the run area is that of the run without failure exactly if the line
+-- loses no message.
 abbrev pub Equal : List ℕ → ℕ → Line → Replayed → List ℕ → Type 0
 Equal a step l r w =
     r .number ≡ 0 → r .complete ≡ true → (take areaWords w ≡ wordsFrom (faultlessAt (held a)) 0 areaWords) ↔ LossFree (runOf a step l)
 
--- "An order is complete when no choice is allowed": the lowest order is never refused, gets there, and has as many steps as choices.
+-- "An order is complete when no choice is allowed": the lowest order is never refused, gets there, and has as many
+-- steps as choices.
 abbrev pub Completed : List ℕ → ℕ → ℕ → ℕ → Line → Replayed → Type 0
 Completed a room step set l r =
     faultOf a room step set l ≡ 0 → (r .number ≡ 0) × (r .complete ≡ true) × (r .steps ≡ steps (lowestOrder (runOf a step l)))

@@ -1,4 +1,5 @@
--- What `messages` answers and leaves: the classes of document 01, "The restart line", each counted and listed if and only if its definition holds.
+-- What `messages` answers and leaves: the classes of document 01, "The restart line", each counted and listed if and
+-- only if its definition holds.
 use Prim.Native.Nat.{ℕ}
 use mathlib.Core.List.{List, _++_}
 use lib.ListN.{length, drop}

@@ -1,4 +1,5 @@
--- What a call has once nothing is wrong with what it was given, and what it makes of it. No public contract cites these.
+-- What a call has once nothing is wrong with what it was given, and what it makes of it. No public contract cites
+-- these.
 use Prim.Native.Nat.{ℕ, _+_, _≤_}
 use mathlib.Core.Path.{_≡_}
 use mathlib.Core.Bool.{true}

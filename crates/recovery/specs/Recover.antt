@@ -1,4 +1,5 @@
--- What `recover` answers: the restart, and with its line what `lowest` and `messages` answer (Answers, Messages) with the table lent as the run area.
+-- What `recover` answers: the restart, and with its line what `lowest` and `messages` answer (Answers, Messages) with
+-- the table lent as the run area.
 use Prim.Native.Nat.{ℕ, _+_, _≤_}
 use mathlib.Core.Path.{_≡_}
 use mathlib.Core.List.{List}
@@ -13,7 +14,8 @@ use Rattle.restart.specs.Restart.{restartRefusal, Restarts}
 abbrev pub recoverRefusal : ℕ → Recovered
 recoverRefusal n = record { restarted = restartRefusal n; replayed = refusal n; counted = messagesRefusal n }
 
--- of an answer that is no refusal: demand 2; the engine's line is not refused; the lowest order is carried out to its end
+-- of an answer that is no refusal: demand 2; the engine's line is not refused; the lowest order is carried out to its
+-- end
 pub record Succeeds (a : List ℕ) (step set : ℕ) (r : Recovered) : Type 0 where
   pub restarts : Restarts (held a) step set (r .restarted)
   pub taken : faultOf a (length a) step set (r .restarted .line) ≡ 0

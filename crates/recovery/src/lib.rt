@@ -1,6 +1,6 @@
-// Recovery: a table area, a failure, a recovery line and an order of choices, answered and carried out. specs/Answers, Messages and Recover say
-// what each function answers and leaves, for every input; no public function has a `requires`. (`restart` is a crate of its own.) Assumes
-// nothing.
+// Recovery: a table area, a failure, a recovery line and an order of choices, answered and carried out. specs/Answers,
+// Messages and Recover say what each function answers and leaves, for every input; no public function has a `requires`.
+// (`restart` is a crate of its own.) Assumes nothing.
 ghost use mathlib.Core.Path.{_≡_};
 ghost use Prim.Native.Nat.{ℕ, _+_, _≤_};
 ghost use lib.ListN.{length, replicate};
@@ -59,7 +59,8 @@ fn prepare(
     fault
 }
 
-// Carries out an order of choices from a line: the answer, and in the run area the delivery record of exactly this order.
+// Carries out an order of choices from a line: the answer, and in the run area the delivery record of exactly this
+// order.
 pub fn replay(
     table: &[u32],
     step: u64,
@@ -121,7 +122,8 @@ fn no_messages(number: u32) -> Counted
 // Where the restarts of the processes begin in the gates.
 const RESTARTS: usize = 64;
 
-// The orphans, kept and lost messages listed in a run area of zeros, from the full table and the gates of a line: how many there are.
+// The orphans, kept and lost messages listed in a run area of zeros, from the full table and the gates of a line: how
+// many there are.
 fn list_from(full: &[u32], gates: &[u32], cut: usize, area: &mut [u32]) -> Counted
     requires { ⌜ (now area ≡ replicate areaWords 0) × (length (now gates) ≡ 192) × ((t : Trace) × (line : (ℕ → ℕ)) × Given t line cut (now full) (now gates)) ⌝ }
     ensures answer { λ r. ⌜ ((t : Trace) (line : ℕ → ℕ) → Given t line cut (now (full .entry)) (now (gates .entry)) → r ≡ countsOf (recorded t past cut line)) ⌝ }
@@ -174,7 +176,8 @@ fn not_recovered(number: u32) -> Recovered
 // How many words of the run area a replay's record takes up; those after it are 0.
 const RECORD_WORDS: usize = 4098;
 
-// The answers for a failure that is not refused, from the full table. The list of the messages takes the place of the replay's record.
+// The answers for a failure that is not refused, from the full table. The list of the messages takes the place of the
+// replay's record.
 fn recover_from(full: &[u32], cut: usize, set: u64, area: &mut [u32]) -> Recovered
     requires { ⌜ (length (now area) ≡ areaWords) × ((t : Trace) × Tabled t (now full) × (cut ≤ size t)) ⌝ }
     ensures { λ r. ⌜ ((t : Trace) → Tabled t (now (full .entry)) → cut ≤ size t → Recovering t cut set r (now (area .exit))) ⌝ }
@@ -192,8 +195,8 @@ fn recover_from(full: &[u32], cut: usize, set: u64, area: &mut [u32]) -> Recover
     }
 }
 
-// All that a failure asks for, from one table: the restart, the replay of its line in the lowest order, and the list of the line's messages,
-// which takes the place of the table. A refusal leaves the table as it was.
+// All that a failure asks for, from one table: the restart, the replay of its line in the lowest order, and the list of
+// the line's messages, which takes the place of the table. A refusal leaves the table as it was.
 pub fn recover(table: &mut [u32], step: u64, set: u64) -> Recovered
     ensures restart { λ r. ⌜ r .restarted ≡ restartAnswer (now (table .entry)) step set ⌝ }
     ensures replay { λ r. ⌜ r .replayed ≡ replayAnswer (now (table .entry)) (now (table .entry)) step set (r .restarted .line) (lowestOrder (runOf (now (table .entry)) step (r .restarted .line))) ⌝ }

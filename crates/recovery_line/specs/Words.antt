@@ -7,7 +7,8 @@ use Rattle.words.specs.Area.{areaWords}
 use Rattle.trace.specs.Table.{eventBase}
 use Rattle.columns.specs.Columns.{epochBase, phaseBase, matchBase}
 
--- of event e: its process, its peer, its kind (1 send, 2 receive, 3 checkpoint), its epoch, its phase, and the event it is matched with
+-- of event e: its process, its peer, its kind (1 send, 2 receive, 3 checkpoint), its epoch, its phase, and the event it
+-- is matched with
 abbrev pub atW : List ℕ → ℕ → ℕ
 atW t e = getD t (eventBase + e) 0 % 64
 

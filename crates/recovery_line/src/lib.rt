@@ -1,6 +1,6 @@
-// A recovery line of a trace (document 01 calls it a restart line): the epoch that each process restarts in, or that it stays; and the set of
-// those that go back. specs/Given says how a line stands in words, and when a table is the full one of a trace (`Tabled`); the crates above,
-// lowering, greatest, gates and faults, ask for that. Assumes nothing.
+// A recovery line of a trace (document 01 calls it a restart line): the epoch that each process restarts in, or that it
+// stays; and the set of those that go back. specs/Given says how a line stands in words, and when a table is the full
+// one of a trace (`Tabled`); the crates above, lowering, greatest, gates and faults, ask for that. Assumes nothing.
 ghost use mathlib.Core.Path.{_≡_};
 ghost use mathlib.Core.Bool.{_&&_, not};
 ghost use lib.Count.{ones};

@@ -1,4 +1,5 @@
--- From what recovery answers to the report's definition: the line as a list, the recorded run, the lines of the processes.
+-- From what recovery answers to the report's definition: the line as a list, the recorded run, the lines of the
+-- processes.
 use Prim.Native.Nat.{ℕ, zero, suc, _+_, _<_, _≤_}
 use mathlib.Core.Path.{_≡_, refl, sym, ap, _∙_, fun-ext}
 use mathlib.Core.Bool.{not}

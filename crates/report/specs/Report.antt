@@ -1,5 +1,5 @@
--- What the program prints for a text that ends with a failure line (document 01, "Runs to check"): the engine's line with all that is said of
--- it, or a refusal's number and place.
+-- What the program prints for a text that ends with a failure line (document 01, "Runs to check"): the engine's line
+-- with all that is said of it, or a refusal's number and place.
 use mathlib.Core.List.{List, [], _∷_, _++_}
 use mathlib.Core.Bool.{not}
 use Prim.Native.Nat.{ℕ, zero, suc}
@@ -73,7 +73,8 @@ tabled f n = gather (λ z. f z ∷ []) n
 unfoldable pub engineLine : Failure → List ℕ
 engineLine f = tabled (greatestLine (f .trace) past (f .step) (reached (f .trace) past (f .step)) (inSet (f .failed))) (f .trace .procs)
 
--- "back is its size", that of the set of processes that go back; "Steps are those of the order that always picks the lowest allowed choice."
+-- "back is its size", that of the set of processes that go back; "Steps are those of the order that always picks the
+-- lowest allowed choice."
 unfoldable pub recoveryBy : Failure → List ℕ → Recovery
 recoveryBy f l =
     let R = runOf f l in

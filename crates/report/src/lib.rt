@@ -1,5 +1,5 @@
-// The report on a text that ends with a failure line: read, recovered and printed into a lent buffer, byte for byte by specs/Report. Assumes
-// nothing.
+// The report on a text that ends with a failure line: read, recovered and printed into a lent buffer, byte for byte by
+// specs/Report. Assumes nothing.
 ghost use mathlib.Core.Path.{_≡_};
 ghost use Prim.Native.Nat.{_+_, _≤_};
 ghost use lib.ListN.{length};
@@ -16,7 +16,8 @@ use words::AREA_WORDS;
 // A buffer of so many bytes holds every report.
 pub const REPORT_BYTES: usize = 262144;
 
-// What the program takes: "at most 65,536 bytes"; and what it reads, a byte more, so that a longer input is seen to be longer.
+// What the program takes: "at most 65,536 bytes"; and what it reads, a byte more, so that a longer input is seen to be
+// longer.
 const TEXT_MOST: usize = 65536;
 
 pub const READ_BYTES: usize = TEXT_MOST + 1;
@@ -46,7 +47,8 @@ const ROW_NUMBER_BASE: usize = 2065;
 
 const ROW_PHASE_BASE: usize = 4114;
 
-// A line for each of `count` messages, all kept or all orphans, of the list that `recovery::recover` left, after the first `before` of them.
+// A line for each of `count` messages, all kept or all orphans, of the list that `recovery::recover` left, after the
+// first `before` of them.
 fn put_messages(
     out: &mut [u8],
     at: usize,

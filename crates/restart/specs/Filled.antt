@@ -1,4 +1,5 @@
--- What a call has once nothing is wrong with the areas and the failure that it was given. No public contract cites these.
+-- What a call has once nothing is wrong with the areas and the failure that it was given. No public contract cites
+-- these.
 use Prim.Native.Nat.{ℕ, _≤_}
 use mathlib.Core.Path.{_≡_}
 use mathlib.Core.Bool.{true}

@@ -22,7 +22,8 @@ use Rattle.restart.specs.declared.Restarted.{Restarted}
 unfoldable pub failureFaultOf : List ℕ → ℕ → ℕ → ℕ
 failureFaultOf a step set = orElse (ltb (length a) areaWords) 12 (orElse (not (holdsTrace a)) 13 (failureFault (held a) step set))
 
--- "The engine's line is the greatest without a lost message." "Places of a line past its N numbers are 0 when the engine gives it."
+-- "The engine's line is the greatest without a lost message." "Places of a line past its N numbers are 0 when the
+-- engine gives it."
 unfoldable pub engineLine : Trace → ℕ → ℕ → Line
 engineLine t step set = lineTo t (greatestLine t past step (reached t past step) (inSet set))
 
@@ -30,7 +31,8 @@ engineLine t step set = lineTo t (greatestLine t past step (reached t past step)
 abbrev pub ofEach : Trace → (ℕ → ℕ) → List ℕ
 ofEach t f = wordsFrom (each t f) 0 64
 
--- "Epoch is at the cut; phase is at the restart, or at the cut for 32." "The zones that go back form a set of the same kind, and back is its size."
+-- "Epoch is at the cut; phase is at the restart, or at the cut for 32." "The zones that go back form a set of the same
+-- kind, and back is its size."
 abbrev pub restartBy : Trace → ℕ → Line → Restarted
 restartBy t step l =
     record {
@@ -63,8 +65,9 @@ unfoldable pub restartAnswer : List ℕ → ℕ → ℕ → Restarted
 restartAnswer a step set =
     pick (eqb (failureFaultOf a step set) 0) (restartOf (held a) step set) (restartRefusal (failureFaultOf a step set))
 
--- Demand 2, of an answer that is no refusal: permitted, loss-free, at or above every permitted line without loss, for every process; "No zone
--- in it restarts in an epoch below the smallest current epoch of a failed zone"; the set of those that go back, and its size twice over.
+-- Demand 2, of an answer that is no refusal: permitted, loss-free, at or above every permitted line without loss, for
+-- every process; "No zone in it restarts in an epoch below the smallest current epoch of a failed zone"; the set of
+-- those that go back, and its size twice over.
 pub record Restarts (t : Trace) (step set : ℕ) (r : Restarted) : Type 0 where
   pub greatest : Greatest t past step (reached t past step) (inSet set) (lineIn (r .line))
   pub floor : (y : ℕ) → y < t .procs → inSet set y ≡ true

@@ -1,6 +1,7 @@
-// The restart that a failure asks for: the greatest line that loses no message, who goes back, and of each process its epoch at the cut and its
-// phase at the restart. specs/Restart says what `restart` answers for every table area and failure, and what that means (demand 2). It has no
-// `requires`; `fill_table` and `restart_from` are steps of it that crate recovery takes too. Assumes nothing.
+// The restart that a failure asks for: the greatest line that loses no message, who goes back, and of each process its
+// epoch at the cut and its phase at the restart. specs/Restart says what `restart` answers for every table area and
+// failure, and what that means (demand 2). It has no `requires`; `fill_table` and `restart_from` are steps of it that
+// crate recovery takes too. Assumes nothing.
 ghost use mathlib.Core.Path.{_≡_};
 ghost use Prim.Native.Nat.{_≤_};
 ghost use lib.ListN.{length};
@@ -14,7 +15,8 @@ ghost use Rattle.restart.specs.Restart.{restartRefusal, restartOf, resta
 use recovery_line::Line;
 use words::AREA_WORDS;
 
-// Checks the areas and the failure that a call is given: 12, 13, 8, 9, or 0. Where nothing is wrong, fills the full table of the trace.
+// Checks the areas and the failure that a call is given: 12, 13, 8, 9, or 0. Where nothing is wrong, fills the full
+// table of the trace.
 pub fn fill_table(table: &[u32], room: usize, step: u64, set: u64, full: &mut [u32]) -> u32
     requires { ⌜ length (now full) ≡ areaWords ⌝ }
     ensures fault { λ r. ⌜ r ≡ failureFaultIn (now (table .entry)) room step set ⌝ }
@@ -33,8 +35,8 @@ pub fn fill_table(table: &[u32], room: usize, step: u64, set: u64, full: &mut [u
     }
 }
 
-// What a failure asks for: the engine's line, the set of the processes that go back and its size, and of each process its epoch at the cut
-// and its phase at the restart, or at the cut where it stays.
+// What a failure asks for: the engine's line, the set of the processes that go back and its size, and of each process
+// its epoch at the cut and its phase at the restart, or at the cut where it stays.
 pub struct Restarted {
     pub number: u32,
     pub place: usize,

@@ -1,5 +1,6 @@
--- From the definitions that a row of the table computes to what the calls answer and leave, by their contracts: `reader::read_failure` reads a
--- text into a table area, and then `restart`, `messages`, `replay` and `lowest` of recovery are called on what it left there.
+-- From the definitions that a row of the table computes to what the calls answer and leave, by their contracts:
+-- `reader::read_failure` reads a text into a table area, and then `restart`, `messages`, `replay` and `lowest` of
+-- recovery are called on what it left there.
 use Prim.Native.Nat.{ℕ, zero, suc, _+_, _<_, _≤_}
 use mathlib.Core.Path.{_≡_, refl, sym, ap, subst, _∙_, fun-ext}
 use mathlib.Core.Bool.{true, false}
@@ -52,8 +53,8 @@ use Rattle.report.proofs.Messages.{blank, At, front-row, later-row, word-in, nu
 use Rattle.runs.proofs.Table.{completed}
 use Rattle.runs.specs.Answers.{losses, Replayed as Told, fault, replayOf, replay}
 
--- ---- What the rows say. `Restart`, `Messages` and `Replay` are the contracts of those calls: what they promise of the answer, and of the run area
--- that they leave.
+-- ---- What the rows say. `Restart`, `Messages` and `Replay` are the contracts of those calls: what they promise of the
+-- answer, and of the run area that they leave.
 
 -- a line of numbers, as the calls take it
 abbrev pub lineFrom : List ℕ → Line
@@ -356,7 +357,8 @@ module _ (text a : List ℕ) (step set : ℕ) (holds : holdsTrace a ≡ true) (e
       unfolding replayArea
       area-by o q z = P .1 .0 ∙ rw (fault-is, z, run-is, q)
 
-      -- carried out: the answer, and where the order is complete and the definition says that the records are equal, the record in the run area
+      -- carried out: the answer, and where the order is complete and the definition says that the records are equal,
+      -- the record in the run area
       carried : (x : Told) (o : Outcome) → run S order ≡ o → fault f l ≡ 0 → replayOf S order o ≡ given x
           → (y ≡ record { number = 0; place = 0; steps = x .steps; complete = x .complete }) × (x .complete ≡ true → x .equal ≡ true → Faultless t v)
       unfolding answerOf

@@ -1,5 +1,6 @@
--- The runs R1 to R12 of document 01, now of the code: what its public functions answer and leave, by their contracts. The same rows as in Table,
--- from which they follow by the laws of Calls. A table area and a run area are any that the caller lends, of 16,384 words or more.
+-- The runs R1 to R12 of document 01, now of the code: what its public functions answer and leave, by their contracts.
+-- The same rows as in Table, from which they follow by the laws of Calls. A table area and a run area are any that the
+-- caller lends, of 16,384 words or more.
 use Prim.Native.Nat.{ℕ, _≤_}
 use Prim.Native.String.{String}
 use mathlib.Core.Path.{_≡_, refl, sym, ap, _∙_}
@@ -115,7 +116,8 @@ C4 = Reads (failing linesH "fail=0 set=1") traceH 0 1 × OnTable traceH (Recover
 c4 : C4
 c4 = let text = failing linesH "fail=0 set=1" in (reads-failure text traceH 0 1 fails4, recovers text traceH 0 1 fails4 recovery4 (table .3))
 
--- "Trace L: two zones; send 0 to 1, save 1, receive. R5: step 3, set 2: line 32,2, the message kept in phase 1, order 65,1 complete."
+-- "Trace L: two zones; send 0 to 1, save 1, receive. R5: step 3, set 2: line 32,2, the message kept in phase 1, order
+-- 65,1 complete."
 abbrev pub C5 : Type 0
 C5 =
     Accepts (linesOf linesL) traceL
@@ -206,7 +208,8 @@ c11 =
     let (x, y) = table .10 in
     (reads-failure empty traceH 9 0 empty11, reads-failure beyond traceH 9 8 beyond11, refuses empty traceH 9 0 empty11 9 0 x, refuses beyond traceH 9 8 beyond11 9 0 y)
 
--- "R12: a receive as first event is 5 at line 2." To `read` and to `read_failure`, which clear the table area, and to `report`
+-- "R12: a receive as first event is 5 at line 2." To `read` and to `read_failure`, which clear the table area, and to
+-- `report`
 abbrev pub C12 : Type 0
 C12 =
     ((before : List ℕ) → areaWords ≤ length before

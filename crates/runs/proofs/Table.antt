@@ -55,7 +55,8 @@ completed n = given (record { complete = true; equal = true; steps = n })
 
 -- ---- The rows
 
--- "R1: H as above." What is printed, byte for byte; then in parts: the trace and the failure that are read, and the recovery
+-- "R1: H as above." What is printed, byte for byte; then in parts: the trace and the failure that are read, and the
+-- recovery
 abbrev pub traceH : Trace
 traceH = record {
   procs = 3;
@@ -125,7 +126,8 @@ r4 : R4
 unfolding opens reads
 r4 = refl
 
--- "Trace L: two zones; send 0 to 1, save 1, receive. R5: step 3, set 2: line 32,2, the message kept in phase 1, order 65,1 complete."
+-- "Trace L: two zones; send 0 to 1, save 1, receive. R5: step 3, set 2: line 32,2, the message kept in phase 1, order
+-- 65,1 complete."
 abbrev pub traceL : Trace
 traceL = two (Send 0 1 6 ∷ Save 1 ∷ Recv 1 0 ∷ [])
 
@@ -217,7 +219,8 @@ r11 : R11
 unfolding opens reads
 r11 = (refl, refl)
 
--- "R12: a receive as first event is 5 at line 2." To the library; and to the program, which prints "only `refused=N place=P`"
+-- "R12: a receive as first event is 5 at line 2." To the library; and to the program, which prints "only `refused=N
+-- place=P`"
 abbrev pub R12 : Type 0
 R12 =
     (verdict (linesOf linesFirst) ≡ Verdict.refused 5 2)
@@ -234,7 +237,8 @@ table = (r1, r2, r3, r4, r5, r6, r7, r8, r9, r10, r11, r12)
 
 -- ---- Not among them, but of the same texts: the numbers 1, 8 and 10, and which comes first
 
--- no failure line is 1 at the line after the last; a line after the failure line is 1; H has 9 events, and 8 comes before 9
+-- no failure line is 1 at the line after the last; a line after the failure line is 1; H has 9 events, and 8 comes
+-- before 9
 abbrev pub Ends : Type 0
 Ends =
     (recovery (linesOf linesH) ≡ refused 1 11)
@@ -246,7 +250,8 @@ ends : Ends
 unfolding opens reads
 ends = (refl, refl, refl, refl)
 
--- a line of two or of four numbers; a number 0; an epoch that process 2 has not reached; a failed process that stays; 9 comes before 10
+-- a line of two or of four numbers; a number 0; an epoch that process 2 has not reached; a failed process that stays; 9
+-- comes before 10
 abbrev pub Lines : Type 0
 Lines =
     (losses textH (2 ∷ 2 ∷ []) ≡ refused 10 0)

@@ -1,4 +1,5 @@
--- Two more answers to a text that ends with a failure line: the messages that another line loses, and what an order does.
+-- Two more answers to a text that ends with a failure line: the messages that another line loses, and what an order
+-- does.
 use mathlib.Core.List.{List}
 use mathlib.Core.Bool.{Bool}
 use Prim.Native.Nat.{ℕ}
@@ -18,7 +19,8 @@ fault f l = lineFault (f .trace) (f .step) (f .failed) (length l) (lineOf l)
 unfoldable pub losses : List ℕ → List ℕ → Answer (List Listed)
 losses text l = then (failureOf text) (λ f. unless (fault f l) (given (lostOnes (runOf f l))))
 
--- ---- An order from a line: whether it is complete, whether the record that it leaves equals that of the run without failure, its steps
+-- ---- An order from a line: whether it is complete, whether the record that it leaves equals that of the run without
+-- failure, its steps
 
 pub record Replayed : Type 0 where
   pub complete : Bool

@@ -1,11 +1,12 @@
--- The texts of the runs (document 01, "Runs to check"), line by line. H stands as it is printed there. L, S, T and the text of R12 are given
--- there in words: here they are texts, and the value 6 in them is ours.
+-- The texts of the runs (document 01, "Runs to check"), line by line. H stands as it is printed there. L, S, T and the
+-- text of R12 are given there in words: here they are texts, and the value 6 in them is ours.
 use mathlib.Core.List.{List, [], _∷_, _++_}
 use Prim.Native.Nat.{ℕ}
 use Prim.Native.String.{String}
 use Rattle.printing.specs.Bytes.{linesOf}
 
--- "The library's reader takes the text without a failure line. The program wants one more line, the last": the text with that line
+-- "The library's reader takes the text without a failure line. The program wants one more line, the last": the text
+-- with that line
 unfoldable pub failing : List String → String → List ℕ
 failing ls failure = linesOf (ls ++ failure ∷ [])
 

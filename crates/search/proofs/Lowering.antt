@@ -1,5 +1,5 @@
--- The lowest allowed choice by words is the theory's, where none before it is allowed, and the order of lowest choices is carried out step for step,
--- for every run that the words stand for.
+-- The lowest allowed choice by words is the theory's, where none before it is allowed, and the order of lowest choices
+-- is carried out step for step, for every run that the words stand for.
 use mathlib.Core.Path.{_≡_, refl, sym, _∙_, ap}
 use mathlib.Core.Bool.{true, false}
 use mathlib.Core.List.{List, [], _∷_}

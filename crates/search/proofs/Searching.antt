@@ -1,5 +1,6 @@
--- The search for the lowest choice: what sets of processes and of senders rule out, and what a step leaves of that. A process step can let run only
--- that process and its peer, a message handed over only the two ends of its channel, unless the least phase of an orphan not sent again changes.
+-- The search for the lowest choice: what sets of processes and of senders rule out, and what a step leaves of that. A
+-- process step can let run only that process and its peer, a message handed over only the two ends of its channel,
+-- unless the least phase of an orphan not sent again changes.
 use mathlib.Core.Path.{_≡_, refl, sym, _∙_, ap}
 use mathlib.Core.Logic.{_≢_}
 use mathlib.Core.Bool.{true, false}
@@ -144,7 +145,8 @@ module _ (t g a : List ℕ) where
         (λ e. rw (getD-set-other ks p x v 0 e) (u x hx))
 
   module _ (p : ℕ) where
-    -- the receivers that are not left: none is ready, a phase that theirs are not below, and a set outside of which no message is kept
+    -- the receivers that are not left: none is ready, a phase that theirs are not below, and a set outside of which no
+    -- message is kept
     abbrev pub Waits : ℕ → ℕ → ℕ → Type 0
     Waits least some left =
         (least ≤ noPhase) × Outside (λ q. least ≤ keptPhase t g a p (64 * p + q)) left × Outside (λ q. handOk t g a p (64 * p + q) ≡ false) left
@@ -460,8 +462,9 @@ module _ (R : Run) (t l g a₀ : List ℕ) (S : Started R t l g a₀) (most : �
       pub hand-shut-still : (n : ℕ) → inSet n (c / 64) ≡ true → Shut t g a n → Shut t g b n
       hand-shut-still n o k = rw eb (hand-shut t l g a bound c hc n o k)
 
--- what holds before each choice, i of them done: sets outside of which no process may run, no sender has a message that is ready, no process has an
--- event, no sender a kept message; of each sender a phase that its messages' are not below, and a set of receivers outside of which it keeps none
+-- what holds before each choice, i of them done: sets outside of which no process may run, no sender has a message that
+-- is ready, no process has an event, no sender a kept message; of each sender a phase that its messages' are not below,
+-- and a set of receivers outside of which it keeps none
 module _ (t l g a₀ : List ℕ) (most : ℕ) where
   abbrev pub Looking : List ℕ → List ℕ → List ℕ → ℕ → ℕ → ℕ → ℕ → ℕ → Type 0
   Looking a ls ks running keepers may senders i =

@@ -1,4 +1,5 @@
--- The search for the lowest allowed choice by words, and what carrying out the lowest choices leaves. No public contract cites these.
+-- The search for the lowest allowed choice by words, and what carrying out the lowest choices leaves. No public
+-- contract cites these.
 use Prim.Native.Nat.{ℕ, _/_, _<_, _+_, _*_, _≤_}
 use mathlib.Core.Path.{_≡_}
 use mathlib.Core.Bool.{false}
@@ -55,7 +56,8 @@ ToRun a m = Outside (λ z. curW a z ≡ 0) m
 unfoldable pub unlessNew : ℕ → ℕ → ℕ → ℕ → ℕ
 unlessNew was is x y = pick (eqb is was) x y
 
--- the order of the lowest choices, at most so many, is carried out in n steps, and the area stands for the state that it comes to
+-- the order of the lowest choices, at most so many, is carried out in n steps, and the area stands for the state that
+-- it comes to
 abbrev pub Lowered : Run → List ℕ → ℕ → ℕ → Type 0
 Lowered R a most n =
     (s : State) × Rel R a s × Inv R s × (run R (lowestFrom R most (start R)) ≡ carriedOut s) × (n ≡ length (lowestFrom R most (start R)))

@@ -1,5 +1,5 @@
-// The order that always takes the lowest allowed choice, found by looking where something can have changed (before CHANNELS). The contract is
-// that of replaying the theory's lowest order. Assumes nothing.
+// The order that always takes the lowest allowed choice, found by looking where something can have changed (before
+// CHANNELS). The contract is that of replaying the theory's lowest order. Assumes nothing.
 ghost use mathlib.Core.Path.{_≡_};
 ghost use mathlib.Core.Bool.{true, false};
 ghost use Prim.Native.Nat.{ℕ, _+_, _*_, _/_, _%_, _≤_, _<_};
@@ -25,11 +25,12 @@ use orders::Replayed;
 use sets::EVERYONE;
 use trace::EVENT_BASE;
 
-// The lowest choice is looked for where something can have changed: in a set of processes outside of which none may run, and in a set of
-// senders outside of which none has a kept message that may be handed over. A step gives back to the sets whom it may let go on; where the
-// least phase of an orphan not sent again is new, these are the processes that have an event left and the senders that keep a message. Of
-// each sender a phase is known that those of its kept messages are not below, and a set of receivers outside of which it keeps no message,
-// so that its channels are looked at only where one may have become ready. Sets may have members too many, never too few.
+// The lowest choice is looked for where something can have changed: in a set of processes outside of which none may
+// run, and in a set of senders outside of which none has a kept message that may be handed over. A step gives back to
+// the sets whom it may let go on; where the least phase of an orphan not sent again is new, these are the processes
+// that have an event left and the senders that keep a message. Of each sender a phase is known that those of its kept
+// messages are not below, and a set of receivers outside of which it keeps no message, so that its channels are looked
+// at only where one may have become ready. Sets may have members too many, never too few.
 const CHANNELS: usize = 4096;
 
 const PROCESSES: usize = 64;
@@ -62,9 +63,9 @@ fn runnable(full: &[u32], gates: &[u32], area: &[u32], set: u64) -> u64
     0
 }
 
-// The first receiver to whom the oldest kept message of sender p may be handed over. Where there is none, PROCESSES, and the sender's phase
-// is not above those of its messages (the least of them, where they were looked at); where there is one, it is 0, since that message leaves.
-// Receivers for whom no message is left leave the sender's set.
+// The first receiver to whom the oldest kept message of sender p may be handed over. Where there is none, PROCESSES,
+// and the sender's phase is not above those of its messages (the least of them, where they were looked at); where there
+// is one, it is 0, since that message leaves. Receivers for whom no message is left leave the sender's set.
 fn next_receiver(
     full: &[u32],
     gates: &[u32],
@@ -103,7 +104,8 @@ fn next_receiver(
     PROCESSES
 }
 
-// A channel whose oldest kept message may be handed over, CHANNELS for none, and the set of senders from that of the channel on.
+// A channel whose oldest kept message may be handed over, CHANNELS for none, and the set of senders from that of the
+// channel on.
 struct Hand {
     channel: usize,
     senders: u64,
@@ -174,7 +176,8 @@ fn run_first(full: &[u32], links: &[u16], area: &mut [u32], set: u64) -> u64
     sets::with(set, peer)
 }
 
-// A set of processes outside of which none has an event left: where the least phase is new, those of them that have one.
+// A set of processes outside of which none has an event left: where the least phase is new, those of them that have
+// one.
 fn still_to_run(area: &[u32], was: u32, set: u64) -> u64
     requires { ⌜ (length (now area) ≡ areaWords) × Bounded (now area) × ToRun (now area) set ⌝ }
     ensures { λ r. ⌜ ToRun (now (area .entry)) r ⌝ }
@@ -220,8 +223,8 @@ fn unless_new(was: u32, is: u32, set: u64, other: u64) -> u64
     other
 }
 
-// Carries out the lowest choices, one after another, at most so many: how many there were. A step can let run only the processes that it
-// names, and make no kept message ready, unless the least phase is new after it.
+// Carries out the lowest choices, one after another, at most so many: how many there were. A step can let run only the
+// processes that it names, and make no kept message ready, unless the least phase is new after it.
 fn carry_lowest(full: &[u32], links: &[u16], gates: &[u32], area: &mut [u32], most: usize) -> usize
     requires { ⌜ (length (now full) ≡ areaWords) × (128 ≤ length (now gates)) × (length (now area) ≡ areaWords) × Small (now links) × ((R : Run) × Started R (now full) (now links) (now gates) (now area)) ⌝ }
     ensures { λ r. ⌜ ((R : Run) → Started R (now (full .entry)) (now (links .entry)) (now (gates .entry)) (now (area .entry)) → Lowered R (now (area .exit)) most r) ⌝ }
@@ -256,7 +259,8 @@ fn carry_lowest(full: &[u32], links: &[u16], gates: &[u32], area: &mut [u32], mo
     i
 }
 
-// Replays the order of the lowest choices from the first state. It is complete after twice as many steps as there are events, at most.
+// Replays the order of the lowest choices from the first state. It is complete after twice as many steps as there are
+// events, at most.
 fn lowest_in(full: &[u32], links: &[u16], gates: &[u32], area: &mut [u32], most: usize) -> Replayed
     requires { ⌜ (length (now full) ≡ areaWords) × (128 ≤ length (now gates)) × (length (now area) ≡ areaWords) × Small (now links) × ((R : Run) × Started R (now full) (now links) (now gates) (now area)) ⌝ }
     ensures answer { λ r. ⌜ ((R : Run) → Started R (now (full .entry)) (now (links .entry)) (now (gates .entry)) (now (area .entry)) → most ≡ size (R .trace) + size (R .trace) → r ≡ answerOf R (run R (lowestOrder R)) (length (lowestOrder R))) ⌝ }
@@ -266,8 +270,8 @@ fn lowest_in(full: &[u32], links: &[u16], gates: &[u32], area: &mut [u32], most:
     orders::finish(area, steps, true)
 }
 
-// Replays the order that always takes the lowest allowed choice, from the line that the gates stand for, in an area of exactly 16,384
-// words. No order is longer than twice the number of events.
+// Replays the order that always takes the lowest allowed choice, from the line that the gates stand for, in an area of
+// exactly 16,384 words. No order is longer than twice the number of events.
 pub fn lowest(full: &[u32], gates: &[u32], area: &mut [u32], cut: usize) -> Replayed
     requires { ⌜ (length (now area) ≡ areaWords) × (128 ≤ length (now gates)) × ((t : Trace) × (line : (ℕ → ℕ)) × Given t line cut (now full) (now gates)) ⌝ }
     ensures answer { λ r. ⌜ ((t : Trace) (line : ℕ → ℕ) → Given t line cut (now (full .entry)) (now (gates .entry)) → r ≡ answerOf (recorded t past cut line) (run (recorded t past cut line) (lowestOrder (recorded t past cut line))) (length (lowestOrder (recorded t past cut line)))) ⌝ }

@@ -1,4 +1,5 @@
--- Sets of processes as numbers of 64 bits: their first member, the set without it, the set with one more, and what holds outside of them.
+-- Sets of processes as numbers of 64 bits: their first member, the set without it, the set with one more, and what
+-- holds outside of them.
 use mathlib.Core.Path.{_≡_, sym, _∙_, ap}
 use mathlib.Core.Bool.{Bool, true, false}
 use Prim.Native.Nat.{ℕ, zero, suc, _-_, _/_, _%_, _^_, min, max, _≤_, _<_}

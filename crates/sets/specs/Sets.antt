@@ -1,4 +1,5 @@
--- Sets of processes, as numbers of 64 bits: all of them, the first member, the set without it, the set with process z (modulo 64).
+-- Sets of processes, as numbers of 64 bits: all of them, the first member, the set without it, the set with process z
+-- (modulo 64).
 use Prim.Native.Nat.{ℕ, _-_, _%_, _^_, _<_}
 use mathlib.Core.Path.{_≡_}
 use mathlib.Core.Bool.{false}

@@ -18,7 +18,8 @@ use Rattle.reader.proofs.Claims.{accepted-fit, fit-accepted, failing-fit}
 use Rattle.table.specs.Held.{held, holdsTrace, heldTrace}
 use Rattle.table.proofs.Holding.{words-of, held-of, told, held-self, rule-area, ruled-held, read-ruled, failing-ruled, ruled-same, same-front, same-held, zero-not-held}
 
--- An area holds a trace exactly if it has 16,384 words, the trace is well formed, and the first 16,384 words are those of the trace.
+-- An area holds a trace exactly if it has 16,384 words, the trace is well formed, and the first 16,384 words are those
+-- of the trace.
 pub held-iff : (a : List ℕ) (t : Trace)
     → (heldTrace a ≡ some t) ↔ ((areaWords ≤ length a) × (wellFormed t ≡ true) × (take areaWords a ≡ wordsFrom (tableWord t) 0 areaWords))
 held-iff a t = (λ h. words-of a t h, λ h. held-of a t (h .0) (h .1) (h .2))
@@ -32,8 +33,8 @@ pub failing-held : (text a : List ℕ) (t : Trace) (step set : ℕ) → failureO
     → heldTrace (failureArea text a) ≡ some t
 failing-held text a t step set e l = rw (failing-ruled text a t step set e l) (ruled-held a t (failing-fit text t step set e) l)
 
--- 13: the area holds a trace exactly if its first 16,384 words are what reading some accepted trace leaves there, so that the
--- reading would change nothing.
+-- 13: the area holds a trace exactly if its first 16,384 words are what reading some accepted trace leaves there, so
+-- that the reading would change nothing.
 pub check-13 : (a : List ℕ)
     → (holdsTrace a ≡ true) ↔ ((text : List ℕ) × (t : Trace) × (verdict text ≡ accepted t) × (areaWords ≤ length a) × (readArea text a ≡ a))
 check-13 a = (to, from)

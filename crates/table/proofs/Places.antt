@@ -1,4 +1,5 @@
--- The words of a trace by their places, those of the trace that an area says, and the event that a fit event's words say.
+-- The words of a trace by their places, those of the trace that an area says, and the event that a fit event's words
+-- say.
 use Prim.Native.Nat.{ℕ, zero, suc, _+_, _-_, _*_, _/_, _%_, _<_, _≤_}
 use mathlib.Core.Path.{_≡_, refl, sym, ap, _∙_}
 use mathlib.Core.List.{List, [], _∷_, _++_, map}

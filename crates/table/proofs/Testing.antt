@@ -1,4 +1,5 @@
--- What the code tests is what the definition says: `holdsTrace` and `tested` are one, both by the facts that they establish.
+-- What the code tests is what the definition says: `holdsTrace` and `tested` are one, both by the facts that they
+-- establish.
 use Prim.Native.Nat.{ℕ, zero, suc, _+_, _-_, _/_, _<_, _≤_}
 use mathlib.Core.Path.{_≡_, refl, sym, _∙_}
 use mathlib.Core.List.{List, [], _∷_, _++_}

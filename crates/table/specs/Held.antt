@@ -1,5 +1,5 @@
--- The trace that a table area holds (document 01, 13: "the first 16,384 words of the table area aren't what reading some accepted
--- trace leaves there"). proofs/Claims states that this is what `holdsTrace` refuses.
+-- The trace that a table area holds (document 01, 13: "the first 16,384 words of the table area aren't what reading
+-- some accepted trace leaves there"). proofs/Claims states that this is what `holdsTrace` refuses.
 use Prim.Native.Nat.{ℕ, zero, suc, _+_, _/_, _%_}
 use mathlib.Core.List.{List, [], _∷_}
 use mathlib.Core.Bool.{Bool, true, false, _&&_}
@@ -17,8 +17,8 @@ abbrev pub pickEvent : Bool → Event → Event → Event
 pickEvent true a b = a
 pickEvent false a b = b
 
--- The event that a word and a value say: the word's kind is 1 for a send, 2 for a receive; every other word is read as a save's.
--- A word that is no event's is told by its not being the word of the event read from it.
+-- The event that a word and a value say: the word's kind is 1 for a send, 2 for a receive; every other word is read as
+-- a save's. A word that is no event's is told by its not being the word of the event read from it.
 unfoldable pub eventOf : ℕ → ℕ → Event
 eventOf w v =
     pickEvent (eqb (w / 4096) 1) (Send (w % 64) (w / 64 % 64) v)
@@ -43,7 +43,8 @@ unfoldable pub wordsAre : (ℕ → ℕ) → ℕ → List ℕ → Bool
 wordsAre f zero a = true
 wordsAre f (suc n) a = wordsAre f n a && eqb (getD a n 0) (f n)
 
--- an area holds a trace: it has 16,384 words, the trace that they say is well formed, and each is the word of this trace
+-- an area holds a trace: it has 16,384 words, the trace that they say is well formed, and each is the word of this
+-- trace
 unfoldable pub holdsTrace : List ℕ → Bool
 holdsTrace a = leb areaWords (length a) && (wellFormed (held a) && wordsAre (tableWord (held a)) areaWords a)
 

@@ -1,7 +1,7 @@
-// The table area checked. `holds_trace` says whether an area's words are what reading some accepted trace leaves there (13 where
-// they are not), for every area, however filled. The definitions are in specs/Held: the trace that an area holds. proofs/Claims
-// states that an area holds a trace exactly if its words are those of a well-formed trace, which is what a reading leaves. No
-// public function has a `requires`. Assumes nothing.
+// The table area checked. `holds_trace` says whether an area's words are what reading some accepted trace leaves there
+// (13 where they are not), for every area, however filled. The definitions are in specs/Held: the trace that an area
+// holds. proofs/Claims states that an area holds a trace exactly if its words are those of a well-formed trace, which
+// is what a reading leaves. No public function has a `requires`. Assumes nothing.
 ghost use mathlib.Core.Path.{_≡_};
 ghost use mathlib.Core.Bool.{true};
 ghost use mathlib.Core.List.{List, []};
@@ -38,8 +38,8 @@ pub fn event(word: u32, value: u32) -> Event
     Event::Save { at: at }
 }
 
-// Whether the words from a place up to another are 0. They are looked at together, with no way out between, so that the machine can take
-// several at once: most words of an area are such.
+// Whether the words from a place up to another are 0. They are looked at together, with no way out between, so that the
+// machine can take several at once: most words of an area are such.
 fn zeros(area: &[u32], from: usize, to: usize) -> bool
     requires { ⌜ (from ≤ to) × (to ≤ length (now area)) ⌝ }
     ensures { λ r. ⌜ r ≡ zerosFrom (now (area .entry)) from (to - from) ⌝ }
@@ -69,8 +69,8 @@ fn counted(counts: &mut [u16], procs: u64, e: Event) -> bool
 // The word of a checkpoint is this times 64 and its process: kind 3, and no peer.
 const CHECKPOINT: u32 = 192;
 
-// Whether a word and a value are those of an event that is fit after those that were counted; then counts it. One test for each kind of
-// word, so that the event's kind is asked once.
+// Whether a word and a value are those of an event that is fit after those that were counted; then counts it. One test
+// for each kind of word, so that the event's kind is asked once.
 fn word_fits(counts: &mut [u16], procs: u64, w: u32, v: u32) -> bool
     requires { ⌜ (procs ≤ 64) × ((es : List Event) × (length es < 2048) × Tally (now counts) es) ⌝ }
     ensures answer { λ r. ⌜ r ≡ wordFits procs (now (counts .entry)) w v ⌝ }

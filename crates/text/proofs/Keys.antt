@@ -1,4 +1,5 @@
--- Laws of keys: one for each way a turn of the comparison goes; that a key which is found lies within the text; a key with its number.
+-- Laws of keys: one for each way a turn of the comparison goes; that a key which is found lies within the text; a key
+-- with its number.
 use Prim.Native.Nat.{ℕ, suc, _+_, _-_, _<_, _≤_, zero-le, suc-le-suc}
 use mathlib.Core.Path.{_≡_, refl, sym, _∙_}
 use mathlib.Core.List.{List, [], _∷_}

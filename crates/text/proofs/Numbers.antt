@@ -1,5 +1,5 @@
--- Laws of the number definitions: one for each way a turn of the loop goes, over the values that the code has; that a digit which is
--- read lies within the text; the last digit of a number and those before it.
+-- Laws of the number definitions: one for each way a turn of the loop goes, over the values that the code has; that a
+-- digit which is read lies within the text; the last digit of a number and those before it.
 use Prim.Native.Nat.{ℕ, suc, _+_, _-_, _*_, _/_, _%_, _<_, _≤_}
 use mathlib.Core.Path.{_≡_, sym, ap, _∙_}
 use mathlib.Core.List.{List, [], _∷_, _++_}

@@ -5,7 +5,8 @@ use mathlib.Core.List.{List, [], _∷_}
 use Rattle.text.specs.declared.LineEnd.the-variants.{At}
 use Rattle.text.specs.Line.{lineEnd}
 
--- the first LF of a text from a place on is byte k of the eight there; or k is 8, and it is the first from the next eight on
+-- the first LF of a text from a place on is byte k of the eight there; or k is 8, and it is the first from the next
+-- eight on
 pub record FirstOfEight (text : List ℕ) (at k : ℕ) : Type 0 where
   pub within : k ≤ 8
   pub found : k < 8 → lineEnd text at ≡ At (at + k)

@@ -1,5 +1,5 @@
-// Reading text: the end of a line, fixed keys and decimal numbers. Each function says what it finds by a definition of specs/,
-// for every text and place; no public function has a `requires`. Assumes nothing.
+// Reading text: the end of a line, fixed keys and decimal numbers. Each function says what it finds by a definition of
+// specs/, for every text and place; no public function has a `requires`. Assumes nothing.
 ghost use mathlib.Core.Bool.{true};
 ghost use mathlib.Core.Path.{_≡_};
 ghost use Prim.Native.Nat.{_+_, _-_, _≤_, _<_};
@@ -123,7 +123,8 @@ fn smaller(a: u64, b: u64) -> u64
     if a < b { a } else { b }
 }
 
-// The value v with a digit at its end. (Where there is room the byte is added before 48 is taken away, which is less to do.)
+// The value v with a digit at its end. (Where there is room the byte is added before 48 is taken away, which is less to
+// do.)
 fn push(v: u64, b: u16, bound: u64) -> Pushed
     requires { ⌜ isDigit b ≡ true ⌝ }
     ensures { λ r. ⌜ r ≡ pushed v b bound ⌝ }
@@ -195,7 +196,8 @@ fn four(text: &[u8], at: usize) -> u32
         + 16777216 * (text[at + 3] as u32)
 }
 
-// Whether the rest of a key, from its byte `from` on, stands in the text where the whole key would stand at a place; byte by byte.
+// Whether the rest of a key, from its byte `from` on, stands in the text where the whole key would stand at a place;
+// byte by byte.
 fn key_singly(text: &[u8], at: usize, key: &[u8], from: usize) -> bool
     requires { ⌜ (from ≤ length (now key)) × (at + length (now key) ≤ length (now text)) ⌝ }
     ensures { λ r. ⌜ r ≡ startsWith (drop (at + from) (now (text .entry))) (drop from (now (key .entry))) ⌝ }

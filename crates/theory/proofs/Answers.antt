@@ -1,5 +1,6 @@
--- What can be computed is what is meant: a list names a message exactly if its test says so, and the tests of a run say yes exactly if the run
--- loses nothing, leaves the same record, is ready. From the laws of the run and the invariants of Flow.
+-- What can be computed is what is meant: a list names a message exactly if its test says so, and the tests of a run say
+-- yes exactly if the run loses nothing, leaves the same record, is ready. From the laws of the run and the invariants
+-- of Flow.
 use mathlib.Core.Path.{_≡_, refl, sym, _∙_, ap, subst}
 use mathlib.Core.Logic.{_⊎_, inl, inr, _↔_}
 use mathlib.Core.Bool.{Bool, true, false, _&&_, _||_}

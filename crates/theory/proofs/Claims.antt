@@ -1,6 +1,7 @@
--- What document 01 promises of recovery, each claim under its sentence. Read this file first, with the definitions of specs/; the other files
--- of proofs/ say why. `demand-3` is demand 3 whole. All claims hold for every well-formed trace (crate trace), every cut, and, where `rule` and
--- `usable` are named, for every rule of logging and every set of usable checkpoints; document 01's own are `past` and `reached`.
+-- What document 01 promises of recovery, each claim under its sentence. Read this file first, with the definitions of
+-- specs/; the other files of proofs/ say why. `demand-3` is demand 3 whole. All claims hold for every well-formed trace
+-- (crate trace), every cut, and, where `rule` and `usable` are named, for every rule of logging and every set of usable
+-- checkpoints; document 01's own are `past` and `reached`.
 use mathlib.Core.Path.{_≡_, sym, _∙_}
 use mathlib.Core.Logic.{_⊎_, inl, inr, _↔_, _≢_}
 use mathlib.Core.Bool.{Bool, true, false, _&&_, _||_, not}
@@ -36,9 +37,10 @@ use Rattle.theory.proofs.Lowest.{lowest-some, lowest-iff, lowest-order}
 use Rattle.theory.proofs.Answers.{orphans-name, kept-name, lost-name, lossFree-iff, sameRecord-iff, ready-iff}
 use Rattle.theory.proofs.Refusals.{failure-fit, failure-8, failure-9, line-fit, line-8, line-9, line-10}
 
--- Demand 3. "Take any accepted trace, any step for the failure, any set of zones it takes together, any line that puts each failed zone at a save it
--- has made, and any order of choices from there, each allowed where it comes, that ends only when no choice is allowed. The delivery record the
--- replay leaves equals that of the run without failure exactly when the line loses no message." An order is a list of choice numbers.
+-- Demand 3. "Take any accepted trace, any step for the failure, any set of zones it takes together, any line that puts
+-- each failed zone at a save it has made, and any order of choices from there, each allowed where it comes, that ends
+-- only when no choice is allowed. The delivery record the replay leaves equals that of the run without failure exactly
+-- when the line loses no message." An order is a list of choice numbers.
 pub demand-3 : (t : Trace) → wellFormed t ≡ true → (cut : ℕ) → cut ≤ size t → (failed : ℕ → Bool) (line : ℕ → ℕ)
     → Permitted t past cut (reached t past cut) failed line → (order : List ℕ) (s : State) → run (recorded t past cut line) order ≡ carriedOut s
     → Complete (recorded t past cut line) s → SameRecord (recorded t past cut line) s ↔ LossFree (recorded t past cut line)
@@ -71,7 +73,8 @@ module _ (t : Trace) (w : wellFormed t ≡ true) (rule : Rule) where
       → sent t p q d ≡ rcvd t p q e → loggedBy t rule p q (sent t p q d) ≡ rule p q (sent t p q d) (epochAt t rule p d) (epochAt t rule q e)
   logged-by-epochs = logged-is t rule
 
-  -- "At a receive the phase becomes the larger of the zone's own and the message's, or, if logged, of the zone's own and the message's plus 1."
+  -- "At a receive the phase becomes the larger of the zone's own and the message's, or, if logged, of the zone's own
+  -- and the message's plus 1."
   pub receive-phase : (p q x : ℕ) → recvs t p q (suc x) ≡ true → suc x ≤ size t
       → phaseAt t rule q (suc x) ≡ joined (loggedBy t rule p q (rcvd t p q (suc x))) (phaseAt t rule q x) (phaseOf t rule p q (rcvd t p q (suc x)))
   receive-phase = phase-recv t rule A
@@ -87,8 +90,8 @@ module _ (t : Trace) (w : wellFormed t ≡ true) (rule : Rule) where
       pub the-laws : Laws R
       the-laws = laws t rule A cut line cl
 
-      -- "A restart in an epoch is right after the save that raised the zone to it, in epoch 1 at the zone's start."; "or 32, which means the zone
-      -- stays as it was at the cut"
+      -- "A restart in an epoch is right after the save that raised the zone to it, in epoch 1 at the zone's start.";
+      -- "or 32, which means the zone stays as it was at the cut"
       pub restart-back : (z : ℕ) → 1 ≤ line z → line z ≤ current t rule cut z
           → (epochAt t rule z (restartIn t cut line z) ≡ line z) × ((restartIn t cut line z ≡ 0) ⊎ (checkpoints t z (restartIn t cut line z) ≡ true))
       restart-back = restart-epoch t rule A cut cl line
@@ -143,7 +146,8 @@ module _ (t : Trace) (w : wellFormed t ≡ true) (rule : Rule) where
     reached-usable = usable-reached t rule A cut cl
 
     module _ (usable : ℕ → ℕ → Bool) (U : Usable t rule cut usable) (failed : ℕ → Bool) where
-      -- "The engine's line is the greatest without a lost message.": there is one, lowering gives it, and there is no other
+      -- "The engine's line is the greatest without a lost message.": there is one, lowering gives it, and there is no
+      -- other
       pub greatest-line : Greatest t rule cut usable failed (greatestLine t rule cut usable failed)
       greatest-line = greatest-is t rule A cut cl usable U failed
 
@@ -156,8 +160,9 @@ module _ (t : Trace) (w : wellFormed t ≡ true) (rule : Rule) where
       greatest-work l m g b f z h =
           restart-mono t rule A cut cl m l z (number-of t rule A cut cl usable U failed l (g .permitted) z h) (g .top m b f z h)
 
-      -- Lowering, step by step. It begins with the highest permitted line. A message lost under a line sends its sender to the last usable epoch
-      -- that is not above the epoch of its send, which is lower, and still no permitted line without loss is above. It ends when nothing is lost.
+      -- Lowering, step by step. It begins with the highest permitted line. A message lost under a line sends its sender
+      -- to the last usable epoch that is not above the epoch of its send, which is lower, and still no permitted line
+      -- without loss is above. It ends when nothing is lost.
       pub lowering-begins : Above t rule cut usable failed (highest t rule cut usable failed)
       lowering-begins = highest-above t rule A cut cl usable U failed
 
@@ -178,8 +183,8 @@ module _ (t : Trace) (w : wellFormed t ≡ true) (rule : Rule) where
       abbrev L : Laws S
       L = laws t rule A cut line cl
 
-      -- "a sent message whose number is at most how many the receiver had received on that channel before its restart is dropped": of the sends
-      -- after the restart those are the orphans'
+      -- "a sent message whose number is at most how many the receiver had received on that channel before its restart
+      -- is dropped": of the sends after the restart those are the orphans'
       pub dropped-orphans : (p q e : ℕ) → sends t p q e ≡ true → restartIn t cut line p < e
           → leb (sent t p q e) (rcvd t p q (restartIn t cut line q)) ≡ orphan S p q (sent t p q e)
       dropped-orphans p q e h l =
@@ -190,7 +195,8 @@ module _ (t : Trace) (w : wellFormed t ≡ true) (rule : Rule) where
       pub complete-test : (s : State) → (complete S s ≡ true) ↔ Complete S s
       complete-test = complete-iff S
 
-      -- 11, "a choice isn't allowed where it comes", and its place: those before it are carried out, and it is not allowed in what they leave
+      -- 11, "a choice isn't allowed where it comes", and its place: those before it are carried out, and it is not
+      -- allowed in what they leave
       pub refused-place : (order : List ℕ) (i : ℕ) → run S order ≡ refused i
           → (m : ℕ) × (s : State) × (i ≡ suc m) × (m < length order) × (run S (take m order) ≡ carriedOut s) × (choose S s (getD order m 0) ≡ none)
       refused-place = run-refused S
@@ -212,7 +218,8 @@ module _ (t : Trace) (w : wellFormed t ≡ true) (rule : Rule) where
         pub lost-differs : (p q k : ℕ) → lost S p q k ≡ true → delivered S s p q ≢ faultless S p q
         lost-differs = order-differs S L order s h
 
-        -- "From a line without loss, an order carried out so far always has an allowed choice until each zone has done all its events"
+        -- "From a line without loss, an order carried out so far always has an allowed choice until each zone has done
+        -- all its events"
         pub always-goes-on : LossFree S → (z e : ℕ) (es : List ℕ) → s .todo z ≡ e ∷ es → (c : ℕ) × Allowed S s c
         always-goes-on = order-progress S L order s h
 
@@ -228,7 +235,8 @@ module _ (t : Trace) (w : wellFormed t ≡ true) (rule : Rule) where
         pub ready-means : (r : ℕ) → (ready S s r ≡ true) ↔ ((p q k : ℕ) → orphan S p q k ≡ true → orphanPhase S p q k ≤ r → sentAgain S s p q k ≡ true)
         ready-means = ready-iff S L s (I .cursors)
 
-        -- "the order that always picks the lowest allowed choice": what it picks is allowed and no lower number is; it ends where it is complete
+        -- "the order that always picks the lowest allowed choice": what it picks is allowed and no lower number is; it
+        -- ends where it is complete
         pub lowest-is : (r : ℕ × State) → lowest S s ≡ some r → (choose S s (r .0) ≡ some (r .1)) × ((c : ℕ) → c < r .0 → choose S s c ≡ none)
         lowest-is = lowest-some S L s I
 
@@ -239,10 +247,12 @@ module _ (t : Trace) (w : wellFormed t ≡ true) (rule : Rule) where
       pub lowest-completes : (s : State) × (run S (lowestOrder S) ≡ carriedOut s) × Complete S s
       lowest-completes = lowest-order S L
 
--- ---- The floor, for document 01's rule: "No zone in it restarts in an epoch below the smallest current epoch of a failed zone."
+-- ---- The floor, for document 01's rule: "No zone in it restarts in an epoch below the smallest current epoch of a
+-- failed zone."
 
 module _ (t : Trace) (w : wellFormed t ≡ true) (cut : ℕ) (cl : cut ≤ size t) (failed : ℕ → Bool) where
-  -- in general: below an epoch f that each process can restart in, or that lies above the current epoch of one that did not fail
+  -- in general: below an epoch f that each process can restart in, or that lies above the current epoch of one that did
+  -- not fail
   pub floor : (usable : ℕ → ℕ → Bool) → Usable t past cut usable → (f : ℕ) → f ≤ 32
       → ((z : ℕ) → z < t .procs → (usable z f ≡ true) ⊎ ((failed z ≡ false) × (current t past cut z < f)))
       → (l : ℕ → ℕ) → Greatest t past cut usable failed l → (z : ℕ) → z < t .procs → f ≤ l z
@@ -261,7 +271,8 @@ module _ (t : Trace) (w : wellFormed t ≡ true) (cut : ℕ) (cl : cut ≤ size 
 
 -- ---- Numbers, "Who names the failure and the replay". "Order: .. for the rest 8, 9, 10, 11."
 
--- what is wrong with a failure: "8: K is beyond the last event. 9: the set is empty or names a zone N or more."; 0, nothing
+-- what is wrong with a failure: "8: K is beyond the last event. 9: the set is empty or names a zone N or more."; 0,
+-- nothing
 module _ (t : Trace) (step set : ℕ) where
   pub number-8 : (failureFault t step set ≡ 8) ↔ (size t < step)
   number-8 = failure-8 t step set
@@ -272,7 +283,8 @@ module _ (t : Trace) (step set : ℕ) where
   pub failure-taken : (failureFault t step set ≡ 0) ↔ FitFailure t step set
   failure-taken = failure-fit t step set
 
-  -- what is wrong with a failure and a line: 8 and 9 as above, and then "10: the line hasn't N numbers, or one isn't permitted."
+  -- what is wrong with a failure and a line: 8 and 9 as above, and then "10: the line hasn't N numbers, or one isn't
+  -- permitted."
   module _ (count : ℕ) (line : ℕ → ℕ) where
     pub number-8-first : (lineFault t step set count line ≡ 8) ↔ (size t < step)
     number-8-first = line-8 t step set count line
@@ -295,6 +307,7 @@ module _ (t : Trace) (step set : ℕ) where
         let f = (line-taken .0) e in
         demand-3 t w step (f .failure .step-most) (inSet set) line (f .permitted)
 
--- Not claims of document 01, but for code that is to meet them: Lines.lost-epochs and epochs-lost (a permitted line loses a message by epochs alone),
--- Counters.counted (a channel is two numbers), Steps.reach-work (each step takes one from the work that is left), Classes (counts),
--- Refusals.set-shifted (a set names a process N or more if a shift by N leaves something).
+-- Not claims of document 01, but for code that is to meet them: Lines.lost-epochs and epochs-lost (a permitted line
+-- loses a message by epochs alone), Counters.counted (a channel is two numbers), Steps.reach-work (each step takes one
+-- from the work that is left), Classes (counts), Refusals.set-shifted (a set names a process N or more if a shift by N
+-- leaves something).

@@ -1,5 +1,5 @@
--- What becomes of a message, by counting: the tests of specs/Line, worded by events, equal comparisons of its number with three counts.
--- From the laws that the line lies within the run and that no message is received before it is sent.
+-- What becomes of a message, by counting: the tests of specs/Line, worded by events, equal comparisons of its number
+-- with three counts. From the laws that the line lies within the run and that no message is received before it is sent.
 use mathlib.Core.Path.{_≡_, refl, sym, _∙_, ap}
 use mathlib.Core.Bool.{Bool, true, false, _&&_, _||_, not}
 use mathlib.Core.List.{[], append-nil}
@@ -39,8 +39,8 @@ not-leb a b = on (le? a b)
 -- ---- Counts
 
 module _ (R : Run) where
-  -- how many messages of the channel were received before the receiver's restart, were received by the cut, were sent before the
-  -- sender's restart
+  -- how many messages of the channel were received before the receiver's restart, were received by the cut, were sent
+  -- before the sender's restart
   abbrev pub rBefore : ℕ → ℕ → ℕ
   rBefore p q = rcvd (R .trace) p q (R .restart q)
 

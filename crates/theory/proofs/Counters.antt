@@ -1,5 +1,5 @@
--- A channel by two numbers: what flows through it is an ascending list told by one test, up to the first number it is taken, up to the second put in.
--- For code that has no queues. From the laws of the run and the invariants of Flow.
+-- A channel by two numbers: what flows through it is an ascending list told by one test, up to the first number it is
+-- taken, up to the second put in. For code that has no queues. From the laws of the run and the invariants of Flow.
 use mathlib.Core.Path.{_≡_, refl, sym, _∙_, ap}
 use mathlib.Core.Bool.{Bool, true, false, _||_}
 use mathlib.Core.List.{List, [], _∷_, _++_, append-assoc}

@@ -1,5 +1,5 @@
--- The epochs and phases of a valid trace meet the laws of a recorded run, for every rule of logging, cut and line: `laws`.
--- From the definitions of specs/Epochs and what a well-formed trace has (Events).
+-- The epochs and phases of a valid trace meet the laws of a recorded run, for every rule of logging, cut and line:
+-- `laws`. From the definitions of specs/Epochs and what a well-formed trace has (Events).
 use mathlib.Core.Path.{_≡_, refl, sym, _∙_, ap}
 use mathlib.Core.Logic.{_≢_}
 use mathlib.Core.Bool.{Bool, true, false, _&&_}

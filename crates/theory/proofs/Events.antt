@@ -1,4 +1,5 @@
--- The events of a trace by number: what a send, a receive, a checkpoint is, and messages by their events. From the definitions of specs/Events.
+-- The events of a trace by number: what a send, a receive, a checkpoint is, and messages by their events. From the
+-- definitions of specs/Events.
 use mathlib.Core.Path.{_≡_, refl, sym, _∙_, ap}
 use mathlib.Core.Logic.{_≢_}
 use mathlib.Core.Bool.{Bool, true, false, _&&_}

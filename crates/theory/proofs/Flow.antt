@@ -1,5 +1,6 @@
--- What every allowed choice keeps, whatever the line: the messages of a channel only move on from one list to the next (I1, I2), receives done
--- and to do add up (I3), and each process has its listed events from some event on. From the definitions of specs/Replay.
+-- What every allowed choice keeps, whatever the line: the messages of a channel only move on from one list to the next
+-- (I1, I2), receives done and to do add up (I3), and each process has its listed events from some event on. From the
+-- definitions of specs/Replay.
 use mathlib.Core.Path.{_≡_, refl, sym, _∙_, ap, subst}
 use mathlib.Core.Logic.{inl, inr}
 use mathlib.Core.Bool.{Bool, true, false, _&&_}

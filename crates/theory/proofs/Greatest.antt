@@ -1,5 +1,5 @@
--- Lowering gives the greatest line without loss, and it is the only one; and the floor. For any usable checkpoints, and any rule (the floor: `past`).
--- From the step of lowering (Lines).
+-- Lowering gives the greatest line without loss, and it is the only one; and the floor. For any usable checkpoints, and
+-- any rule (the floor: `past`). From the step of lowering (Lines).
 use mathlib.Core.Path.{_≡_, refl, sym, subst}
 use mathlib.Core.Logic.{_⊎_}
 use mathlib.Core.Bool.{Bool, true, false}

@@ -1,5 +1,5 @@
--- Lines by epochs: when a permitted line loses a message, how far a line without loss lies below one that loses it, and the floor.
--- For any rule and any set of usable checkpoints. From the laws of Epochs and the counting form of Classes.
+-- Lines by epochs: when a permitted line loses a message, how far a line without loss lies below one that loses it, and
+-- the floor. For any rule and any set of usable checkpoints. From the laws of Epochs and the counting form of Classes.
 use mathlib.Core.Path.{_≡_, refl, sym, _∙_, ap, subst}
 use mathlib.Core.Logic.{_⊎_, inl, inr, _≢_}
 use mathlib.Core.Bool.{Bool, true, false, not}
@@ -185,8 +185,8 @@ module _ (t : Trace) (rule : Rule) (A : Valid t) (cut : ℕ) (cl : cut ≤ size 
     pub number-of : (l : ℕ → ℕ) → Permitted t rule cut usable failed l → (z : ℕ) → z < t .procs → Number t rule cut z (l z)
     number-of l b z h = on (may-is usable failed z (l z) (b z h)) (λ u. inr (U .within z (l z) u)) (λ u. inl (u .0))
 
-    -- The step of lowering. A message lost under line m: a line without loss that is not above m has its sender at most in the last
-    -- usable epoch that is not above the epoch of the send; and that is below m.
+    -- The step of lowering. A message lost under line m: a line without loss that is not above m has its sender at most
+    -- in the last usable epoch that is not above the epoch of the send; and that is below m.
     module _ (m : ℕ → ℕ) (b : Permitted t rule cut usable failed m) (p q k : ℕ) (h : lost (recorded t rule cut m) p q k ≡ true) where
       x : ByEpochs t rule cut m p q k
       x = lost-epochs m p q k (number-of m b p ((lost-in m p q k h) .0)) (number-of m b q ((lost-in m p q k h) .1)) h

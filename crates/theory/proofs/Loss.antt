@@ -1,5 +1,6 @@
--- What flows through a channel: all its messages where none is lost, and never a lost one; so a record that lacks nothing shows that nothing is
--- lost, in every state that an order leads to. From the laws of the run and the invariants of Flow.
+-- What flows through a channel: all its messages where none is lost, and never a lost one; so a record that lacks
+-- nothing shows that nothing is lost, in every state that an order leads to. From the laws of the run and the
+-- invariants of Flow.
 use mathlib.Core.Path.{_≡_, refl, sym, _∙_, ap}
 use mathlib.Core.Logic.{inl, inr}
 use mathlib.Core.Bool.{true, false}
@@ -115,7 +116,8 @@ module _ (R : Run) where
     pub same-numbers : (p q : ℕ) (xs ys : List ℕ) → map (entry R p q) xs ≡ map (entry R p q) ys → xs ≡ ys
     same-numbers p q xs ys e = sym (numbers p q xs) ∙ ap (map (λ (r : ℕ × ℕ). r .0)) e ∙ numbers p q ys
 
-    -- an order from a line that loses a message of the channel does not give the channel's faultless record, complete or not
+    -- an order from a line that loses a message of the channel does not give the channel's faultless record, complete
+    -- or not
     pub same-no-loss-at : (s : State) → Inv R s → (p q : ℕ) → delivered R s p q ≡ faultless R p q → (k : ℕ) → Lost R p q k → ⊥
     unfolding delivered faultless
     same-no-loss-at s i p q e k l =

@@ -1,5 +1,5 @@
--- The order that always picks the lowest allowed choice: its choices are the lowest, and it is complete; so every line has a complete order.
--- From Orders and the work that is left (Steps).
+-- The order that always picks the lowest allowed choice: its choices are the lowest, and it is complete; so every line
+-- has a complete order. From Orders and the work that is left (Steps).
 use mathlib.Core.Path.{_≡_, refl, sym, _∙_, ap, subst}
 use mathlib.Core.Logic.{_↔_}
 use mathlib.Core.List.{[], _∷_}

@@ -1,5 +1,6 @@
--- Orders of choice numbers: what they reach, when they are complete, and the theorem: a complete order leaves the record of the run without
--- failure exactly where the line loses no message. From the laws of the run, by Loss, Ready and Steps.
+-- Orders of choice numbers: what they reach, when they are complete, and the theorem: a complete order leaves the
+-- record of the run without failure exactly where the line loses no message. From the laws of the run, by Loss, Ready
+-- and Steps.
 use mathlib.Core.Path.{_≡_, refl, sym, _∙_, ap, subst}
 use mathlib.Core.Logic.{_↔_, _≢_}
 use mathlib.Core.Bool.{true, false}
@@ -104,7 +105,8 @@ module _ (R : Run) where
       let e : 0 + length order ≡ length order = omega arith in
       rw e at (reaches (start R) s 0 1 order here h)
 
-  -- an order that is refused at place i: the choices before it are carried out, and choice i is not allowed in what they leave
+  -- an order that is refused at place i: the choices before it are carried out, and choice i is not allowed in what
+  -- they leave
   refused-at : (s : State) (i j : ℕ) (ns : List ℕ) → carry R s i ns ≡ refused j
       → (m : ℕ) × (u : State) × (j ≡ i + m) × (m < length ns) × (carry R s i (take m ns) ≡ carriedOut u) × (choose R u (getD ns m 0) ≡ none)
   unfolding carry

@@ -1,7 +1,8 @@
--- Where no message is lost, an event in reach makes a choice allowed, provided that the phases it waits for do: the general part of progress.
--- From the laws of the run and the invariants of Flow. How: take the next listed event of the event's process. It goes ahead, or it waits
--- for its gate or for the phase of a kept message (then a set of events `Pass` says what to do), or it is a receive that finds nothing: then the send
--- of its message is still to do, is an earlier event, and serves in its place.
+-- Where no message is lost, an event in reach makes a choice allowed, provided that the phases it waits for do: the
+-- general part of progress. From the laws of the run and the invariants of Flow. How: take the next listed event of the
+-- event's process. It goes ahead, or it waits for its gate or for the phase of a kept message (then a set of events
+-- `Pass` says what to do), or it is a receive that finds nothing: then the send of its message is still to do, is an
+-- earlier event, and serves in its place.
 use mathlib.Core.Path.{_≡_, refl, sym, _∙_, ap}
 use mathlib.Core.Bool.{true, false}
 use mathlib.Core.List.{List, [], _∷_, _++_}

@@ -1,7 +1,8 @@
--- From a line without loss a choice is allowed until every process has done all its events. From the laws on phases, by Progress.
--- How: a phase r that is not ready waits for an orphan whose send is up to the cut and of phase r or less. Among such events Progress meets only
--- gates and kept messages of a phase below r (a process that goes back has its gate below its events, a kept message that a receive wants is logged): so
--- by recursion on r a choice is allowed. With that, all events serve.
+-- From a line without loss a choice is allowed until every process has done all its events. From the laws on phases, by
+-- Progress. How: a phase r that is not ready waits for an orphan whose send is up to the cut and of phase r or less.
+-- Among such events Progress meets only gates and kept messages of a phase below r (a process that goes back has its
+-- gate below its events, a kept message that a receive wants is logged): so by recursion on r a choice is allowed. With
+-- that, all events serve.
 use mathlib.Core.Path.{_≡_, refl, sym, _∙_, ap}
 use mathlib.Core.Logic.{_≢_}
 use mathlib.Core.Bool.{true, false}
@@ -55,7 +56,8 @@ module _ (R : Run) where
     abbrev Waits : ℕ → ℕ → ℕ → Type 0
     Waits r z e = (at (R .trace) e ≡ z) × (i .cursors .upTo z < e) × (e ≤ size (R .trace)) × (e ≤ R .cut) × (ph e ≤ r)
 
-    -- a phase that is not ready: the orphan that it waits for. Its send is one of before the cut, and its phase is its sender's
+    -- a phase that is not ready: the orphan that it waits for. Its send is one of before the cut, and its phase is its
+    -- sender's
     waits : (r : ℕ) → ready R s r ≡ false → (z : ℕ) × (e : ℕ) × Waits r z e
     unfolding ready orphan sentAfter orphanPhase
     waits r h =

@@ -195,7 +195,8 @@ module _ (t : Trace) (step set count : ℕ) (line : ℕ → ℕ) where
     λ r. failure-rest t step set (orElse (not fits) 10 0) (r .0) ∙ by fits (λ f. absurd (r .1 ((fits-iff .0) f))) (λ f. rw f refl),
   )
 
--- ---- Rows: of two processes and no event, the sets that name 2; none; 0 and 1; the step 1, with the set that names none
+-- ---- Rows: of two processes and no event, the sets that name 2; none; 0 and 1; the step 1, with the set that names
+-- none
 
 abbrev pub quiet : Trace
 quiet = record { procs = 2; events = [] }

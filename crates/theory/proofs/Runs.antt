@@ -1,4 +1,5 @@
--- Runs that tell the definitions from plausible mistakes (PROOF-PLAN, section 8), by computation from the definitions alone.
+-- Runs that tell the definitions from plausible mistakes (PROOF-PLAN, section 8), by computation from the definitions
+-- alone.
 use mathlib.Core.Path.{_≡_, refl}
 use mathlib.Core.Bool.{Bool, true, false, _&&_, not}
 use mathlib.Core.List.{List, [], _∷_, map}
@@ -37,8 +38,8 @@ at-cut es cut l = recorded (two es) past cut (lineOf l)
 abbrev line-of : List Event → ℕ → ℕ → ℕ → ℕ
 line-of es cut set = greatestLine (two es) past cut (reached (two es) past cut) (inSet set)
 
--- the order is refused at a place; it is complete and leaves the record of the run without failure; it is complete and does every event, but
--- leaves another record
+-- the order is refused at a place; it is complete and leaves the record of the run without failure; it is complete and
+-- does every event, but leaves another record
 abbrev pub stops : Run → List ℕ → ℕ → Bool
 stops R order i = eqb (placeOf (run R order)) i
 
@@ -99,7 +100,8 @@ d1-holds : d1 ≡ true
 unfolding opens d1 every
 d1-holds = refl
 
--- a staying process waits for its phase at the cut, one that goes back does not wait for the orphans that it sends first itself
+-- a staying process waits for its phase at the cut, one that goes back does not wait for the orphans that it sends
+-- first itself
 unfoldable d2 : Bool
 d2 = stops (at-cut t2 2 (1 ∷ 32 ∷ [])) (1 ∷ []) 1 && completes (at-cut t2 2 (1 ∷ 32 ∷ [])) (0 ∷ 1 ∷ [])
 

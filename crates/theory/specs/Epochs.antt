@@ -1,5 +1,5 @@
--- Epochs, phases, logged messages (document 01, "Epochs, phases, kept messages"), for any rule that says of each received message
--- whether it is logged.
+-- Epochs, phases, logged messages (document 01, "Epochs, phases, kept messages"), for any rule that says of each
+-- received message whether it is logged.
 use mathlib.Core.Bool.{Bool, true, false}
 use Prim.Native.Nat.{ℕ, zero, suc, max}
 use lib.Dec.{ltb}
@@ -22,14 +22,15 @@ pub record Carried : Type 0 where
   pub epoch : ℕ
   pub phase : ℕ
 
--- What the protocol has noted when some events are done: each process's epoch and phase, and what message k from p to q carries.
+-- What the protocol has noted when some events are done: each process's epoch and phase, and what message k from p to q
+-- carries.
 pub record Notes : Type 0 where
   pub epochs : ℕ → ℕ
   pub phases : ℕ → ℕ
   pub carried : ℕ → ℕ → ℕ → Carried
 
--- "At a receive the phase becomes the larger of the zone's own and the message's, or, if logged, of the zone's own and the
--- message's plus 1." The process's phase f, the message's m.
+-- "At a receive the phase becomes the larger of the zone's own and the message's, or, if logged, of the zone's own and
+-- the message's plus 1." The process's phase f, the message's m.
 abbrev pub joined : Bool → ℕ → ℕ → ℕ
 joined true f m = max f (suc m)
 joined false f m = max f m
@@ -73,8 +74,8 @@ module _ (t : Trace) (rule : Rule) where
   abbrev pub phaseAt : ℕ → ℕ → ℕ
   phaseAt z x = (notes x) .phases z
 
-  -- of message k from p to q: its epoch and its phase, and, if it is received, whether it is logged (a receive changes no epoch, so
-  -- that the receiver's epoch is the one after it)
+  -- of message k from p to q: its epoch and its phase, and, if it is received, whether it is logged (a receive changes
+  -- no epoch, so that the receiver's epoch is the one after it)
   abbrev pub epochOf : ℕ → ℕ → ℕ → ℕ
   epochOf p q k = ((notes (size t)) .carried p q k) .epoch
 

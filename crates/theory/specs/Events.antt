@@ -1,4 +1,5 @@
--- Events, channels and message numbers of a trace (document 01, "The trace text"). A process is document 01's zone, a checkpoint its save.
+-- Events, channels and message numbers of a trace (document 01, "The trace text"). A process is document 01's zone, a
+-- checkpoint its save.
 use mathlib.Core.Bool.{Bool}
 use Prim.Native.Nat.{ℕ, zero, suc}
 use lib.ListN.{length, getD}
@@ -24,8 +25,8 @@ processOf (Recv at from) = at
 processOf (Save at) = at
 
 module _ (t : Trace) where
-  -- "events, numbered from 1 in text order": how many there are, and event e. Under any other number stands a checkpoint of
-  -- process N, which is no process of the trace.
+  -- "events, numbered from 1 in text order": how many there are, and event e. Under any other number stands a
+  -- checkpoint of process N, which is no process of the trace.
   abbrev pub size : ℕ
   size = length (t .events)
 
@@ -50,8 +51,9 @@ module _ (t : Trace) where
   unfoldable pub checkpoints : ℕ → ℕ → Bool
   checkpoints z e = isSave z (eventAt e)
 
-  -- "A message is named by sender, receiver and its number on that channel, from 1." How many are sent, how many received on the
-  -- channel up to event x: a send e has number `sent p q e`. "A takes the oldest message in transit": a receive e takes number `rcvd p q e`.
+  -- "A message is named by sender, receiver and its number on that channel, from 1." How many are sent, how many
+  -- received on the channel up to event x: a send e has number `sent p q e`. "A takes the oldest message in transit": a
+  -- receive e takes number `rcvd p q e`.
   unfoldable pub sent : ℕ → ℕ → ℕ → ℕ
   sent p q x = cnt (sends p q) x
 

@@ -17,7 +17,8 @@ pub record Laws (R : Run) : Type 0 where
   pub phase-pos : (z : ℕ) → 0 < R .phase z 0
   pub phase-up : (z x : ℕ) → R .phase z x ≤ R .phase z (suc x)
   pub phase-checkpoint : (z x : ℕ) → checkpoints (R .trace) z (suc x) ≡ true → R .phase z x < R .phase z (suc x)
-  -- a message carries its sender's phase at the send; its receiver's phase after the receive is not below it, and above it if it is logged
+  -- a message carries its sender's phase at the send; its receiver's phase after the receive is not below it, and above
+  -- it if it is logged
   pub carries-send : (p q e : ℕ) → sends (R .trace) p q e ≡ true → 0 < e → e ≤ size (R .trace)
       → R .carries p q (sent (R .trace) p q e) ≡ R .phase p e
   pub carries-recv : (p q e : ℕ) → recvs (R .trace) p q e ≡ true → 0 < e → e ≤ size (R .trace)

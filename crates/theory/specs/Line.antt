@@ -1,4 +1,5 @@
--- The recovery line (document 01, "The restart line"): what a line may hold, where it restarts each process, and what becomes of each message.
+-- The recovery line (document 01, "The restart line"): what a line may hold, where it restarts each process, and what
+-- becomes of each message.
 use mathlib.Core.Path.{_≡_}
 use mathlib.Core.Bool.{Bool, true, false, _&&_, _||_, not}
 use mathlib.Core.Option.{Option, none, some}
@@ -9,7 +10,8 @@ use Rattle.theory.specs.Lists.{pick, place, lastOf, ifSome, first, put}
 use Rattle.theory.specs.Events.{size, checkpoints, sendOf, recvOf}
 use Rattle.theory.specs.Epochs.{Rule, epochAt, phaseAt, epochOf, phaseOf, loggedBy}
 
--- ---- The failure: the cut, "right after event K", and who failed: "M a 64-bit number in decimal whose bit z says that zone z failed"
+-- ---- The failure: the cut, "right after event K", and who failed: "M a 64-bit number in decimal whose bit z says that
+-- zone z failed"
 abbrev pub inSet : ℕ → ℕ → Bool
 inSet m z = eqb (m / 2 ^ z % 2) 1
 
@@ -17,12 +19,14 @@ inSet m z = eqb (m / 2 ^ z % 2) 1
 abbrev pub staysIn : (ℕ → ℕ) → ℕ → Bool
 staysIn line z = eqb (line z) 32
 
--- "A restart in an epoch is right after the save that raised the zone to it, in epoch 1 at the zone's start. For a zone that
--- stays, the cut takes the place of its restart in every rule." Checkpoint number e - 1 of the process raised it to epoch e.
+-- "A restart in an epoch is right after the save that raised the zone to it, in epoch 1 at the zone's start. For a zone
+-- that stays, the cut takes the place of its restart in every rule." Checkpoint number e - 1 of the process raised it
+-- to epoch e.
 unfoldable pub restartIn : Trace → ℕ → (ℕ → ℕ) → ℕ → ℕ
 restartIn t cut line z = pick (staysIn line z) cut (place (checkpoints t z) (line z - 1) cut)
 
--- What a line may hold for process z, where `usable z e` says that it can restart in epoch e: such an epoch, or 32. "Failed zones may not stay."
+-- What a line may hold for process z, where `usable z e` says that it can restart in epoch e: such an epoch, or 32.
+-- "Failed zones may not stay."
 abbrev pub may : (ℕ → ℕ → Bool) → (ℕ → Bool) → ℕ → ℕ → Bool
 may usable failed z n = usable z n || (eqb n 32 && not (failed z))
 
@@ -123,8 +127,8 @@ module _ (t : Trace) (rule : Rule) (cut : ℕ) where
       pub permitted : Permitted l
       pub top : (m : ℕ → ℕ) → Permitted m → LossFree (recorded m) → (z : ℕ) → z < t .procs → m z ≤ l z
 
-  -- ---- The same line by lowering: from the highest permitted line, as long as a message is lost, its sender goes down to the last
-  -- usable epoch that is not above the epoch of the send
+  -- ---- The same line by lowering: from the highest permitted line, as long as a message is lost, its sender goes down
+  -- to the last usable epoch that is not above the epoch of the send
   module _ (usable : ℕ → ℕ → Bool) where
     abbrev pub lower : (ℕ → ℕ) → ℕ → ℕ → ℕ → ℕ → ℕ
     lower l p q k = put l p (lastOf (usable p) (epochOf t rule p q k))

@@ -1,4 +1,5 @@
--- Small tools: a choice by a test, numbers in a row, what a test keeps or counts of them, one place of a function changed.
+-- Small tools: a choice by a test, numbers in a row, what a test keeps or counts of them, one place of a function
+-- changed.
 use mathlib.Core.Bool.{Bool, true, false, _&&_, _||_, not}
 use mathlib.Core.List.{List, [], _∷_}
 use mathlib.Core.Option.{Option, none, some}

@@ -1,4 +1,5 @@
--- Orders of choice numbers (document 01, "Gates and steps"): allowed, carried out or refused at a place, complete, the lowest order.
+-- Orders of choice numbers (document 01, "Gates and steps"): allowed, carried out or refused at a place, complete, the
+-- lowest order.
 use mathlib.Core.Path.{_≡_}
 use mathlib.Core.Bool.{Bool, true, false}
 use mathlib.Core.List.{List, [], _∷_}
@@ -11,7 +12,8 @@ use Rattle.theory.specs.Events.{size}
 use Rattle.theory.specs.Line.{Run}
 use Rattle.theory.specs.Replay.{Choice, process, hand, State, step, start}
 
--- "An order is a list of 16-bit choice numbers." "0 to 63: that zone"; "64 + 64·P + Q"; "Any other number isn't allowed."
+-- "An order is a list of 16-bit choice numbers." "0 to 63: that zone"; "64 + 64·P + Q"; "Any other number isn't
+-- allowed."
 unfoldable pub choiceOf : ℕ → Option Choice
 choiceOf c = pick (ltb c 64) (some (process c)) (pick (ltb c 4160) (some (hand ((c - 64) / 64) ((c - 64) % 64))) none)
 

@@ -1,5 +1,5 @@
--- The numbers 8 to 11, "Who names the failure and the replay" (document 01): what is wrong with a failure, a line, an order, or 0. The first
--- that is wrong decides, in that order.
+-- The numbers 8 to 11, "Who names the failure and the replay" (document 01): what is wrong with a failure, a line, an
+-- order, or 0. The first that is wrong decides, in that order.
 use mathlib.Core.Path.{_≡_}
 use mathlib.Core.Bool.{Bool, true, _&&_, _||_, not}
 use Prim.Native.Nat.{ℕ, _^_, _≤_, _<_}
@@ -12,8 +12,8 @@ use Rattle.theory.specs.Epochs.{past}
 use Rattle.theory.specs.Line.{inSet, may, reached, Permitted}
 use Rattle.theory.specs.Order.{Outcome, carriedOut, refused}
 
--- "8: K is beyond the last event. 9: the set is empty or names a zone N or more." Bit z of the set names process z, so that a set which
--- names none but processes below N is below 2 to the N. With `rest`, what is looked for next.
+-- "8: K is beyond the last event. 9: the set is empty or names a zone N or more." Bit z of the set names process z, so
+-- that a set which names none but processes below N is below 2 to the N. With `rest`, what is looked for next.
 abbrev pub failureOr : Trace → ℕ → ℕ → ℕ → ℕ
 failureOr t step set rest = orElse (ltb (size t) step) 8 (orElse (eqb set 0 || leb (2 ^ (t .procs)) set) 9 rest)
 
@@ -24,7 +24,8 @@ failureFault t step set = failureOr t step set 0
 unfoldable pub permits : Trace → (ℕ → ℕ → Bool) → (ℕ → Bool) → (ℕ → ℕ) → Bool
 permits t usable failed line = all-below (t .procs) (λ z. may usable failed z (line z))
 
--- "10: the line hasn't N numbers, or one isn't permitted." The line comes with the count of its numbers; places past it aren't read.
+-- "10: the line hasn't N numbers, or one isn't permitted." The line comes with the count of its numbers; places past it
+-- aren't read.
 unfoldable pub lineFault : Trace → ℕ → ℕ → ℕ → (ℕ → ℕ) → ℕ
 lineFault t step set count line =
     failureOr t step set (orElse (not (eqb count (t .procs) && permits t (reached t past step) (inSet set) line)) 10 0)

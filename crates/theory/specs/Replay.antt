@@ -1,4 +1,5 @@
--- The replay machine (document 01, "Gates and steps"): its states, when a phase is ready, and the one step of each choice.
+-- The replay machine (document 01, "Gates and steps"): its states, when a phase is ready, and the one step of each
+-- choice.
 use mathlib.Core.Path.{_≡_}
 use mathlib.Core.Bool.{Bool, true, false, _&&_, not}
 use mathlib.Core.List.{List, [], _∷_, _++_, map}
@@ -14,8 +15,8 @@ pub data Choice : Type 0 where
   process : ℕ → Choice
   hand : ℕ → ℕ → Choice
 
--- A state: of each process the listed events still to do, by number; of each channel the numbers of the kept messages not yet handed
--- over, of the messages in the channel, oldest first, and of those that its receiver received.
+-- A state: of each process the listed events still to do, by number; of each channel the numbers of the kept messages
+-- not yet handed over, of the messages in the channel, oldest first, and of those that its receiver received.
 pub record State : Type 0 where
   pub todo : ℕ → List ℕ
   pub left : ℕ → ℕ → List ℕ
@@ -35,7 +36,8 @@ module _ (R : Run) where
   unfoldable pub takenBy : ℕ → ℕ → ℕ → List ℕ
   takenBy p q x = map (rcvd (R .trace) p q) (keep (recvs (R .trace) p q) (iv 0 x))
 
-  -- "The first choice finds the zones at their restarts, all channels empty, no kept message handed over and no orphan sent again"
+  -- "The first choice finds the zones at their restarts, all channels empty, no kept message handed over and no orphan
+  -- sent again"
   abbrev pub start : State
   start = record { todo = λ z. listed z (R .restart z); left = keptOn; chan = λ p q. []; got = λ p q. takenBy p q (R .restart q) }
 
@@ -53,8 +55,8 @@ module _ (R : Run) where
   unfoldable pub ready : State → ℕ → Bool
   ready s r = all-below (R .trace .procs) (λ z. no-one (λ e. resends r z e (kind (R .trace) e)) (s .todo z))
 
-  -- "A zone that goes back may run when its phase at restart, less 1, is ready. A zone that stays may run when its phase at the
-  -- cut is ready." (The cut takes the place of its restart.)
+  -- "A zone that goes back may run when its phase at restart, less 1, is ready. A zone that stays may run when its
+  -- phase at the cut is ready." (The cut takes the place of its restart.)
   unfoldable pub gate : ℕ → ℕ
   gate z = pick (R .stays z) (R .phase z (R .restart z)) (R .phase z (R .restart z) - 1)
 
@@ -62,8 +64,8 @@ module _ (R : Run) where
   abbrev pub moved : State → ℕ → List ℕ → State
   moved s z es = record { todo = put (s .todo) z es; left = s .left; chan = s .chan; got = s .got }
 
-  -- "a sent message whose number is at most how many the receiver had received on that channel before its restart is dropped
-  -- instead": what the send e of z leaves in the channel to q
+  -- "a sent message whose number is at most how many the receiver had received on that channel before its restart is
+  -- dropped instead": what the send e of z leaves in the channel to q
   abbrev pub joins : State → ℕ → ℕ → ℕ → List ℕ
   joins s z q e =
       pick (leb (sent (R .trace) z q e) (rcvd (R .trace) z q (R .restart q))) (s .chan z q) (s .chan z q ++ sent (R .trace) z q e ∷ [])
@@ -118,7 +120,8 @@ module _ (R : Run) where
   abbrev pub entry : ℕ → ℕ → ℕ → ℕ × ℕ
   entry p q k = (k, value (R .trace) p q k)
 
-  -- the delivery record of a channel in a replay; "In the run without failure these are its receives in the whole trace"
+  -- the delivery record of a channel in a replay; "In the run without failure these are its receives in the whole
+  -- trace"
   unfoldable pub delivered : State → ℕ → ℕ → List (ℕ × ℕ)
   delivered s p q = map (entry p q) (s .got p q)
 

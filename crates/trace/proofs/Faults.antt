@@ -1,4 +1,5 @@
--- What a fit event has, one law for each way out of the functions that judge an event by counters, and that these judge by the events counted.
+-- What a fit event has, one law for each way out of the functions that judge an event by counters, and that these judge
+-- by the events counted.
 use Prim.Native.Nat.{ℕ, _+_, _*_, _<_, _≤_}
 use mathlib.Core.Path.{_≡_, refl, _∙_}
 use mathlib.Core.List.{List, []}

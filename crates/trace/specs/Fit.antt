@@ -13,8 +13,9 @@ abbrev pub orElse : Bool → ℕ → ℕ → ℕ
 orElse true n rest = n
 orElse false n rest = rest
 
--- What is wrong with an event of a run of n processes after the events `before`: the number 3, 4, 5 or 6, or 0.
--- 3: a process is n or more. 4: a process sends to or receives from itself. 5: a receive with nothing in transit. 6: a 31st save.
+-- What is wrong with an event of a run of n processes after the events `before`: the number 3, 4, 5 or 6, or 0. 3: a
+-- process is n or more. 4: a process sends to or receives from itself. 5: a receive with nothing in transit. 6: a 31st
+-- save.
 unfoldable pub faultOf : ℕ → List Event → Event → ℕ
 faultOf n before (Send at to val) = orElse (leb n at) 3 (orElse (leb n to) 3 (orElse (eqb at to) 4 0))
 faultOf n before (Recv at from) =

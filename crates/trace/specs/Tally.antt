@@ -9,7 +9,8 @@ use Rattle.trace.specs.declared.Event.the-variants.{Send, Recv, Save}
 use Rattle.trace.specs.Trace.{sends, recvs, saves}
 use Rattle.trace.specs.Fit.{orElse, faultOf}
 
--- The counters after some events: word 64 p + q has how many messages are in transit from p to q, word 4096 + z how many checkpoints z has made.
+-- The counters after some events: word 64 p + q has how many messages are in transit from p to q, word 4096 + z how
+-- many checkpoints z has made.
 pub record Tally (counts : List ℕ) (es : List Event) : Type 0 where
   pub size : length counts ≡ 4160
   pub transit : (p q : ℕ) → p < 64 → q < 64 → getD counts (64 * p + q) 0 + recvs p q es ≡ sends p q es

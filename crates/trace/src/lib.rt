@@ -1,6 +1,6 @@
-// What a trace is, and events judged one after another. The definitions are in specs/: Trace (events and traces), Fit (which
-// traces are well formed), Table (the words of the table area that hold a trace) and Tally (counters that events are judged by).
-// Assumes nothing.
+// What a trace is, and events judged one after another. The definitions are in specs/: Trace (events and traces), Fit
+// (which traces are well formed), Table (the words of the table area that hold a trace) and Tally (counters that events
+// are judged by). Assumes nothing.
 ghost use mathlib.Core.List.{List};
 ghost use Prim.Native.Nat.{ℕ, _+_, _-_, _*_, _/_, _%_, _≤_, _<_};
 ghost use lib.ListN.{length, getD, set};
@@ -16,7 +16,8 @@ pub enum Event {
     Save { at: u64 },
 }
 
-// Where the planes of the table area begin: the word of event e, from 1, is at EVENT_BASE + e, its value at VALUE_BASE + e.
+// Where the planes of the table area begin: the word of event e, from 1, is at EVENT_BASE + e, its value at VALUE_BASE
+// + e.
 pub const EVENT_BASE: usize = 16;
 
 pub const VALUE_BASE: usize = 2065;
@@ -64,8 +65,8 @@ pub fn peer(w: u32) -> usize
     (w / 64 % 64) as usize
 }
 
-// How many counters there are: messages in transit, a word for each channel, then checkpoints, a word for each process. Counters have 16
-// bits, so that they take less to clear.
+// How many counters there are: messages in transit, a word for each channel, then checkpoints, a word for each process.
+// Counters have 16 bits, so that they take less to clear.
 pub const COUNTS: usize = 4160;
 
 const SAVES_BASE: usize = 4096;

@@ -1,4 +1,5 @@
--- Bytes written into a lent buffer, one after another. A full buffer takes no more: what is written is the front of the bytes.
+-- Bytes written into a lent buffer, one after another. A full buffer takes no more: what is written is the front of the
+-- bytes.
 use Prim.Native.Nat.{ℕ, _+_}
 use mathlib.Core.Path.{_≡_}
 use mathlib.Core.Bool.{Bool, true, false}

@@ -1,5 +1,5 @@
-// Writing text into a lent buffer: bytes, decimal numbers, and keys with their numbers. A function is given the place of its first byte and
-// answers that of the next; a full buffer takes no more (specs/Buffer). Assumes nothing.
+// Writing text into a lent buffer: bytes, decimal numbers, and keys with their numbers. A function is given the place
+// of its first byte and answers that of the next; a full buffer takes no more (specs/Buffer). Assumes nothing.
 ghost use mathlib.Core.Path.{_≡_};
 ghost use mathlib.Core.List.{[], _∷_, _++_};
 ghost use Prim.Native.Nat.{_+_, _/_, _%_, _<_, _≤_};

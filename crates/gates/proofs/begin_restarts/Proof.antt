@@ -1,4 +1,5 @@
--- `gates::begin_restarts` meets its contract: after z turns the three words of the first z processes are those before the first event.
+-- `gates::begin_restarts` meets its contract: after z turns the three words of the first z processes are those before
+-- the first event.
 use mathlib.Core.Path.{_≡_, sym, _∙_}
 use Prim.Native.Nat.{_-_, _≤_}
 use lib.ListN.{length, length-set}

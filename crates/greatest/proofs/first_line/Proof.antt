@@ -1,4 +1,5 @@
--- `greatest::first_line` meets its contract: after z turns the first z numbers are those of the first line, the others as they were.
+-- `greatest::first_line` meets its contract: after z turns the first z numbers are those of the first line, the others
+-- as they were.
 use mathlib.Core.Path.{_≡_, refl}
 use Prim.Native.Nat.{ℕ, _-_, _≤_, _<_}
 use lib.ListN.{length, getD, length-set}

@@ -1,5 +1,5 @@
--- `greatest::greatest` meets its contract: the first line, lowered until nothing is lost, is the theory's line; epochs and phases are those of the
--- newest events before and after that.
+-- `greatest::greatest` meets its contract: the first line, lowered until nothing is lost, is the theory's line; epochs
+-- and phases are those of the newest events before and after that.
 use mathlib.Core.Path.{_≡_, _∙_}
 use lib.ListN.{length}
 use Rattle.words.proofs.Area.{zero-word}

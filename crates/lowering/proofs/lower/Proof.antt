@@ -1,5 +1,6 @@
--- `lowering::lower` meets its contract: the events after the newest that are left are undone and settled, and no process outside of the pending
--- ones has another to look at; each look takes from the sum of what is left, and where there is none, a process leaves.
+-- `lowering::lower` meets its contract: the events after the newest that are left are undone and settled, and no
+-- process outside of the pending ones has another to look at; each look takes from the sum of what is left, and where
+-- there is none, a process leaves.
 use mathlib.Core.Path.{_≡_, sym, _∙_}
 use mathlib.Core.Bool.{true}
 use Prim.Native.Nat.{ℕ, _+_, _*_, _^_, _<_}

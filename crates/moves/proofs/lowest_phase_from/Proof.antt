@@ -1,4 +1,5 @@
--- `moves::lowest_phase_from` meets its contract: what is found is not below the least, and the least is not below what none is below.
+-- `moves::lowest_phase_from` meets its contract: what is found is not below the least, and the least is not below what
+-- none is below.
 use Prim.Native.Nat.{_-_, _≤_}
 use Rattle.machine.proofs.Steps.{low-found}
 use Rattle.machine.specs.Words.{lowOf}

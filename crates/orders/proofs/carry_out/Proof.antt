@@ -1,4 +1,5 @@
--- `orders::carry_out` meets its contract: what is still to do of the order comes to what the whole of it does, for every run that the words stand for.
+-- `orders::carry_out` meets its contract: what is still to do of the order comes to what the whole of it does, for
+-- every run that the words stand for.
 use mathlib.Core.Path.{_≡_, refl, sym, _∙_}
 use Prim.Native.Nat.{_-_, _≤_}
 use native.Mathlib.Omega.{arith}

@@ -1,5 +1,5 @@
--- `reader::read_events` meets its contract: between two lines the table and the counters are those of the events so far, and what
--- the lines from here give is what they give from the start.
+-- `reader::read_events` meets its contract: between two lines the table and the counters are those of the events so
+-- far, and what the lines from here give is what they give from the start.
 use Prim.Native.Nat.{ℕ, _≤_, _-_, _+_}
 use mathlib.Core.Path.{_≡_, refl, sym, ap, _∙_}
 use mathlib.Core.List.{List, [], _∷_, _++_}

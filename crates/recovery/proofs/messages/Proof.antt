@@ -1,4 +1,5 @@
--- `recovery::messages` meets its contract: a refusal changes nothing; otherwise the list is laid down in the first 16,384 words.
+-- `recovery::messages` meets its contract: a refusal changes nothing; otherwise the list is laid down in the first
+-- 16,384 words.
 use mathlib.Core.Path.{sym}
 use lib.Seq.{length-take-le}
 use Rattle.words.specs.Area.{areaWords}

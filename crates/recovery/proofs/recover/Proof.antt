@@ -1,4 +1,5 @@
--- `recovery::recover` meets its contract: a refusal changes nothing; otherwise the list of the messages takes the place of the table.
+-- `recovery::recover` meets its contract: a refusal changes nothing; otherwise the list of the messages takes the place
+-- of the table.
 use lib.Seq.{length-take-le}
 use Rattle.words.specs.Area.{areaWords}
 use Rattle.table.specs.Held.{held}

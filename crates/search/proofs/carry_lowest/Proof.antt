@@ -1,5 +1,5 @@
--- `search::carry_lowest` meets its contract: what is still to do of the order of lowest choices comes to what the whole of it does, and the search
--- leaves nothing out.
+-- `search::carry_lowest` meets its contract: what is still to do of the order of lowest choices comes to what the whole
+-- of it does, and the search leaves nothing out.
 use mathlib.Core.Path.{refl, sym, _∙_}
 use mathlib.Core.Logic.{⊎-elim}
 use Prim.Native.Nat.{_-_, _≤_, _<_}

@@ -1,4 +1,5 @@
--- `search::lowest` meets its contract: the words that it begins with stand for every run that is given, and twice its events bound the order.
+-- `search::lowest` meets its contract: the words that it begins with stand for every run that is given, and twice its
+-- events bound the order.
 use mathlib.Core.Path.{_≡_, refl, _∙_}
 use native.Mathlib.Omega.{arith}
 use Rattle.theory.specs.Epochs.{past}

@@ -1,4 +1,5 @@
--- `search::next_receiver` meets its contract: no receiver that was looked at is ready, the least phase of those that wait, and the set of those that keep a message.
+-- `search::next_receiver` meets its contract: no receiver that was looked at is ready, the least phase of those that
+-- wait, and the set of those that keep a message.
 use mathlib.Core.Path.{_≡_, refl, sym, _∙_}
 use Prim.Native.Nat.{_^_, _<_}
 use lib.ListN.{length}

@@ -1,5 +1,5 @@
--- `table::events_fit` meets its contract: before event number i the counters are those of the events before it, and what the tests
--- from here say is what they say from event 1.
+-- `table::events_fit` meets its contract: before event number i the counters are those of the events before it, and
+-- what the tests from here say is what they say from event 1.
 use mathlib.Core.Path.{_≡_, refl, sym, _∙_}
 use mathlib.Core.List.{List, [], _∷_, _++_}
 use Prim.Native.Nat.{_+_, _-_, _≤_}

@@ -1,4 +1,5 @@
--- `text::push` meets its contract: below a tenth of the bound (and below ROOM) any digit fits, above it none, and otherwise the digit is compared.
+-- `text::push` meets its contract: below a tenth of the bound (and below ROOM) any digit fits, above it none, and
+-- otherwise the digit is compared.
 use mathlib.Core.Path.{sym, ap, _∙_}
 use native.Mathlib.Omega.{arith}
 use borrow.Author.Needs.{needs}
