@@ -44,7 +44,7 @@ pub record Columns (t : Trace) (full : List ℕ) : Type 0 where
   pub match-recv : (p q e : ℕ) → recvs t p q e ≡ true → 0 < e → e ≤ size t → getD full (matchBase + e) 0 ≡ sendOf t p q (rcvd t p q e)
 
 -- The words that `Columns` does not name, where the columns of the first x events are filled in a table that was
--- `before`. With x = size t both records together name every word (`one-table`, proofs/Claims).
+-- `before`. With x = size t both records together name every word (`one-table` of crate protocol).
 pub record Others (t : Trace) (x : ℕ) (before after : List ℕ) : Type 0 where
   -- a checkpoint has no message
   pub number-checkpoint : (z e : ℕ) → checkpoints t z e ≡ true → 0 < e → e ≤ x → getD after (numberBase + e) 0 ≡ 0

@@ -1,4 +1,4 @@
--- What the replay does with words: definitions only. `full` is the full table (crate protocol), `links`, `gates` and
+-- What the replay does with words: definitions only. `full` is the full table (crate columns), `links`, `gates` and
 -- the run area are described here. Links of event e: word 4 e the next event of its process; 4 e + 1 the next send
 -- whose message goes through its channel; 4 e + 2 the next orphan's send of its process. Gates of process z: word z its
 -- gate, word 64 + z the event that it restarts after. Every "next" is an event, 0 where there is none.
