@@ -1,0 +1,34 @@
+-- Rows of results: a pattern whose bytes `#` (35) stand for numbers.
+use Prim.Native.Nat.{ℕ, _+_, _≤_}
+use mathlib.Core.List.{List, [], _∷_, _++_}
+use mathlib.Core.Bool.{Bool, true, false}
+use lib.Dec.{eqb}
+use lib.ListN.{length, getD}
+use Rattle.text.specs.Number.{decimal}
+use Rattle.writer.specs.Buffer.{Puts}
+
+abbrev pub pickBytes : Bool → List ℕ → List ℕ → List ℕ
+pickBytes true a b = a
+pickBytes false a b = b
+
+-- what a byte of a pattern stands for where v is the next value
+unfoldable pub piece : ℕ → ℕ → List ℕ
+piece b v = pickBytes (eqb b 35) (decimal v) (b ∷ [])
+
+abbrev pub one : Bool → ℕ
+one true = 1
+one false = 0
+
+-- how many values it takes
+unfoldable pub takes : ℕ → ℕ
+takes b = one (eqb b 35)
+
+-- the bytes of a pattern of which value k is the next; 0 past the last value
+unfoldable pub filled : List ℕ → List ℕ → ℕ → List ℕ
+filled [] values k = []
+filled (b ∷ pattern) values k = piece b (getD values k 0) ++ filled pattern values (k + takes b)
+
+-- they are written from a place of a buffer on, and the place after them lies within it where the first did
+pub record Fills (pattern values before : List ℕ) (at : ℕ) (after : List ℕ) (next : ℕ) : Type 0 where
+  pub is : Puts (filled pattern values 0) before at after next
+  pub within : at ≤ length before → next ≤ length after
