@@ -1,5 +1,5 @@
 -- Laws of patterns: a byte of one more, the last, and that no place past the buffer is answered.
-use Prim.Native.Nat.{ℕ, _+_, _<_, _≤_}
+use Prim.Native.Nat.{ℕ, _+_, _-_, _<_, _≤_}
 use mathlib.Core.Path.{_≡_, refl, sym, ap, _∙_}
 use mathlib.Core.List.{List, [], _∷_, _++_}
 use native.Mathlib.Omega.{arith}
@@ -47,21 +47,21 @@ rest-next pattern values before at i k b v t out out′ next next′ h eb ev et 
 
 -- ---- No place past the buffer is answered
 
-within-one : (b : ℕ) (s : Laid) → s .next ≤ length (s .bytes) → putOne b s .next ≤ length (putOne b s .bytes)
+within-one : (b d : ℕ) (s : Laid) → s .next ≤ length (s .bytes) + d → putOne b s .next ≤ length (putOne b s .bytes) + d
 unfolding putOne
-within-one b s h =
+within-one b d s h =
     by-lt (s .next) (length (s .bytes))
     (λ l. rw (lt-ltb (s .next) (length (s .bytes)) l) (simp length-set (omega arith)))
     (λ g. rw (le-ltb (s .next) (length (s .bytes)) g) h)
 
-within : (bs : List ℕ) (s : Laid) → s .next ≤ length (s .bytes) → puts bs s .next ≤ length (puts bs s .bytes)
+within : (bs : List ℕ) (d : ℕ) (s : Laid) → s .next ≤ length (s .bytes) + d → puts bs s .next ≤ length (puts bs s .bytes) + d
 unfolding puts
-within [] s h = h
-within (b ∷ bs) s h = within bs (putOne b s) (within-one b s h)
+within [] d s h = h
+within (b ∷ bs) d s h = within bs d (putOne b s) (within-one b d s h)
 
-puts-within : (bs before after : List ℕ) (at next : ℕ) → Puts bs before at after next → at ≤ length before → next ≤ length after
-puts-within bs before after at next p h =
-    let w = within bs (record { bytes = before; next = at }) h in
+puts-within : (bs before after : List ℕ) (at next : ℕ) → Puts bs before at after next → next ≤ length after + (at - length before)
+puts-within bs before after at next p =
+    let w = within bs (at - length before) (record { bytes = before; next = at }) (omega arith) in
     rw (← p .is) at w
 
 pub rest-end : (pattern values before : List ℕ) (at i k : ℕ) (out : List ℕ) (next : ℕ) → length pattern ≤ i

@@ -5,7 +5,7 @@ use mathlib.Core.List.{List}
 use native.Mathlib.Omega.{arith}
 use native.Mathlib.Numerals.{add-one}
 use lib.ListN.{length, getD, drop, drop-of-length-le}
-use lib.Seq.{drop-cons}
+use lib.Seq.{drop-cons, length-take-le}
 use borrow.Author.Tests.{eq-eqb, ne-eqb, lt-ltb, le-ltb}
 use Rattle.text.specs.declared.Num.{Num}
 use Rattle.text.specs.declared.Num.the-variants.{Value, Refused}
@@ -15,12 +15,12 @@ use Rattle.checks.specs.Rows.{before, placeOf, Place, fieldPlace, orNone
 module _ (b from : ℕ) (xs : List ℕ) where
   pub place-past : length xs < from → Place b from xs (length xs)
   unfolding placeOf
-  place-past h = record { is = rw (lt-ltb (length xs) from h); within = omega arith; onward = λ k. omega arith }
+  place-past h = record { is = rw (lt-ltb (length xs) from h); within = (omega arith, sym (length-take-le (length xs) xs (omega arith))); onward = omega arith }
 
   -- the search stands at place i, and has the rest to find
   pub place-from : (i : ℕ) → from ≤ i → i ≤ length xs → i ≡ from + before b (drop from xs) → Place b from xs i
   unfolding placeOf
-  place-from i h k e = record { is = rw (le-ltb (length xs) from (let q : from ≤ length xs = omega arith in q)) e; within = k; onward = λ l. h }
+  place-from i h k e = record { is = rw (le-ltb (length xs) from (let q : from ≤ length xs = omega arith in q)) e; within = (k, sym (length-take-le i xs k)); onward = omega arith }
 
 module _ (b i : ℕ) (xs : List ℕ) where
   pub before-none : length xs ≤ i → i + before b (drop i xs) ≡ i

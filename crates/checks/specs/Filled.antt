@@ -1,5 +1,5 @@
 -- Rows of results: a pattern whose bytes `#` (35) stand for numbers.
-use Prim.Native.Nat.{ℕ, _+_, _≤_}
+use Prim.Native.Nat.{ℕ, _+_, _-_, _≤_}
 use mathlib.Core.List.{List, [], _∷_, _++_}
 use mathlib.Core.Bool.{Bool, true, false}
 use lib.Dec.{eqb}
@@ -28,7 +28,8 @@ unfoldable pub filled : List ℕ → List ℕ → ℕ → List ℕ
 filled [] values k = []
 filled (b ∷ pattern) values k = piece b (getD values k 0) ++ filled pattern values (k + takes b)
 
--- they are written from a place of a buffer on, and the place after them lies within it where the first did
+-- they are written from a place of a buffer on, and the place after them lies within it where that place does (the
+-- difference is 0 then)
 pub record Fills (pattern values before : List ℕ) (at : ℕ) (after : List ℕ) (next : ℕ) : Type 0 where
   pub is : Puts (filled pattern values 0) before at after next
-  pub within : at ≤ length before → next ≤ length after
+  pub within : next ≤ length after + (at - length before)

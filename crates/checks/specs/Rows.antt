@@ -1,10 +1,11 @@
 -- Rows of cases: the place of a byte, the fields of a row, which a blank parts, and the number that a field begins with.
-use Prim.Native.Nat.{ℕ, zero, suc, _+_, _≤_}
+use Prim.Native.Nat.{ℕ, zero, suc, _+_, _-_, _≤_}
 use mathlib.Core.Path.{_≡_}
 use mathlib.Core.List.{List, [], _∷_}
 use mathlib.Core.Bool.{Bool, true, false}
 use lib.Dec.{ltb, eqb}
 use lib.ListN.{length, drop}
+use Rattle.io.specs.Counts.{Counts}
 use Rattle.text.specs.declared.Num.{Num}
 use Rattle.text.specs.declared.Num.the-variants.{Value, Refused}
 use Rattle.text.specs.Number.{numberAt}
@@ -22,11 +23,11 @@ before b (x ∷ xs) = pickPlace (eqb x b) 0 (1 + before b xs)
 unfoldable pub placeOf : ℕ → ℕ → List ℕ → ℕ
 placeOf b from xs = pickPlace (ltb (length xs) from) (length xs) (from + before b (drop from xs))
 
--- it lies within the bytes, and not before the place
+-- it lies within the bytes, and not before the place (the difference is 0 where the place lies within them too)
 pub record Place (b from : ℕ) (xs : List ℕ) (r : ℕ) : Type 0 where
   pub is : r ≡ placeOf b from xs
-  pub within : r ≤ length xs
-  pub onward : from ≤ length xs → from ≤ r
+  pub within : Counts r xs
+  pub onward : from ≤ r + (from - length xs)
 
 -- where field k begins
 unfoldable pub fieldPlace : List ℕ → ℕ → ℕ

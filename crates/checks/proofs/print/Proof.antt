@@ -7,15 +7,10 @@ use borrow.Author.Needs.{needs}
 use Rattle.checks.proofs.print.Statement.{statement}
 use Rattle.checks.proofs.print.Tie as tie
 
-array-share-prefix-out : tie.Need-array-share-prefix-out
-array-share-prefix-out c =
-    let put = c .before .put in
-    (put .ensures) .within (omega arith)
-
 slice-aggregate-write-all : tie.Need-slice-aggregate-write-all
 slice-aggregate-write-all c =
     let put = c .before .before .put in
-    sym (length-take-le _ ((put .last .0)) ((put .ensures) .within (omega arith)))
+    sym (length-take-le _ (put .last .0) (omega arith))
 
 returns : tie.Need-returns
 returns c =
@@ -25,4 +20,4 @@ returns c =
 pub print-spec : {M : Type 1} → statement M
 print-spec =
     tie.close
-    (tie.spec (λ c. search needs) (λ c κs. search needs) array-share-prefix-out slice-aggregate-write-all (λ c κs. search needs) returns)
+    (tie.spec (λ c. search needs) (λ c κs. search needs) (λ c. search needs) slice-aggregate-write-all (λ c κs. search needs) returns)
