@@ -1,6 +1,7 @@
 -- Laws of counting: one for each way a turn of a loop goes, over the values that the code has.
 use Prim.Native.Nat.{ℕ, suc, _+_, _-_, _<_, _≤_}
 use mathlib.Core.Path.{_≡_, _∙_}
+use mathlib.Core.Bool.{cond}
 use mathlib.Core.List.{List}
 use native.Mathlib.Omega.{arith}
 use native.Mathlib.Numerals.{add-one}
@@ -8,9 +9,9 @@ use lib.Dec.{eqb}
 use lib.ListN.{getD, set}
 use lib.Seq.{getD-set-other}
 use borrow.Author.Tests.{le-leb, lt-leb}
-use Rattle.bruteforce.specs.Counts.{one, timesOf, afterFrom, afterOf, spare, first}
+use Rattle.bruteforce.specs.Counts.{timesOf, afterFrom, afterOf, spare, first}
 
-pub times-next : (events : List ℕ) (w i n r : ℕ) → n ≡ timesOf events w i → r ≡ one (eqb (getD events i 0) w)
+pub times-next : (events : List ℕ) (w i n r : ℕ) → n ≡ timesOf events w i → r ≡ cond (eqb (getD events i 0) w) 1 0
     → n + r ≡ timesOf events w (i + 1)
 unfolding timesOf
 times-next events w i n r e f = rw (add-one i, ← e, ← f)

@@ -1,6 +1,6 @@
 -- What brute force is for, and how it counts.
 use Prim.Native.Nat.{ℕ, zero, suc, _+_, _≤_}
-use mathlib.Core.Bool.{Bool, true, false}
+use mathlib.Core.Bool.{cond}
 use mathlib.Core.List.{List}
 use lib.Dec.{eqb, leb}
 use lib.ListN.{getD}
@@ -12,24 +12,16 @@ pub record Small (f : Failure) : Type 0 where
   pub size : f .size ≤ 6
   pub cut : f .cut ≤ 6
 
-abbrev pub one : Bool → ℕ
-one true = 1
-one false = 0
-
 -- how many of the first events are this one
 unfoldable pub timesOf : List ℕ → ℕ → ℕ → ℕ
 timesOf events w zero = 0
-timesOf events w (suc i) = timesOf events w i + one (eqb (getD events i 0) w)
-
-abbrev pub pickPlace : Bool → ℕ → ℕ → ℕ
-pickPlace true a b = a
-pickPlace false a b = b
+timesOf events w (suc i) = timesOf events w i + cond (eqb (getD events i 0) w) 1 0
 
 -- right after which event this one has come so many times, of the events after the i-th, of which there are `left`
 unfoldable pub afterFrom : List ℕ → ℕ → ℕ → ℕ → ℕ → ℕ
 afterFrom events w number i zero = i
 afterFrom events w number i (suc left) =
-    pickPlace (leb number (timesOf events w i)) i (afterFrom events w number (i + 1) left)
+    cond (leb number (timesOf events w i)) i (afterFrom events w number (i + 1) left)
 
 unfoldable pub afterOf : List ℕ → ℕ → ℕ → ℕ → ℕ
 afterOf events w number upto = afterFrom events w number 0 upto

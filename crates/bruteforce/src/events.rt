@@ -1,7 +1,8 @@
 // Events as numbers, and how often they come.
+ghost use mathlib.Core.Bool.{cond};
 ghost use mathlib.Core.Path.{_≡_};
 ghost use Prim.Native.Nat.{_+_, _*_, _/_, _%_, _≤_, _<_};
-ghost use Rattle.bruteforce.specs.Counts.{one, timesOf, afterOf};
+ghost use Rattle.bruteforce.specs.Counts.{timesOf, afterOf};
 
 // Kinds of an event.
 pub const SAVE: u32 = 0;
@@ -48,7 +49,7 @@ pub fn peer(w: u32) -> u32
 }
 
 pub fn one_if(yes: bool) -> u32
-    ensures { λ r. ⌜ r ≡ one yes ⌝ }
+    ensures { λ r. ⌜ r ≡ cond yes 1 0 ⌝ }
     ensures { λ r. ⌜ r ≤ 1 ⌝ }
 {
     if yes { 1 } else { 0 }

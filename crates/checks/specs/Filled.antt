@@ -1,27 +1,19 @@
 -- Rows of results: a pattern whose bytes `#` (35) stand for numbers.
 use Prim.Native.Nat.{ℕ, _+_, _-_, _≤_}
 use mathlib.Core.List.{List, [], _∷_, _++_}
-use mathlib.Core.Bool.{Bool, true, false}
+use mathlib.Core.Bool.{cond}
 use lib.Dec.{eqb}
 use lib.ListN.{length, getD}
 use Rattle.text.specs.Number.{decimal}
 use Rattle.writer.specs.Buffer.{Puts}
 
-abbrev pub pickBytes : Bool → List ℕ → List ℕ → List ℕ
-pickBytes true a b = a
-pickBytes false a b = b
-
 -- what a byte of a pattern stands for where v is the next value
 unfoldable pub piece : ℕ → ℕ → List ℕ
-piece b v = pickBytes (eqb b 35) (decimal v) (b ∷ [])
-
-abbrev pub one : Bool → ℕ
-one true = 1
-one false = 0
+piece b v = cond (eqb b 35) (decimal v) (b ∷ [])
 
 -- how many values it takes
 unfoldable pub takes : ℕ → ℕ
-takes b = one (eqb b 35)
+takes b = cond (eqb b 35) 1 0
 
 -- the bytes of a pattern of which value k is the next; 0 past the last value
 unfoldable pub filled : List ℕ → List ℕ → ℕ → List ℕ

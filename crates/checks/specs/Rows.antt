@@ -1,8 +1,8 @@
--- Rows of cases: the place of a byte, the fields of a row, which a blank parts, and the number that a field begins with.
+-- Rows of cases: the place of a byte, the fields of a row, with a blank between two, and the number a field begins with.
 use Prim.Native.Nat.{ℕ, zero, suc, _+_, _-_, _≤_}
 use mathlib.Core.Path.{_≡_}
 use mathlib.Core.List.{List, [], _∷_}
-use mathlib.Core.Bool.{Bool, true, false}
+use mathlib.Core.Bool.{cond}
 use lib.Dec.{ltb, eqb}
 use lib.ListN.{length, drop}
 use Rattle.io.specs.Counts.{Counts}
@@ -10,18 +10,14 @@ use Rattle.text.specs.declared.Num.{Num}
 use Rattle.text.specs.declared.Num.the-variants.{Value, Refused}
 use Rattle.text.specs.Number.{numberAt}
 
-abbrev pub pickPlace : Bool → ℕ → ℕ → ℕ
-pickPlace true a b = a
-pickPlace false a b = b
-
 -- how many bytes stand before the first b
 unfoldable pub before : ℕ → List ℕ → ℕ
 before b [] = 0
-before b (x ∷ xs) = pickPlace (eqb x b) 0 (1 + before b xs)
+before b (x ∷ xs) = cond (eqb x b) 0 (1 + before b xs)
 
 -- the first b at or after a place, or the end
 unfoldable pub placeOf : ℕ → ℕ → List ℕ → ℕ
-placeOf b from xs = pickPlace (ltb (length xs) from) (length xs) (from + before b (drop from xs))
+placeOf b from xs = cond (ltb (length xs) from) (length xs) (from + before b (drop from xs))
 
 -- it lies within the bytes, and not before the place (the difference is 0 where the place lies within them too)
 pub record Place (b from : ℕ) (xs : List ℕ) (r : ℕ) : Type 0 where

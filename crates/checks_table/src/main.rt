@@ -1,7 +1,8 @@
-// What check 13 says of table areas. Standard input has a trace, which is read into an area, and after a byte `-` a row
-// for each case, of which the rest is a remark. `word K W`: that area with its word K changed to W; `length N`: its first
-// N words; `zero`: the zero area, and what a refused text leaves; `events N A B`, `saves N A B`: an area filled by hand
-// up to the limits. Expected: the file `stdout`. Proved safe and ending; what is printed no contract can say.
+// What check 13 says of table areas. Standard input has a trace, which is read into an area, and after a byte `-` a
+// row for each case, of which the rest is a remark. `word K W`: that area with its word K changed to W; `length N`:
+// its first N words; `zero`: the zero area, and what a refused text leaves; `events N A B`, `saves N A B`: an area
+// filled by hand up to the limits. Expected: the file `stdout`. Proved safe and ending; what is printed no contract
+// can say.
 
 // Field k of a row as a word.
 fn word(row: &[u8], k: usize) -> u32 {
@@ -83,12 +84,15 @@ fn case(area: &mut [u32], row: &[u8]) {
     if row.len() == 0 {
         return;
     }
+    let a = word(row, 1);
+    let b = word(row, 2);
+    let c = word(row, 3);
     match row[0] {
-        b'w' => change(area, word(row, 1) as usize, word(row, 2)),
-        b'l' => print_length(area, word(row, 1) as usize),
+        b'w' => change(area, a as usize, b),
+        b'l' => print_length(area, a as usize),
         b'z' => print_zero(),
-        b'e' => print_filled(b"events=#", word(row, 1), word(row, 2), word(row, 3)),
-        b's' => print_filled(b"saves=#", word(row, 1), word(row, 2), word(row, 3)),
+        b'e' => print_filled(b"events=#", a, b, c),
+        b's' => print_filled(b"saves=#", a, b, c),
         _ => {}
     }
 }
