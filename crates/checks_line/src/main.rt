@@ -13,11 +13,10 @@ use answers::same_answer;
 use answers::widened;
 use bruteforce::Best;
 use bruteforce::Failure;
-use traces::put_trace;
-use traces::sequence;
+use sequences::put_trace;
+use sequences::sequence;
 
 mod answers;
-mod traces;
 
 // What is counted: traces that are fit, sequences that the reader is to refuse, failures whose answer was compared,
 // lines judged for them, orders replayed, and comparisons in which the engine and brute force differ.

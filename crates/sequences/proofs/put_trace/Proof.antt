@@ -5,8 +5,8 @@ use lib.ListN.{length}
 use lib.Seq.{length-take-le}
 use native.Mathlib.Omega.{arith}
 use borrow.Author.Needs.{needs}
-use Rattle.checks_line.proofs.traces.put_trace.Statement.{statement}
-use Rattle.checks_line.proofs.traces.put_trace.Tie as tie
+use Rattle.sequences.proofs.put_trace.Statement.{statement}
+use Rattle.sequences.proofs.put_trace.Tie as tie
 
 abbrev Inv-loop : tie.InvT-loop
 Inv-loop text₀ count events size to₀ i₀ text to i = (i ≤ size) × (to ≤ length text) × (length text ≡ length text₀)

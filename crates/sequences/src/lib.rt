@@ -1,4 +1,5 @@
-// Every small sequence of events by its number, and its text.
+// Every small sequence of events by its number, and its text: what a gate program goes through. Assumes what `libc`
+// assumes.
 ghost use Prim.Native.Nat.{_≤_, _<_};
 ghost use lib.ListN.{length};
 ghost use Rattle.io.specs.Counts.{Counts};

@@ -3,8 +3,8 @@ use Prim.Native.Nat.{_-_, _*_, _/_, _%_, _≤_, _<_}
 use native.Mathlib.Nat.{mod-lt}
 use native.Mathlib.Omega.{arith}
 use borrow.Author.Needs.{needs}
-use Rattle.checks_line.proofs.traces.sequence.Statement.{statement}
-use Rattle.checks_line.proofs.traces.sequence.Tie as tie
+use Rattle.sequences.proofs.sequence.Statement.{statement}
+use Rattle.sequences.proofs.sequence.Tie as tie
 
 abbrev Inv-loop : tie.InvT-loop
 Inv-loop count x events₀ all rest₀ i₀ events rest i = i ≤ 6
