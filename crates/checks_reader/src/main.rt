@@ -1,28 +1,15 @@
-// Sizes and refusals of the reader, run and printed: a line for each case, with the answer's number and place, how many of the
-// area's first 16,384 words are not 0, and how many later words changed. The file `stdout` has what document 01 asks of each.
-// Proved safe and ending; what is printed no contract can say. Assumes what `libc` assumes.
+// Sizes and refusals of the reader, run and printed: a line for each case, with the answer's number and place, how many
+// of the area's first 16,384 words are not 0, and how many later words changed. The file `stdout` has what document 01
+// asks of each. Proved safe and ending; what is printed no contract can say. Assumes what `libc` assumes.
 ghost use Prim.Native.Nat.{_≤_};
 ghost use lib.ListN.{length};
-
-mod build;
-
-use build::put;
-use build::repeat;
+ghost use Rattle.io.specs.Counts.{Counts};
 
 // What every area holds before a reading.
 const BEFORE: u32 = 7;
 
-fn wide(x: u32) -> u64 {
-    x as u64
-}
-
-fn print_number(v: u64) {
-    io::write_all(1, b" ");
-    io::print_decimal(1, v);
-}
-
 // 1 where word i of an area is there and is not v.
-fn differs(area: &[u32], i: usize, v: u32) -> usize
+fn differs(area: &[u32], i: usize, v: u32) -> u64
     ensures { λ r. ⌜ r ≤ 1 ⌝ }
 {
     if i >= area.len() {
@@ -32,8 +19,8 @@ fn differs(area: &[u32], i: usize, v: u32) -> usize
 }
 
 // How many words of an area, from a place to another, are not v.
-fn others(area: &[u32], from: usize, to: usize, v: u32) -> usize {
-    let mut n: usize = 0;
+fn others(area: &[u32], from: usize, to: usize, v: u32) -> u64 {
+    let mut n: u64 = 0;
     let mut i = from;
     while i < to {
         n += differs(area, i, v);
@@ -44,8 +31,7 @@ fn others(area: &[u32], from: usize, to: usize, v: u32) -> usize {
 
 fn print_answer(name: &[u8], a: reader::Answer) {
     io::write_all(1, name);
-    print_number(a.number as u64);
-    print_number(a.place as u64);
+    checks::print(b" # #", &[a.number as u64, a.place as u64]);
 }
 
 // Reads a text into an area of 16,400 words.
@@ -53,9 +39,9 @@ fn case(name: &[u8], text: &[u8]) {
     let mut area = [BEFORE; 16400];
     let a = reader::read(text, &mut area);
     print_answer(name, a);
-    print_number(others(&area, 0, 16384, 0) as u64);
-    print_number(others(&area, 16384, 16400, BEFORE) as u64);
-    io::write_all(1, b"\n");
+    let left = others(&area, 0, 16384, 0);
+    let past = others(&area, 16384, 16400, BEFORE);
+    checks::print(b" # #\n", &[left, past]);
 }
 
 // Reads a text into an area of 16,383 words, one too few: the count is of words that changed.
@@ -63,28 +49,20 @@ fn small(name: &[u8], text: &[u8]) {
     let mut area = [BEFORE; 16383];
     let a = reader::read(text, &mut area);
     print_answer(name, a);
-    print_number(others(&area, 0, 16383, BEFORE) as u64);
-    io::write_all(1, b"\n");
+    checks::print(b" #\n", &[others(&area, 0, 16383, BEFORE)]);
 }
 
-fn print_word(area: &[u32], i: usize) {
-    if i >= area.len() {
-        return;
+fn print_word(i: usize, w: u32) {
+    if w != 0 {
+        checks::print(b"word # #\n", &[i as u64, w as u64]);
     }
-    if area[i] == 0 {
-        return;
-    }
-    io::write_all(1, b"word");
-    print_number(i as u64);
-    print_number(wide(area[i]));
-    io::write_all(1, b"\n");
 }
 
 // The words of an area from a place on that are not 0.
 fn print_words(area: &[u32], from: usize) {
     let mut i = from;
     while i < area.len() {
-        print_word(area, i);
+        print_word(i, area[i]);
         i += 1;
     }
 }
@@ -98,26 +76,25 @@ fn table(name: &[u8], text: &[u8], from: usize) {
     print_words(&area, from);
 }
 
-// The place of a byte at or after a place, or the end.
-fn find(s: &[u8], from: usize, b: u8) -> usize
-    requires { ⌜ from ≤ length (now s) ⌝ }
-    ensures { λ r. ⌜ (from ≤ r) × (r ≤ length (now (s .entry))) ⌝ }
+// Puts a piece so many times at the end of a text, and answers where it ends then. No text here has a byte `#`.
+fn repeat(text: &mut [u8], from: usize, piece: &[u8], times: usize) -> usize
+    requires { ⌜ from ≤ length (now text) ⌝ }
+    ensures { λ r. ⌜ Counts r (now (text .exit)) ⌝ }
 {
-    let mut i = from;
-    while i < s.len() {
-        if s[i] == b {
-            return i;
-        }
+    let mut at = from;
+    let mut i = 0;
+    while i < times {
+        at = checks::put(text, at, piece, &[]);
         i += 1;
     }
-    i
+    at
 }
 
 // Reads the first lines and then those of the case as one text.
 fn joined(name: &[u8], first: &[u8], lines: &[u8]) {
-    let mut text = [0u8; 512];
-    let at = put(&mut text, 0, first);
-    let n = put(&mut text, at, lines);
+    let mut text = [0u8; 65536];
+    let at = repeat(&mut text, 0, first, 1);
+    let n = repeat(&mut text, at, lines, 1);
     case(name, &text[..n]);
 }
 
@@ -125,11 +102,11 @@ fn joined(name: &[u8], first: &[u8], lines: &[u8]) {
 fn rows(first: &[u8], list: &[u8]) {
     let mut at = 0;
     while at < list.len() {
-        let c = find(list, at, b':');
+        let c = checks::find(list, at, b':');
         if c >= list.len() {
             return;
         }
-        let e = find(list, c + 1, b';');
+        let e = checks::find(list, c + 1, b';');
         joined(&list[at..c], first, &list[c + 1..e]);
         at = e + 1;
     }
@@ -259,40 +236,40 @@ fn faults() {
 }
 
 fn first_receive() {
-    case(b"recv-first", b"procs=2\nev=recv at=1 from=0\n");
-    case(b"procs-64-at-63", b"procs=64\nev=save at=63\n");
-    case(b"procs-64-at-64", b"procs=64\nev=save at=64\n");
+    rows(
+        b"",
+        b"recv-first:procs=2\nev=recv at=1 from=0\n;\
+        procs-64-at-63:procs=64\nev=save at=63\n;\
+        procs-64-at-64:procs=64\nev=save at=64\n;",
+    );
 }
 
 // 6: the 30th and the 31st checkpoint of a process, and then another's.
 fn saves() {
     let mut text = [0u8; 512];
-    let at = put(&mut text, 0, b"procs=2\n");
+    let at = repeat(&mut text, 0, b"procs=2\n", 1);
     let n = repeat(&mut text, at, b"ev=save at=1\n", 30);
-    case(b"saves-30", &text[..n]);
-    let m = put(&mut text, n, b"ev=save at=1\n");
-    case(b"saves-31", &text[..m]);
-    let k = put(&mut text, n, b"ev=save at=0\n");
-    case(b"saves-30-and-1", &text[..k]);
+    rows(
+        &text[..n],
+        b"saves-30:;saves-31:ev=save at=1\n;saves-30-and-1:ev=save at=0\n;",
+    );
 }
 
 // 7: the 2,048th and the 2,049th event, and what else stands at line 2,050.
 fn events() {
     let mut text = [0u8; 65536];
-    let at = put(&mut text, 0, b"procs=2\n");
+    let at = repeat(&mut text, 0, b"procs=2\n", 1);
     let m = repeat(&mut text, at, b"ev=send at=0 to=1 val=0\n", 2047);
-    let n = put(&mut text, m, b"ev=send at=1 to=0 val=9\n");
+    let n = repeat(&mut text, m, b"ev=send at=1 to=0 val=9\n", 1);
     table(b"events-2048", &text[..n], 2060);
-    let a = put(&mut text, n, b"ev=send at=0 to=1 val=0\n");
-    case(b"events-2049", &text[..a]);
-    let b = put(&mut text, n, b"ev=save at=9\n");
-    case(b"events-2049-out-of-range", &text[..b]);
-    let c = put(&mut text, n, b"ev=send\n");
-    case(b"line-2050-malformed", &text[..c]);
-    let d = put(&mut text, n, b"ev=save at=0");
-    case(b"line-2050-no-lf", &text[..d]);
-    let e = put(&mut text, n, b"fail=1 set=1\n");
-    case(b"line-2050-failure", &text[..e]);
+    rows(
+        &text[..n],
+        b"events-2049:ev=send at=0 to=1 val=0\n;\
+        events-2049-out-of-range:ev=save at=9\n;\
+        line-2050-malformed:ev=send\n;\
+        line-2050-no-lf:ev=save at=0;\
+        line-2050-failure:fail=1 set=1\n;",
+    );
 }
 
 // 12, before anything else, and the words of document 01's trace H.

@@ -1,5 +1,5 @@
 -- `rows` is safe and ends: each row ends after it begins.
-use Prim.Native.Nat.{_≤_, _-_}
+use Prim.Native.Nat.{_-_, _≤_}
 use lib.ListN.{length}
 use borrow.Author.Needs.{needs}
 use Rattle.checks_reader.proofs.rows.Statement.{statement}
