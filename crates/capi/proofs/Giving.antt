@@ -5,7 +5,7 @@ use mathlib.Core.List.{List, [], _∷_, _++_}
 use Rattle.theory.specs.Lists.{pick}
 use Rattle.orders.specs.declared.Replayed.{Replayed}
 use Rattle.restart.specs.declared.Restarted.{Restarted}
-use Rattle.recovery.specs.declared.Counted.{Counted}
+use Rattle.messages.specs.declared.Counted.{Counted}
 use Rattle.writer.specs.Buffer.{Puts, written}
 use Rattle.writer.proofs.Buffers.{then, same-bytes, whole}
 use Rattle.capi.specs.Answers.{restartNumbers, messagesNumbers, replayNumbers}

@@ -10,9 +10,10 @@ use Rattle.reader.specs.declared.FailureAnswer.{FailureAnswer}
 use Rattle.recovery_line.specs.declared.Line.{Line}
 use Rattle.orders.specs.declared.Replayed.{Replayed}
 use Rattle.theory.specs.Order.{lowestOrder}
-use Rattle.recovery.specs.Answers.{runOf, replayAnswer, replayArea}
+use Rattle.preparing.specs.Faults.{runOf}
+use Rattle.recovery.specs.Answers.{replayAnswer, replayArea}
 use Rattle.restart.specs.declared.Restarted.{Restarted}
-use Rattle.recovery.specs.declared.Counted.{Counted}
+use Rattle.messages.specs.declared.Counted.{Counted}
 
 -- a line from the slice of its numbers: its length is their count
 abbrev pub lineGiven : List ℕ → Line

@@ -9,7 +9,7 @@ ghost use Rattle.writer.specs.Buffer.{Puts, room, written};
 ghost use Rattle.reader.specs.Answer.{readAnswer, readArea};
 ghost use Rattle.reader.specs.Failure.{failureAnswer, failureArea};
 ghost use Rattle.recovery.specs.Answers.{replayAnswer, replayArea};
-ghost use Rattle.recovery.specs.Messages.{messagesAnswer, messagesArea};
+ghost use Rattle.messages.specs.Messages.{messagesAnswer, messagesArea};
 ghost use Rattle.restart.specs.Restart.{restartAnswer};
 ghost use Rattle.report.specs.Report.{printed};
 ghost use Rattle.capi.specs.Answers.{lineGiven, readNumbers, failureNumbers, restartNumbers, messagesNumbers, replayNumbers, lowestAnswer, lowestArea};
@@ -157,7 +157,7 @@ pub extern "C" fn hallback_messages(
     ensures words { λ _. ⌜ now (run .exit) ≡ messagesArea (now (table .entry)) (now (run .entry)) step set (lineGiven (now (line .entry))) ⌝ }
     ensures numbers { λ _. ⌜ now (answer .exit) ≡ written (messagesNumbers (messagesAnswer (now (table .entry)) (now (run .entry)) step set (lineGiven (now (line .entry))))) (now (answer .entry)) ⌝ }
 {
-    let c = recovery::messages(table, step, set, line_from(line), run);
+    let c = messages::messages(table, step, set, line_from(line), run);
     put_four(
         answer,
         c.place as u64,

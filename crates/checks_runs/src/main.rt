@@ -171,7 +171,7 @@ fn print_messages(run: &[u32; AREA_WORDS], before: usize, count: usize)
 // How many messages of each class a line leaves, and the lost ones.
 fn list_messages(table: &[u32; AREA_WORDS], c: Call) {
     let mut run = [BEFORE; AREA_WORDS];
-    let m = recovery::messages(table, c.step, c.set, c.line, &mut run);
+    let m = messages::messages(table, c.step, c.set, c.line, &mut run);
     checks::print(
         b" number=# place=# orphans=# kept=# lost=#",
         &[

@@ -1,6 +1,4 @@
-pub mod Given
-pub mod Listing
-pub mod Preparing
+pub mod Clearing
 pub mod Recovering
 pub mod Replaying
 pub mod Taking

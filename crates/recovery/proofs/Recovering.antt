@@ -10,17 +10,18 @@ use Rattle.theory.specs.Order.{lowestOrder}
 use Rattle.protocol.proofs.Passes.{held-long}
 use Rattle.recovery_line.specs.declared.Line.{Line}
 use Rattle.recovery.specs.declared.Recovered.{Recovered}
-use Rattle.recovery.specs.Answers.{runOf, replayAnswer}
-use Rattle.recovery.specs.Messages.{messagesAnswer, messagesArea}
-use Rattle.restart.specs.Filled.{failureFaultIn, Filled}
-use Rattle.recovery.specs.Prepared.{Recovering}
+use Rattle.preparing.specs.Faults.{runOf, failureFaultOf}
+use Rattle.recovery.specs.Answers.{replayAnswer}
+use Rattle.messages.specs.Messages.{messagesAnswer, messagesArea}
+use Rattle.preparing.specs.Prepared.{failureFaultIn, Filled}
+use Rattle.recovery.specs.Recovering.{Recovering}
 use Rattle.recovery.specs.Recover.{recoverRefusal, Succeeds}
-use Rattle.restart.specs.Restart.{failureFaultOf, restartAnswer}
-use Rattle.restart.proofs.Filling.{step-within, short-area, by-failure}
-use Rattle.recovery.proofs.Preparing.{failure-first}
+use Rattle.restart.specs.Restart.{restartAnswer}
+use Rattle.preparing.proofs.Filling.{step-within, short-area, by-failure, short}
+use Rattle.preparing.proofs.Preparing.{failure-first}
 use Rattle.recovery.proofs.Replaying.{refuses, completed}
-use Rattle.recovery.proofs.Listing.{refuses-messages, lists}
-use Rattle.restart.proofs.Restarting.{Ready, short, refuses-restart, answers-restart}
+use Rattle.messages.proofs.Listing.{refuses-messages, lists}
+use Rattle.restart.proofs.Restarting.{Ready, refuses-restart, answers-restart}
 use Rattle.recovery.proofs.Taking.{not-refused}
 
 module _ (a : List ℕ) (step set : ℕ) where

@@ -24,7 +24,8 @@ use Rattle.orders.specs.Record.{recordAt}
 use Rattle.orders.proofs.Records.{complete-record}
 use Rattle.orders.specs.declared.Replayed.{Replayed}
 use Rattle.orders.specs.Answer.{answerOf, wordsOf}
-use Rattle.recovery.specs.Answers.{runOf, faultOf, refusal, replayAnswer, replayArea, Equal, Completed}
+use Rattle.preparing.specs.Faults.{runOf, faultOf}
+use Rattle.recovery.specs.Answers.{refusal, replayAnswer, replayArea, Equal, Completed}
 
 module _ (a area : List ℕ) (step set : ℕ) (l : Line) (order : List ℕ) where
   abbrev pub Answered : Replayed → List ℕ → Type 0

@@ -7,8 +7,8 @@ use Rattle.table.specs.Held.{held}
 use Rattle.theory.proofs.Refusals.{failure-fit, line-fit}
 use Rattle.recovery_line.specs.Given.{lineIn}
 use Rattle.restart.specs.declared.Restarted.{Restarted}
-use Rattle.recovery.specs.Answers.{faultOf}
-use Rattle.recovery.proofs.Preparing.{line-number}
+use Rattle.preparing.specs.Faults.{faultOf}
+use Rattle.preparing.proofs.Preparing.{line-number}
 use Rattle.restart.proofs.Restarting.{means, Ready, count-in}
 
 module _ (a : List ℕ) (step set : ℕ) (r : Restarted) (G : Ready a step set r) where

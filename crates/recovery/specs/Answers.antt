@@ -4,36 +4,20 @@
 use Prim.Native.Nat.{ℕ}
 use mathlib.Core.Path.{_≡_}
 use mathlib.Core.Logic.{_↔_}
-use mathlib.Core.Bool.{true, false, not}
+use mathlib.Core.Bool.{true, false}
 use mathlib.Core.List.{List, _++_}
 use lib.ListN.{length, take, drop}
-use lib.Dec.{ltb, eqb}
+use lib.Dec.{eqb}
 use Rattle.words.specs.Area.{areaWords, wordsFrom}
-use Rattle.trace.specs.Fit.{orElse}
-use Rattle.table.specs.Held.{held, holdsTrace}
+use Rattle.table.specs.Held.{held}
 use Rattle.theory.specs.Lists.{pick}
-use Rattle.theory.specs.Epochs.{past}
-use Rattle.theory.specs.Line.{Run, recorded, LossFree}
+use Rattle.theory.specs.Line.{LossFree}
 use Rattle.theory.specs.Order.{run, steps, lowestOrder}
-use Rattle.theory.specs.Refusals.{lineFault}
 use Rattle.recovery_line.specs.declared.Line.{Line}
-use Rattle.recovery_line.specs.Given.{lineIn}
 use Rattle.orders.specs.Record.{faultlessAt}
 use Rattle.orders.specs.declared.Replayed.{Replayed}
 use Rattle.orders.specs.Answer.{answerOf, wordsOf}
-
--- the recorded run of the trace that a table area holds, with a failure and a line
-abbrev pub runOf : List ℕ → ℕ → Line → Run
-runOf a step l = recorded (held a) past step (lineIn l)
-
--- what is wrong with the areas (`room` is how many words the run area has), the failure and the line: 12, 13, 8, 9, 10,
--- or 0
-unfoldable pub faultOf : List ℕ → ℕ → ℕ → ℕ → Line → ℕ
-faultOf a room step set l =
-    orElse (ltb (length a) areaWords) 12
-    (orElse (ltb room areaWords) 12
-    (orElse (not (holdsTrace a)) 13
-    (lineFault (held a) step set (l .count) (lineIn l))))
+use Rattle.preparing.specs.Faults.{runOf, faultOf}
 
 abbrev pub refusal : ℕ → Replayed
 refusal n = record { number = n; place = 0; steps = 0; complete = false }

@@ -1,4 +1,3 @@
 pub mod Answers
-pub mod Messages
-pub mod Prepared
+pub mod Recovering
 pub mod Recover

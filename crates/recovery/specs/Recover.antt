@@ -6,8 +6,9 @@ use mathlib.Core.List.{List}
 use lib.ListN.{length}
 use Rattle.table.specs.Held.{held}
 use Rattle.recovery.specs.declared.Recovered.{Recovered}
-use Rattle.recovery.specs.Answers.{faultOf, refusal, Completed}
-use Rattle.recovery.specs.Messages.{messagesRefusal}
+use Rattle.preparing.specs.Faults.{faultOf}
+use Rattle.recovery.specs.Answers.{refusal, Completed}
+use Rattle.messages.specs.Messages.{messagesRefusal}
 use Rattle.restart.specs.Restart.{restartRefusal, Restarts}
 
 -- What is wrong with the table or the failure is wrong whatever the line, so that a refusal has its number three times.

@@ -1,23 +1,21 @@
-// Recovery: a table area, a failure, a recovery line and an order of choices, answered and carried out. specs/Answers,
-// Messages and Recover say what each function answers and leaves, for every input; no public function has a `requires`.
-// (`restart` is a crate of its own.) Assumes nothing.
+// Recovery: orders of choices carried out from a recovery line, on a table area, and all that a failure asks for at
+// once. specs/Answers and Recover say what each function answers and leaves, for every input; no public function has a
+// `requires`. Assumes nothing.
 ghost use mathlib.Core.Path.{_≡_};
-ghost use Prim.Native.Nat.{ℕ, _+_, _≤_};
-ghost use lib.ListN.{length, replicate};
-ghost use Rattle.words.specs.Area.{areaWords, wordsFrom};
+ghost use Prim.Native.Nat.{_≤_};
+ghost use lib.ListN.{length};
+ghost use Rattle.words.specs.Area.{areaWords};
 ghost use Rattle.trace.specs.Trace.{Trace};
 ghost use Rattle.theory.specs.Events.{size};
-ghost use Rattle.theory.specs.Epochs.{past};
-ghost use Rattle.theory.specs.Line.{recorded};
 ghost use Rattle.theory.specs.Order.{lowestOrder};
-ghost use Rattle.listing.specs.Listing.{listWord};
 ghost use Rattle.recovery_line.specs.Given.{Tabled};
-ghost use Rattle.links.specs.Given.{Given};
-ghost use Rattle.recovery.specs.Answers.{runOf, faultOf, refusal, replayAnswer, replayArea, Equal, Completed};
-ghost use Rattle.recovery.specs.Prepared.{Prepared, Recovering};
-ghost use Rattle.recovery.specs.Messages.{countsOf, messagesRefusal, messagesAnswer, messagesArea};
+ghost use Rattle.preparing.specs.Faults.{runOf};
+ghost use Rattle.recovery.specs.Answers.{refusal, replayAnswer, replayArea, Equal, Completed};
+ghost use Rattle.recovery.specs.Recovering.{Recovering};
+ghost use Rattle.messages.specs.Messages.{messagesAnswer, messagesArea};
 ghost use Rattle.recovery.specs.Recover.{recoverRefusal, Succeeds};
 ghost use Rattle.restart.specs.Restart.{restartAnswer};
+use messages::Counted;
 use orders::Replayed;
 use recovery_line::Line;
 use restart::Restarted;
@@ -32,31 +30,6 @@ fn refused(number: u32) -> Replayed
         steps: 0,
         complete: false,
     }
-}
-
-// The same with a line, where 10 is left. Where nothing is wrong, fills the gates of the line as well.
-fn prepare(
-    table: &[u32],
-    room: usize,
-    step: u64,
-    set: u64,
-    line: Line,
-    full: &mut [u32],
-    gates: &mut [u32],
-) -> u32
-    requires { ⌜ (length (now full) ≡ areaWords) × (length (now gates) ≡ 192) ⌝ }
-    ensures fault { λ r. ⌜ r ≡ faultOf (now (table .entry)) room step set line ⌝ }
-    ensures given { λ r. ⌜ (r ≡ 0 → Prepared (now (table .entry)) room step set line (now (full .exit)) (now (gates .exit))) ⌝ }
-{
-    let failure = restart::fill_table(table, room, step, set, full);
-    if failure != 0 {
-        return failure;
-    }
-    let fault = faults::line_fault(full, step, set, line);
-    if fault == 0 {
-        gates::gates(full, line, step as usize, gates);
-    }
-    fault
 }
 
 // Carries out an order of choices from a line: the answer, and in the run area the delivery record of exactly this
@@ -75,7 +48,7 @@ pub fn replay(
 {
     let mut full = [0u32; AREA_WORDS];
     let mut gates = [0u32; gates::GATE_WORDS];
-    let fault = prepare(table, area.len(), step, set, line, &mut full, &mut gates);
+    let fault = preparing::prepare(table, area.len(), step, set, line, &mut full, &mut gates);
     if fault != 0 {
         return refused(fault);
     }
@@ -91,69 +64,11 @@ pub fn lowest(table: &[u32], step: u64, set: u64, line: Line, area: &mut [u32]) 
 {
     let mut full = [0u32; AREA_WORDS];
     let mut gates = [0u32; gates::GATE_WORDS];
-    let fault = prepare(table, area.len(), step, set, line, &mut full, &mut gates);
+    let fault = preparing::prepare(table, area.len(), step, set, line, &mut full, &mut gates);
     if fault != 0 {
         return refused(fault);
     }
     search::lowest(&full, &gates, &mut area[..AREA_WORDS], step as usize)
-}
-
-// How many messages of each class a line leaves.
-pub struct Counted {
-    pub number: u32,
-    pub place: usize,
-    pub orphans: u32,
-    pub kept: u32,
-    pub lost: u32,
-}
-
-fn no_messages(number: u32) -> Counted
-    ensures { λ r. ⌜ r ≡ messagesRefusal number ⌝ }
-{
-    Counted {
-        number: number,
-        place: 0,
-        orphans: 0,
-        kept: 0,
-        lost: 0,
-    }
-}
-
-// Where the restarts of the processes begin in the gates.
-const RESTARTS: usize = 64;
-
-// The orphans, kept and lost messages listed in a run area of zeros, from the full table and the gates of a line: how
-// many there are.
-fn list_from(full: &[u32], gates: &[u32], cut: usize, area: &mut [u32]) -> Counted
-    requires { ⌜ (now area ≡ replicate areaWords 0) × (length (now gates) ≡ 192) × ((t : Trace) × (line : (ℕ → ℕ)) × Given t line cut (now full) (now gates)) ⌝ }
-    ensures answer { λ r. ⌜ ((t : Trace) (line : ℕ → ℕ) → Given t line cut (now (full .entry)) (now (gates .entry)) → r ≡ countsOf (recorded t past cut line)) ⌝ }
-    ensures words { λ _. ⌜ ((t : Trace) (line : ℕ → ℕ) → Given t line cut (now (full .entry)) (now (gates .entry)) → now (area .exit) ≡ wordsFrom (listWord (recorded t past cut line)) 0 areaWords) ⌝ }
-    ensures few { λ r. ⌜ r .orphans + (r .kept + r .lost) ≤ 2048 ⌝ }
-{
-    listing::list(full, &gates[RESTARTS..], cut as u32, area);
-    Counted {
-        number: 0,
-        place: 0,
-        orphans: area[0],
-        kept: area[1],
-        lost: area[2],
-    }
-}
-
-// The orphans, kept and lost messages of a line: how many there are, and their list in the run area.
-pub fn messages(table: &[u32], step: u64, set: u64, line: Line, area: &mut [u32]) -> Counted
-    ensures answer { λ r. ⌜ r ≡ messagesAnswer (now (table .entry)) (now (area .entry)) step set line ⌝ }
-    ensures words { λ _. ⌜ now (area .exit) ≡ messagesArea (now (table .entry)) (now (area .entry)) step set line ⌝ }
-    ensures few { λ r. ⌜ r .orphans + (r .kept + r .lost) ≤ 2048 ⌝ }
-{
-    let mut full = [0u32; AREA_WORDS];
-    let mut gates = [0u32; gates::GATE_WORDS];
-    let fault = prepare(table, area.len(), step, set, line, &mut full, &mut gates);
-    if fault != 0 {
-        return no_messages(fault);
-    }
-    words::zero(&mut area[..AREA_WORDS]);
-    list_from(&full, &gates, step as usize, &mut area[..AREA_WORDS])
 }
 
 // What `restart` answers, and with its line `lowest` and `messages`.
@@ -169,7 +84,7 @@ fn not_recovered(number: u32) -> Recovered
     Recovered {
         restarted: restart::no_restart(number),
         replayed: refused(number),
-        counted: no_messages(number),
+        counted: messages::no_messages(number),
     }
 }
 
@@ -187,7 +102,7 @@ fn recover_from(full: &[u32], cut: usize, set: u64, area: &mut [u32]) -> Recover
     gates::gates(full, restarted.line, cut, &mut gates);
     let replayed = search::lowest(full, &gates, area, cut);
     words::zero(&mut area[..RECORD_WORDS]);
-    let counted = list_from(full, &gates, cut, area);
+    let counted = messages::list_from(full, &gates, cut, area);
     Recovered {
         restarted: restarted,
         replayed: replayed,
@@ -205,7 +120,7 @@ pub fn recover(table: &mut [u32], step: u64, set: u64) -> Recovered
     ensures means { λ r. ⌜ (r .restarted .number ≡ 0 → Succeeds (now (table .entry)) step set r) ⌝ }
 {
     let mut full = [0u32; AREA_WORDS];
-    let fault = restart::fill_table(table, AREA_WORDS, step, set, &mut full);
+    let fault = preparing::fill_table(table, AREA_WORDS, step, set, &mut full);
     if fault != 0 {
         return not_recovered(fault);
     }

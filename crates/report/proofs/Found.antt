@@ -26,13 +26,14 @@ use Rattle.recovery_line.specs.declared.Line.{Line}
 use Rattle.recovery_line.specs.Given.{each, lineIn, lineTo, numbersOf, backOnes}
 use Rattle.listing.specs.Listing.{listWord}
 use Rattle.restart.specs.declared.Restarted.{Restarted}
-use Rattle.recovery.specs.declared.Counted.{Counted}
+use Rattle.messages.specs.declared.Counted.{Counted}
 use Rattle.orders.specs.declared.Replayed.{Replayed}
-use Rattle.recovery.specs.Messages.{countsOf, messagesAnswer, messagesArea}
+use Rattle.messages.specs.Messages.{countsOf, messagesAnswer, messagesArea}
 use Rattle.recovery.specs.Recover.{Succeeds}
-use Rattle.recovery.specs.Answers.{faultOf, runOf as codeRun, Completed}
+use Rattle.preparing.specs.Faults.{faultOf, runOf as codeRun}
+use Rattle.recovery.specs.Answers.{Completed}
 use Rattle.restart.specs.Restart.{ofEach, restartOf, engineLine as codeLine}
-use Rattle.recovery.proofs.Listing.{counts-are, listed-at}
+use Rattle.messages.proofs.Listing.{counts-are, listed-at}
 use Rattle.restart.proofs.Restarting.{Ready, line-is, count-in}
 use Rattle.report.specs.Report.{given, Failure, runOf, Recovery, tabled, engineLine, recoveryBy, processLineOf, printedOf, reportBytes}
 use Rattle.report.specs.Rows.{processRow, recoveryRows}

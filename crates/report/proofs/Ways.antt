@@ -17,7 +17,8 @@ use Rattle.table.proofs.Holding.{told}
 use Rattle.table.proofs.Claims.{failing-held, held-iff}
 use Rattle.theory.specs.Refusals.{failureFault}
 use Rattle.restart.specs.declared.Restarted.{Restarted}
-use Rattle.restart.specs.Restart.{failureFaultOf, restartOf, restartRefusal, restartAnswer, Restarts}
+use Rattle.preparing.specs.Faults.{failureFaultOf}
+use Rattle.restart.specs.Restart.{restartOf, restartRefusal, restartAnswer, Restarts}
 use Rattle.restart.proofs.Restarting.{Ready}
 use Rattle.writer.specs.Buffer.{Puts, room, written}
 use Rattle.writer.proofs.Buffers.{same-bytes, whole}

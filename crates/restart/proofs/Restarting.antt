@@ -1,14 +1,13 @@
 -- Each way out of `restart_from` and `restart`: the answer by its definition, and demand 2.
-use Prim.Native.Nat.{ℕ, _<_, _≤_}
+use Prim.Native.Nat.{ℕ, _≤_}
 use mathlib.Core.Path.{_≡_, sym, ap, _∙_}
-use mathlib.Core.Bool.{true, false, _&&_, not}
+use mathlib.Core.Bool.{true, _&&_, not}
 use mathlib.Core.List.{List}
 use native.Mathlib.Omega.{arith}
 use lib.Count.{ones}
 use lib.Dec.{ltb}
 use lib.ListN.{length}
-use borrow.Author.Tests.{lt-ltb, le-ltb, ne-eqb}
-use Rattle.words.specs.Area.{areaWords}
+use borrow.Author.Tests.{ne-eqb}
 use Rattle.trace.specs.Trace.{Trace}
 use Rattle.table.specs.Held.{held, holdsTrace}
 use Rattle.theory.specs.Events.{size}
@@ -20,7 +19,8 @@ use Rattle.theory.proofs.WellFormed.{valid}
 use Rattle.recovery_line.specs.declared.Line.{Line}
 use Rattle.recovery_line.specs.Given.{Tabled, lineIn, lineTo, restartPhaseIn, numbersOf, backOf, backOnes}
 use Rattle.restart.specs.declared.Restarted.{Restarted}
-use Rattle.restart.specs.Restart.{failureFaultOf, engineLine, ofEach, restartBy, restartOf, restartRefusal, restartAnswer, Restarts}
+use Rattle.preparing.specs.Faults.{failureFaultOf}
+use Rattle.restart.specs.Restart.{engineLine, ofEach, restartBy, restartOf, restartRefusal, restartAnswer, Restarts}
 
 -- ---- From the full table
 
@@ -51,22 +51,7 @@ module _ (t : Trace) (full : List ℕ) (G : Tabled t full) (cut set : ℕ) (cl :
         numbers-are = hn;
       }
 
--- ---- From the table area
-
 module _ (a : List ℕ) (step set : ℕ) where
-  pub short : length a < areaWords → 12 ≡ failureFaultOf a step set
-  unfolding failureFaultOf
-  short h = rw (lt-ltb (length a) 16384 h)
-
-  module _ (la : areaWords ≤ length a) where
-    pub none-held : holdsTrace a ≡ false → 13 ≡ failureFaultOf a step set
-    unfolding failureFaultOf
-    none-held h = rw (le-ltb (length a) 16384 la, h)
-
-    pub failure-number : (f : ℕ) → holdsTrace a ≡ true → f ≡ failureFault (held a) step set → f ≡ failureFaultOf a step set
-    unfolding failureFaultOf
-    failure-number f h q = q ∙ rw (le-ltb (length a) 16384 la, h)
-
   abbrev pub Answered : Restarted → Type 0
   Answered r = (r ≡ restartAnswer a step set) × (r .number ≡ 0 → Restarts (held a) step set r)
 

@@ -6,21 +6,16 @@ use mathlib.Core.List.{List}
 use lib.Count.{ones}
 use lib.ListN.{length, replicate}
 use lib.Dec.{ltb, eqb}
-use Rattle.words.specs.Area.{areaWords, wordsFrom}
+use Rattle.words.specs.Area.{wordsFrom}
 use Rattle.trace.specs.Trace.{Trace}
-use Rattle.trace.specs.Fit.{orElse}
-use Rattle.table.specs.Held.{held, holdsTrace}
+use Rattle.table.specs.Held.{held}
 use Rattle.theory.specs.Lists.{pick}
 use Rattle.theory.specs.Epochs.{past}
 use Rattle.theory.specs.Line.{inSet, staysIn, current, reached, Greatest, greatestLine}
-use Rattle.theory.specs.Refusals.{failureFault}
 use Rattle.recovery_line.specs.declared.Line.{Line}
 use Rattle.recovery_line.specs.Given.{each, lineIn, lineTo, restartPhaseIn, numbersOf, backOf, backOnes}
 use Rattle.restart.specs.declared.Restarted.{Restarted}
-
--- what is wrong with the table area and the failure: 12, 13, 8, 9, or 0
-unfoldable pub failureFaultOf : List ℕ → ℕ → ℕ → ℕ
-failureFaultOf a step set = orElse (ltb (length a) areaWords) 12 (orElse (not (holdsTrace a)) 13 (failureFault (held a) step set))
+use Rattle.preparing.specs.Faults.{failureFaultOf}
 
 -- "The engine's line is the greatest without a lost message." "Places of a line past its N numbers are 0 when the
 -- engine gives it."

@@ -1,39 +1,16 @@
 // The restart that a failure asks for: the greatest line that loses no message, who goes back, and of each process its
 // epoch at the cut and its phase at the restart. specs/Restart says what `restart` answers for every table area and
-// failure, and what that means (demand 2). It has no `requires`; `fill_table` and `restart_from` are steps of it that
-// crate recovery takes too. Assumes nothing.
+// failure, and what that means (demand 2). It has no `requires`; `restart_from` is the step of it that
+// `recovery::recover` takes too. Assumes nothing.
 ghost use mathlib.Core.Path.{_≡_};
 ghost use Prim.Native.Nat.{_≤_};
-ghost use lib.ListN.{length};
-ghost use Rattle.words.specs.Area.{areaWords};
 ghost use Rattle.trace.specs.Trace.{Trace};
 ghost use Rattle.table.specs.Held.{held};
 ghost use Rattle.theory.specs.Events.{size};
 ghost use Rattle.recovery_line.specs.Given.{Tabled};
-ghost use Rattle.restart.specs.Filled.{failureFaultIn, Filled};
 ghost use Rattle.restart.specs.Restart.{restartRefusal, restartOf, restartAnswer, Restarts};
 use recovery_line::Line;
 use words::AREA_WORDS;
-
-// Checks the areas and the failure that a call is given: 12, 13, 8, 9, or 0. Where nothing is wrong, fills the full
-// table of the trace.
-pub fn fill_table(table: &[u32], room: usize, step: u64, set: u64, full: &mut [u32]) -> u32
-    requires { ⌜ length (now full) ≡ areaWords ⌝ }
-    ensures fault { λ r. ⌜ r ≡ failureFaultIn (now (table .entry)) room step set ⌝ }
-    ensures given { λ r. ⌜ (r ≡ 0 → Filled (now (table .entry)) room step set (now (full .exit))) ⌝ }
-{
-    if room < AREA_WORDS {
-        return 12;
-    }
-    if table.len() < AREA_WORDS {
-        return 12;
-    }
-    if protocol::tabulate(table, full) {
-        faults::failure_fault(full, step, set)
-    } else {
-        13
-    }
-}
 
 // What a failure asks for: the engine's line, the set of the processes that go back and its size, and of each process
 // its epoch at the cut and its phase at the restart, or at the cut where it stays.
@@ -90,7 +67,7 @@ pub fn restart(table: &[u32], step: u64, set: u64) -> Restarted
     ensures means { λ r. ⌜ (r .number ≡ 0 → Restarts (held (now (table .entry))) step set r) ⌝ }
 {
     let mut full = [0u32; AREA_WORDS];
-    let fault = fill_table(table, AREA_WORDS, step, set, &mut full);
+    let fault = preparing::fill_table(table, AREA_WORDS, step, set, &mut full);
     if fault != 0 {
         return no_restart(fault);
     }

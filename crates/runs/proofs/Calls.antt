@@ -38,12 +38,13 @@ use Rattle.recovery_line.specs.Given.{lineIn, numbersOf}
 use Rattle.orders.specs.Record.{faultlessAt}
 use Rattle.orders.specs.declared.Replayed.{Replayed}
 use Rattle.orders.specs.Answer.{answerOf, wordsOf}
-use Rattle.recovery.specs.declared.Counted.{Counted}
+use Rattle.messages.specs.declared.Counted.{Counted}
 use Rattle.restart.specs.declared.Restarted.{Restarted}
-use Rattle.recovery.specs.Answers.{faultOf, replayAnswer, replayArea, Completed, runOf as codeRun}
-use Rattle.recovery.specs.Messages.{countsOf}
-use Rattle.restart.specs.Restart.{failureFaultOf, restartOf, restartRefusal, restartAnswer}
-use Rattle.recovery.proofs.Listing.{Listed as Messages, counts-are, listed-at}
+use Rattle.preparing.specs.Faults.{faultOf, runOf as codeRun, failureFaultOf}
+use Rattle.recovery.specs.Answers.{replayAnswer, replayArea, Completed}
+use Rattle.messages.specs.Messages.{countsOf}
+use Rattle.restart.specs.Restart.{restartOf, restartRefusal, restartAnswer}
+use Rattle.messages.proofs.Listing.{Listed as Messages, counts-are, listed-at}
 use Rattle.recovery.proofs.Replaying.{Answered as Replay}
 use Rattle.restart.proofs.Restarting.{Answered as Restart, Ready}
 use Rattle.recovery.proofs.Taking.{not-refused}

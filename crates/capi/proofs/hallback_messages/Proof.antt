@@ -1,7 +1,7 @@
 -- `capi::hallback_messages` meets its contract: what `messages` promises, the answer in numbers.
 use mathlib.Core.Path.{ap, _∙_}
-use Rattle.recovery.specs.declared.Counted.{Counted}
-use Rattle.recovery.specs.Messages.{messagesAnswer, messagesArea}
+use Rattle.messages.specs.declared.Counted.{Counted}
+use Rattle.messages.specs.Messages.{messagesAnswer, messagesArea}
 use Rattle.capi.proofs.Giving.{answer-is, messages-are}
 use borrow.Author.Needs.{needs}
 use Rattle.capi.proofs.hallback_messages.Statement.{statement}

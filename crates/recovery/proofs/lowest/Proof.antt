@@ -5,7 +5,7 @@ use Rattle.words.specs.Area.{areaWords}
 use Rattle.table.specs.Held.{held}
 use Rattle.theory.specs.Order.{lowestOrder}
 use Rattle.recovery_line.specs.Given.{lineIn}
-use Rattle.recovery.specs.Answers.{runOf}
+use Rattle.preparing.specs.Faults.{runOf}
 use Rattle.recovery.proofs.Replaying.{refuses, not-completed, carried, completed}
 use borrow.Author.Needs.{needs}
 use Rattle.recovery.proofs.lowest.Statement.{statement}

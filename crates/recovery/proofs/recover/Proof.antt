@@ -4,7 +4,7 @@ use lib.Seq.{length-take-le}
 use Rattle.words.specs.Area.{areaWords}
 use Rattle.table.specs.Held.{held}
 use Rattle.protocol.proofs.Passes.{held-long}
-use Rattle.restart.proofs.Filling.{step-within}
+use Rattle.preparing.proofs.Filling.{step-within}
 use Rattle.recovery.proofs.Recovering.{refuses-recovery, recovers}
 use mathlib.Core.Path.{sym}
 use borrow.Author.Needs.{needs}

@@ -5,8 +5,8 @@ use lib.Seq.{length-take-le}
 use Rattle.theory.specs.Epochs.{past}
 use Rattle.theory.specs.Line.{recorded}
 use Rattle.recovery_line.specs.Given.{lineIn}
-use Rattle.recovery.proofs.Given.{given}
-use Rattle.recovery.proofs.Listing.{record-cleared}
+use Rattle.preparing.proofs.Given.{given}
+use Rattle.recovery.proofs.Clearing.{record-cleared}
 use Rattle.restart.proofs.Restarting.{count-in}
 use borrow.Author.Needs.{needs}
 use Rattle.recovery.proofs.recover_from.Statement.{statement}

@@ -1,6 +1,6 @@
 -- `restart::restart` meets its contract, one law for each way out.
 use Rattle.table.specs.Held.{held}
-use Rattle.restart.proofs.Filling.{step-within}
+use Rattle.preparing.proofs.Filling.{step-within}
 use Rattle.restart.proofs.Restarting.{refuses-restart, answers-restart}
 use borrow.Author.Needs.{needs}
 use Rattle.restart.proofs.restart.Statement.{statement}

@@ -1,13 +1,13 @@
--- `recovery::prepare` meets its contract, one law for each way out.
+-- `preparing::prepare` meets its contract, one law for each way out.
 use mathlib.Core.Path.{sym, _∙_}
 use Rattle.table.specs.Held.{held}
 use Rattle.theory.proofs.Refusals.{line-fit}
 use Rattle.recovery_line.specs.Given.{lineIn}
-use Rattle.recovery.proofs.Given.{given}
-use Rattle.recovery.proofs.Preparing.{failure-first, line-number}
+use Rattle.preparing.proofs.Given.{given}
+use Rattle.preparing.proofs.Preparing.{failure-first, line-number}
 use borrow.Author.Needs.{needs}
-use Rattle.recovery.proofs.prepare.Statement.{statement}
-use Rattle.recovery.proofs.prepare.Tie as tie
+use Rattle.preparing.proofs.prepare.Statement.{statement}
+use Rattle.preparing.proofs.prepare.Tie as tie
 
 returns : tie.Need-returns
 returns c =

@@ -16,9 +16,8 @@ use Rattle.theory.specs.Refusals.{failureFault, permits, lineFault}
 use Rattle.protocol.proofs.Passes.{held-long}
 use Rattle.recovery_line.specs.declared.Line.{Line}
 use Rattle.recovery_line.specs.Given.{lineIn}
-use Rattle.recovery.specs.Answers.{faultOf}
-use Rattle.restart.specs.Filled.{failureFaultIn}
-use Rattle.restart.specs.Restart.{failureFaultOf}
+use Rattle.preparing.specs.Faults.{faultOf, failureFaultOf}
+use Rattle.preparing.specs.Prepared.{failureFaultIn}
 
 -- the first of the tests that holds gives the number, also where more is looked for afterwards
 first : (b₁ b₂ b₃ b₄ b₅ : Bool) (rest : ℕ) → let n = orElse b₂ 12 (orElse b₁ 12 (orElse b₃ 13 (orElse b₄ 8 (orElse b₅ 9 0)))) in

@@ -1,12 +1,11 @@
--- `restart::fill_table` meets its contract, one law for each way out.
+-- `preparing::fill_table` meets its contract, one law for each way out.
 use mathlib.Core.Path.{sym, _∙_}
 use Rattle.table.specs.Held.{held}
-use Rattle.restart.proofs.Filling.{tabled-holds, tabled, short-area, by-failure}
-use Rattle.restart.proofs.Restarting.{short, none-held, failure-number}
+use Rattle.preparing.proofs.Filling.{tabled-holds, tabled, short-area, by-failure, short, none-held, failure-number}
 use native.Mathlib.Omega.{arith}
 use borrow.Author.Needs.{needs}
-use Rattle.restart.proofs.fill_table.Statement.{statement}
-use Rattle.restart.proofs.fill_table.Tie as tie
+use Rattle.preparing.proofs.fill_table.Statement.{statement}
+use Rattle.preparing.proofs.fill_table.Tie as tie
 
 returns : tie.Need-returns
 returns c =

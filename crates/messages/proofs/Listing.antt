@@ -1,46 +1,31 @@
--- Each way out of `list_from` and `messages`: the counts and the list by the definitions; and the run areas that they
--- find cleared.
+-- The list of the messages, from a full table and gates to the run area.
 use Prim.Native.Nat.{ℕ, _+_, _-_, _<_, _≤_}
-use mathlib.Core.Path.{_≡_, sym, ap, _∙_}
+use mathlib.Core.Path.{_≡_, ap, _∙_}
 use mathlib.Core.List.{List, _++_}
 use native.Mathlib.Omega.{arith}
-use lib.ListN.{length, getD, take, drop, replicate, length-drop, length-replicate, getD-replicate, replicate-append-replicate, length-append, List·getD-append}
-use lib.Seq.{getD-take, getD-drop, length-take-le, take-at, drop-at, ext-getD}
-use borrow.Author.Tests.{ne-eqb, le-ltb}
+use lib.ListN.{length, getD, take, drop, replicate, length-drop, length-replicate, length-append, List·getD-append}
+use lib.Seq.{getD-take, getD-drop, length-take-le, take-at, drop-at}
+use borrow.Author.Tests.{ne-eqb}
 use Rattle.words.specs.Area.{areaWords, wordsFrom}
 use Rattle.words.proofs.Area.{length-words, getD-words}
 use Rattle.trace.specs.Trace.{Trace}
 use Rattle.theory.specs.Epochs.{past}
 use Rattle.theory.specs.Line.{Run, recorded}
-use Rattle.theory.specs.Order.{Outcome, carriedOut, refused}
 use Rattle.theory.proofs.WellFormed.{valid}
 use Rattle.columns.proofs.Bounds.{well-few}
 use Rattle.listing.specs.Listing.{listWord}
 use Rattle.classes.specs.Classes.{Given as Listable}
 use Rattle.listing.proofs.Whole.{rows-few}
 use Rattle.recovery_line.specs.declared.Line.{Line}
-use Rattle.machine.specs.Related.{recordEnd}
-use Rattle.orders.specs.Record.{recordAt}
-use Rattle.orders.specs.Answer.{wordsOf}
 use Rattle.links.specs.Given.{Given}
-use Rattle.recovery.specs.declared.Counted.{Counted}
-use Rattle.recovery.specs.Answers.{runOf, faultOf}
-use Rattle.recovery.specs.Messages.{countsOf, messagesRefusal, messagesAnswer, messagesArea}
+use Rattle.messages.specs.declared.Counted.{Counted}
+use Rattle.preparing.specs.Faults.{runOf, faultOf}
+use Rattle.messages.specs.Messages.{countsOf, messagesRefusal, messagesAnswer, messagesArea}
 
 -- ---- Words that are cleared
 
 pub clear-length : (area : List ℕ) → area ≡ replicate areaWords 0 → length area ≡ areaWords
 clear-length area e = ap length e ∙ length-replicate {A = ℕ} 16384 0
-
--- the first n words cleared, in a list that is 0 after them
-clear-rest : (n m : ℕ) (w : List ℕ) → n ≤ m → length w ≡ m → ((k : ℕ) → n ≤ k → k < m → getD w k 0 ≡ 0) → replicate n 0 ++ drop n w ≡ replicate m 0
-clear-rest n m w b e h =
-    let l : length (drop n w) ≡ m - n = length-drop n w ∙ omega arith in
-    ap (λ (x : List ℕ). replicate n 0 ++ x)
-    (ext-getD 0 (drop n w) (replicate (m - n) 0) (l ∙ sym (length-replicate (m - n) 0))
-    (λ i d. getD-drop n w i 0 ∙ h (n + i) (omega arith) (omega arith) ∙ sym (getD-replicate (m - n) i 0 0 (omega arith))))
-    ∙ replicate-append-replicate n (m - n) 0
-    ∙ ap (λ (k : ℕ). replicate k 0) (let q : n + (m - n) ≡ m = omega arith in q)
 
 -- an area whose first 16,384 words were cleared
 module _ (area z : List ℕ) (n : areaWords ≤ length area) (q : z ≡ replicate (length (take areaWords area)) 0) where
@@ -55,25 +40,6 @@ module _ (area z : List ℕ) (n : areaWords ≤ length area) (q : z ≡ replicat
 
   pub back-kept : drop areaWords (z ++ drop areaWords area) ≡ drop areaWords area
   back-kept = drop-at z (drop 16384 area) 16384 (clear-length z front)
-
-module _ (R : Run) where
-  past-record : (o : Outcome) (k : ℕ) → recordEnd ≤ k → k < areaWords → getD (wordsOf R o) k 0 ≡ 0
-  unfolding wordsOf recordAt
-  past-record (carriedOut s) k a b =
-      getD-words (recordAt R s) 0 16384 k b ∙ ap (recordAt R s) (let q : 0 + k ≡ k = omega arith in q) ∙ rw (le-ltb k 2049 (omega arith), le-ltb k 4098 a)
-  past-record (refused i) k a b = getD-replicate {A = ℕ} 16384 k 0 0 b
-
-  length-record : (o : Outcome) → length (wordsOf R o) ≡ areaWords
-  unfolding wordsOf
-  length-record (carriedOut s) = length-words (recordAt R s) 0 16384
-  length-record (refused i) = length-replicate {A = ℕ} 16384 0
-
-  -- an area is clear once the words of the record are
-  pub record-cleared : (o : Outcome) (w z : List ℕ) → w ≡ wordsOf R o → z ≡ replicate (length (take recordEnd w)) 0 → z ++ drop recordEnd w ≡ replicate areaWords 0
-  record-cleared o w z e q =
-      let l : length w ≡ 16384 = ap length e ∙ length-record o in
-      let n : length (take 4098 w) ≡ 4098 = length-take-le 4098 w (omega arith) in
-      rw (q, n) (clear-rest 4098 16384 w (omega arith) l (λ k a b. ap (λ (x : List ℕ). getD x k 0) e ∙ past-record o k a b))
 
 -- ---- The list
 

@@ -1,30 +1,19 @@
--- What a call has once nothing is wrong with what it was given, and what it makes of it. No public contract cites
--- these.
+-- What `recover` makes of a full table. No public contract cites these.
 use Prim.Native.Nat.{ℕ, _+_, _≤_}
 use mathlib.Core.Path.{_≡_}
-use mathlib.Core.Bool.{true}
 use mathlib.Core.List.{List}
 use lib.ListN.{length}
 use Rattle.words.specs.Area.{areaWords, wordsFrom}
 use Rattle.trace.specs.Trace.{Trace}
-use Rattle.table.specs.Held.{held, holdsTrace}
 use Rattle.theory.specs.Epochs.{past}
 use Rattle.theory.specs.Line.{Run, recorded}
 use Rattle.theory.specs.Order.{run, lowestOrder}
 use Rattle.listing.specs.Listing.{listWord}
-use Rattle.recovery_line.specs.declared.Line.{Line}
 use Rattle.recovery_line.specs.Given.{lineIn}
 use Rattle.orders.specs.Answer.{answerOf}
-use Rattle.links.specs.Given.{Given}
 use Rattle.recovery.specs.declared.Recovered.{Recovered}
-use Rattle.recovery.specs.Messages.{countsOf}
+use Rattle.messages.specs.Messages.{countsOf}
 use Rattle.restart.specs.Restart.{restartOf, Restarts}
-
--- the full table and the gates of a line
-pub record Prepared (a : List ℕ) (room step set : ℕ) (l : Line) (full gates : List ℕ) : Type 0 where
-  pub enough : areaWords ≤ room
-  pub holds : holdsTrace a ≡ true
-  pub given : Given (held a) (lineIn l) step full gates
 
 -- the run of a trace with the line that was found
 abbrev pub foundRun : Trace → ℕ → Recovered → Run

@@ -1,9 +1,9 @@
--- `recovery::list_from` meets its contract: the counts are words of the list.
-use Rattle.recovery.proofs.Listing.{clear-length, cut-fits, listable, counted, few-counted}
+-- `messages::list_from` meets its contract: the counts are words of the list.
+use Rattle.messages.proofs.Listing.{clear-length, cut-fits, listable, counted, few-counted}
 use native.Mathlib.Omega.{arith}
 use borrow.Author.Needs.{needs}
-use Rattle.recovery.proofs.list_from.Statement.{statement}
-use Rattle.recovery.proofs.list_from.Tie as tie
+use Rattle.messages.proofs.list_from.Statement.{statement}
+use Rattle.messages.proofs.list_from.Tie as tie
 
 cast-list : tie.Need-cast-list
 cast-list c =

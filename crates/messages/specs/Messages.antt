@@ -10,8 +10,8 @@ use Rattle.theory.specs.Line.{Run}
 use Rattle.theory.specs.Answers.{orphans, keptOnes, lostOnes}
 use Rattle.listing.specs.Listing.{listWord}
 use Rattle.recovery_line.specs.declared.Line.{Line}
-use Rattle.recovery.specs.declared.Counted.{Counted}
-use Rattle.recovery.specs.Answers.{runOf, faultOf}
+use Rattle.messages.specs.declared.Counted.{Counted}
+use Rattle.preparing.specs.Faults.{runOf, faultOf}
 
 abbrev pub messagesRefusal : ℕ → Counted
 messagesRefusal n = record { number = n; place = 0; orphans = 0; kept = 0; lost = 0 }

@@ -1,14 +1,14 @@
--- `recovery::messages` meets its contract: a refusal changes nothing; otherwise the list is laid down in the first
+-- `messages::messages` meets its contract: a refusal changes nothing; otherwise the list is laid down in the first
 -- 16,384 words.
 use mathlib.Core.Path.{sym}
 use lib.Seq.{length-take-le}
 use Rattle.words.specs.Area.{areaWords}
 use Rattle.table.specs.Held.{held}
 use Rattle.recovery_line.specs.Given.{lineIn}
-use Rattle.recovery.proofs.Listing.{clear-length, front-long, front-clear, back-kept, refuses-messages, lists}
+use Rattle.messages.proofs.Listing.{clear-length, front-long, front-clear, back-kept, refuses-messages, lists}
 use borrow.Author.Needs.{needs}
-use Rattle.recovery.proofs.messages.Statement.{statement}
-use Rattle.recovery.proofs.messages.Tie as tie
+use Rattle.messages.proofs.messages.Statement.{statement}
+use Rattle.messages.proofs.messages.Tie as tie
 
 returns : tie.Need-returns
 returns c =

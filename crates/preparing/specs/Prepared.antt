@@ -1,5 +1,4 @@
--- What a call has once nothing is wrong with the areas and the failure that it was given. No public contract cites
--- these.
+-- What a call has once nothing is wrong with what it was given. No public contract cites these.
 use Prim.Native.Nat.{ℕ, _≤_}
 use mathlib.Core.Path.{_≡_}
 use mathlib.Core.Bool.{true}
@@ -10,8 +9,10 @@ use Rattle.trace.specs.Fit.{orElse}
 use Rattle.table.specs.Held.{held, holdsTrace}
 use Rattle.theory.specs.Order.{run}
 use Rattle.theory.specs.Refusals.{failureFault}
-use Rattle.recovery_line.specs.Given.{Tabled}
-use Rattle.restart.specs.Restart.{failureFaultOf}
+use Rattle.recovery_line.specs.Given.{Tabled, lineIn}
+use Rattle.preparing.specs.Faults.{failureFaultOf}
+use Rattle.recovery_line.specs.declared.Line.{Line}
+use Rattle.links.specs.Given.{Given}
 
 -- what is wrong with the areas (`room` is how many words the run area has) and the failure: 12, 13, 8, 9, or 0
 abbrev pub failureFaultIn : List ℕ → ℕ → ℕ → ℕ → ℕ
@@ -23,3 +24,9 @@ pub record Filled (a : List ℕ) (room step set : ℕ) (full : List ℕ) : Type 
   pub holds : holdsTrace a ≡ true
   pub fit : failureFault (held a) step set ≡ 0
   pub tabled : Tabled (held a) full
+
+-- the full table and the gates of a line
+pub record Prepared (a : List ℕ) (room step set : ℕ) (l : Line) (full gates : List ℕ) : Type 0 where
+  pub enough : areaWords ≤ room
+  pub holds : holdsTrace a ≡ true
+  pub given : Given (held a) (lineIn l) step full gates

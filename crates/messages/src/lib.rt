@@ -1,0 +1,73 @@
+// The orphans, the kept and the lost messages of a line, counted, and listed in the run area. specs/Messages says what
+// `messages` answers and leaves for every input. It has no `requires`; `list_from` is the step of it that
+// `recovery::recover` takes too. Assumes nothing.
+ghost use mathlib.Core.Path.{_≡_};
+ghost use Prim.Native.Nat.{ℕ, _+_, _≤_};
+ghost use lib.ListN.{length, replicate};
+ghost use Rattle.words.specs.Area.{areaWords, wordsFrom};
+ghost use Rattle.trace.specs.Trace.{Trace};
+ghost use Rattle.theory.specs.Epochs.{past};
+ghost use Rattle.theory.specs.Line.{recorded};
+ghost use Rattle.listing.specs.Listing.{listWord};
+ghost use Rattle.links.specs.Given.{Given};
+ghost use Rattle.messages.specs.Messages.{countsOf, messagesRefusal, messagesAnswer, messagesArea};
+use recovery_line::Line;
+use words::AREA_WORDS;
+
+// How many messages of each class a line leaves.
+pub struct Counted {
+    pub number: u32,
+    pub place: usize,
+    pub orphans: u32,
+    pub kept: u32,
+    pub lost: u32,
+}
+
+pub fn no_messages(number: u32) -> Counted
+    ensures { λ r. ⌜ r ≡ messagesRefusal number ⌝ }
+{
+    Counted {
+        number: number,
+        place: 0,
+        orphans: 0,
+        kept: 0,
+        lost: 0,
+    }
+}
+
+// Where the restarts of the processes begin in the gates.
+const RESTARTS: usize = 64;
+
+// The orphans, kept and lost messages listed in a run area of zeros, from the full table and the gates of a line: how
+// many there are.
+pub fn list_from(full: &[u32], gates: &[u32], cut: usize, area: &mut [u32]) -> Counted
+    requires { ⌜ (now area ≡ replicate areaWords 0) × (length (now gates) ≡ 192) × ((t : Trace) × (line : (ℕ → ℕ)) × Given t line cut (now full) (now gates)) ⌝ }
+    ensures answer { λ r. ⌜ ((t : Trace) (line : ℕ → ℕ) → Given t line cut (now (full .entry)) (now (gates .entry)) → r ≡ countsOf (recorded t past cut line)) ⌝ }
+    ensures words { λ _. ⌜ ((t : Trace) (line : ℕ → ℕ) → Given t line cut (now (full .entry)) (now (gates .entry)) → now (area .exit) ≡ wordsFrom (listWord (recorded t past cut line)) 0 areaWords) ⌝ }
+    ensures few { λ r. ⌜ r .orphans + (r .kept + r .lost) ≤ 2048 ⌝ }
+{
+    listing::list(full, &gates[RESTARTS..], cut as u32, area);
+    Counted {
+        number: 0,
+        place: 0,
+        orphans: area[0],
+        kept: area[1],
+        lost: area[2],
+    }
+}
+
+// The orphans, kept and lost messages of a line: how many there are, and their list in the run area.
+pub fn messages(table: &[u32], step: u64, set: u64, line: Line, area: &mut [u32]) -> Counted
+    ensures answer { λ r. ⌜ r ≡ messagesAnswer (now (table .entry)) (now (area .entry)) step set line ⌝ }
+    ensures words { λ _. ⌜ now (area .exit) ≡ messagesArea (now (table .entry)) (now (area .entry)) step set line ⌝ }
+    ensures few { λ r. ⌜ r .orphans + (r .kept + r .lost) ≤ 2048 ⌝ }
+{
+    let mut full = [0u32; AREA_WORDS];
+    let mut gates = [0u32; gates::GATE_WORDS];
+    let fault = preparing::prepare(table, area.len(), step, set, line, &mut full, &mut gates);
+    if fault != 0 {
+        return no_messages(fault);
+    }
+    words::zero(&mut area[..AREA_WORDS]);
+    list_from(&full, &gates, step as usize, &mut area[..AREA_WORDS])
+}
