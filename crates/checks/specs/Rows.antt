@@ -1,4 +1,5 @@
--- Rows of cases: the place of a byte, the fields of a row, with a blank between two, and the number a field begins with.
+-- Rows of cases: the place of a byte, the fields of a row, with a blank between two, and the number a field begins
+-- with.
 use Prim.Native.Nat.{ℕ, zero, suc, _+_, _-_, _≤_}
 use mathlib.Core.Path.{_≡_}
 use mathlib.Core.List.{List, [], _∷_}

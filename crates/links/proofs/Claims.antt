@@ -9,7 +9,6 @@ use Rattle.trace.specs.Fit.{wellFormed}
 use Rattle.theory.specs.Events.{size}
 use Rattle.theory.specs.Epochs.{past}
 use Rattle.theory.specs.Line.{recorded}
-use Rattle.theory.specs.Order.{run}
 use Rattle.theory.proofs.WellFormed.{valid}
 use Rattle.theory.proofs.Epochs.{laws}
 use Rattle.columns.specs.Columns.{Columns}

@@ -11,7 +11,6 @@ use Rattle.trace.specs.Table.{eventBase, valueBase}
 use Rattle.columns.specs.Columns.{numberBase, phaseBase}
 use Rattle.theory.specs.Lists.{pick}
 use Rattle.theory.specs.Events.{Kind, send, recv, other}
-use Rattle.theory.specs.Order.{run}
 
 -- The run area: word e the number of the message that receive e took, word takenBase + e its value; then working words,
 -- zero again at the end.

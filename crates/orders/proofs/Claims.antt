@@ -12,12 +12,10 @@ use Rattle.theory.specs.Line.{Run, LossFree}
 use Rattle.theory.specs.Replay.{State, SameRecord}
 use Rattle.theory.specs.Order.{Outcome, carriedOut, refused, run, complete}
 use Rattle.theory.proofs.Flow.{Inv}
-use Rattle.theory.proofs.Epochs.{laws}
 use Rattle.machine.specs.Words.{currentBase, lowPlace, allowedW, applyW, noneFrom, Bounded}
 use Rattle.machine.specs.Related.{Rel, Started}
 use Rattle.orders.specs.Record.{recordAt, Live, faultlessAt}
 use Rattle.orders.proofs.Orders.{live-start, live-bad, live-next, live-end, none-same, rel-bounded, record-left}
-use Rattle.links.proofs.Columns.{few, base}
 use Rattle.orders.proofs.Records.{order-record, complete-record}
 
 -- Orders, from what a replay begins with: `Live` holds before the first choice, each allowed choice keeps it, and the

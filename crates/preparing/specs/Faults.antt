@@ -13,7 +13,6 @@ use Rattle.theory.specs.Line.{Run, recorded}
 use Rattle.theory.specs.Refusals.{failureFault, lineFault}
 use Rattle.recovery_line.specs.declared.Line.{Line}
 use Rattle.recovery_line.specs.Given.{lineIn}
-use Rattle.theory.specs.Order.{run}
 
 -- what is wrong with the table area and the failure: 12, 13, 8, 9, or 0
 unfoldable pub failureFaultOf : List ℕ → ℕ → ℕ → ℕ

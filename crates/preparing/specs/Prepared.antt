@@ -7,7 +7,6 @@ use lib.Dec.{ltb}
 use Rattle.words.specs.Area.{areaWords}
 use Rattle.trace.specs.Fit.{orElse}
 use Rattle.table.specs.Held.{held, holdsTrace}
-use Rattle.theory.specs.Order.{run}
 use Rattle.theory.specs.Refusals.{failureFault}
 use Rattle.recovery_line.specs.Given.{Tabled, lineIn}
 use Rattle.preparing.specs.Faults.{failureFaultOf}

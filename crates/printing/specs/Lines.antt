@@ -3,8 +3,6 @@ use mathlib.Core.List.{List, [], _∷_, _++_}
 use Prim.Native.Nat.{ℕ}
 use Prim.Native.String.{String}
 use Rattle.text.specs.Number.{decimal}
-use Rattle.theory.specs.Order.{steps}
-use Rattle.theory.specs.Answers.{orphans}
 use Rattle.printing.specs.Bytes.{bytesOf}
 
 -- ---- What the program prints

@@ -15,7 +15,6 @@ use Rattle.trace.specs.Table.{tableWord}
 use Rattle.table.specs.Held.{heldEvent, heldEvents, held, holdsTrace}
 use Rattle.table.proofs.Places.{length-held}
 use Rattle.table.proofs.Holding.{held-self, words-of}
-use Rattle.theory.specs.Lists.{place}
 use Rattle.theory.specs.Events.{size, eventAt}
 use Rattle.theory.proofs.WellFormed.{Valid, valid}
 use Rattle.columns.specs.Filling.{Filled}

@@ -9,7 +9,7 @@ use Rattle.recovery_line.specs.Given.{lineIn}
 use Rattle.restart.specs.declared.Restarted.{Restarted}
 use Rattle.preparing.specs.Faults.{faultOf}
 use Rattle.preparing.proofs.Preparing.{line-number}
-use Rattle.restart.proofs.Restarting.{means, Ready, count-in}
+use Rattle.restart.proofs.Restarting.{Ready, count-in}
 
 module _ (a : List ℕ) (step set : ℕ) (r : Restarted) (G : Ready a step set r) where
   -- nothing is wrong with the engine's line, so that neither `messages` nor `lowest` refuses it

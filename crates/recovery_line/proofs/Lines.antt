@@ -5,7 +5,7 @@ use native.Mathlib.Omega.{arith}
 use lib.ListN.{getD}
 use borrow.Author.Tests.{lt-ltb}
 use Rattle.recovery_line.specs.declared.Line.{Line}
-use Rattle.recovery_line.specs.Given.{lineIn, each}
+use Rattle.recovery_line.specs.Given.{lineIn}
 
 -- the numbers of a line that has one for each process
 pub line-at : (l : Line) (n : ℕ) → l .count ≡ n → (z : ℕ) → z < n → lineIn l z ≡ getD (l .epochs) z 0
