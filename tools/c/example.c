@@ -1,5 +1,6 @@
-/* The library from C: reads the trace H of document 01, finds the restart line after its failure, carries out the lowest order from it, and
-   compares the record with that of the line on which every process goes back to its start. Prints what it finds; 1 if that is not as expected. */
+/* The library from C: reads the trace H of document 01, finds the restart line after its failure, carries out the
+   lowest order from it, and compares the record with that of the line on which every process goes back to its start.
+   Prints what it finds; 1 if that is not as expected. */
 #include <stdio.h>
 #include <string.h>
 
