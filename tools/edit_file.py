@@ -46,6 +46,8 @@ def changed(path):
             texts[file], old = before.replace(old, new), ""
     if not texts:
         raise BadEdit("no pair of `old:` and `new:`")
+    if all(file.startswith("proofs/") for file in texts):
+        raise BadEdit("it changes a proof only, and neither code nor a definition")
     return texts
 
 
@@ -72,10 +74,11 @@ def first_error(log):
 
 
 def unfit(log):
-    """Why the refusal in a log does not show what the edit is named for, or an empty text where it does.
+    """Why the refusal in a log cannot show what the edit is named for, or an empty text where it can.
 
-    It does where the first error that tells something stands in a file of proofs/ (or is of a function that has none)
-    and says that something does not hold. It does not where the edited text itself is wrong: the compiler did not ask
+    That the edited text is wrong, and not only other words for the same, no log can tell: who writes an edit sees to
+    that. It can show it where the first error that tells something stands in a file of proofs/ (or is of a function that has none)
+    and says that something does not hold. It cannot where the edited text does not check at all: the compiler did not ask
     the prover, or that error stands in src/ or specs/. Nor where a proof no longer fits the code (a module that `has no
     Need-.. that can be named from here`, a record that `has no field`, a name that is not in scope, something applied
     to too many arguments, a text that does not parse): such a proof fails whether the edited code is right or wrong.

@@ -6,7 +6,7 @@ use lib.Dec.{eqb, leb}
 use lib.ListN.{getD}
 use Rattle.bruteforce.specs.declared.events.Failure.{Failure}
 
--- two or three processes and at most 6 events
+-- at most three processes and six events: what the arrays have room for
 pub record Small (f : Failure) : Type 0 where
   pub count : f .count ≤ 3
   pub size : f .size ≤ 6

@@ -1,13 +1,14 @@
 -- Keys and numbers put one after another are a line.
 use Prim.Native.Nat.{ℕ, _+_, _/_, _%_}
-use mathlib.Core.Path.{_≡_}
+use Prim.Native.String.{String}
+use mathlib.Core.Path.{_≡_, refl}
 use mathlib.Core.Bool.{Bool}
 use mathlib.Core.List.{List, [], _∷_, _++_}
 use Rattle.text.specs.Number.{decimal}
 use Rattle.writer.specs.Buffer.{Puts}
 use Rattle.writer.proofs.Buffers.{then}
 use Rattle.printing.specs.Bytes.{bytesOf}
-use Rattle.printing.specs.Lines.{processLine, refusalLine, totalLine}
+use Rattle.printing.specs.Lines.{processLine, messageLine, refusalLine, totalLine}
 use Rattle.printing.specs.Rows.{rowBytes, messageKey, wordsRow}
 
 -- four keys with their numbers, and the end of the line
@@ -36,6 +37,11 @@ pub message-keys : (k l m n : List ℕ) (w number phase : ℕ) → l ≡ bytesOf
     → rowBytes k (w % 64) l (w / 64 % 64) m number n phase ≡ wordsRow k w number phase
 unfolding wordsRow
 message-keys k l m n w number phase hl hm hn = rw (hl, hm, hn)
+
+-- a message's words give its line
+pub words-line : (key : String) (w number phase : ℕ) → wordsRow (bytesOf key) w number phase ≡ messageLine key (w % 64) (w / 64 % 64) number phase
+unfolding wordsRow rowBytes messageLine
+words-line key w number phase = refl
 
 pub total-keys : (k l m n : List ℕ) (back orphans kept steps : ℕ) → k ≡ bytesOf "out=total back=" → l ≡ bytesOf " orphans=" → m ≡ bytesOf " kept="
     → n ≡ bytesOf " steps=" → rowBytes k back l orphans m kept n steps ≡ totalLine back orphans kept steps

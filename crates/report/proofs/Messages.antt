@@ -16,7 +16,8 @@ use Rattle.listing.proofs.Channels.{gather-cong}
 use Rattle.printing.specs.Bytes.{bytesOf}
 use Rattle.printing.specs.Lines.{messageLine, keyOrphan, keyKept}
 use Rattle.report.specs.Report.{messageLines}
-use Rattle.printing.specs.Rows.{rowBytes, wordsRow}
+use Rattle.printing.specs.Rows.{wordsRow}
+use Rattle.printing.proofs.Lines.{words-line}
 use Rattle.report.specs.Rows.{messageRow}
 
 -- ---- Lists gathered from the first
@@ -94,12 +95,11 @@ pub record At (run : List ℕ) (before class : ℕ) (ms : List Listed) : Type 0 
 
 row-line : (k : List ℕ) (key : String) (class w number phase : ℕ) (m : Listed) → k ≡ bytesOf key → Small m
     → w ≡ rowOf class m .word → number ≡ m .number → phase ≡ m .phase → wordsRow k w number phase ≡ messageLine key (m .from) (m .to) (m .number) (m .phase)
-unfolding wordsRow rowBytes messageLine
 row-line k key class w number phase m hk s hw hn hp =
     let a : w % 64 ≡ m .from = omega (arith, s .0, s .1) in
     let q : w / 64 ≡ m .to + 64 * class = omega (arith, s .0) in
     let b : w / 64 % 64 ≡ m .to = rw q (omega (arith, s .1)) in
-    rw (hk, a, b, hn, hp)
+    ap (λ (l : List ℕ). wordsRow l w number phase) hk ∙ words-line key w number phase ∙ rw (a, b, hn, hp)
 
 -- the lines that the code writes are those of the messages
 pub lines-are : (k : List ℕ) (key : String) (run : List ℕ) (before class : ℕ) (ms : List Listed) → k ≡ bytesOf key → AllSmall ms → At run before class ms
