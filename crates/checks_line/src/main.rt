@@ -16,8 +16,6 @@ use bruteforce::Failure;
 use sequences::put_trace;
 use sequences::sequence;
 
-mod answers;
-
 // What is counted: traces that are fit, sequences that the reader is to refuse, failures whose answer was compared,
 // lines judged for them, orders replayed, and comparisons in which the engine and brute force differ.
 const TRACES: usize = 0;

@@ -1,12 +1,12 @@
--- `read_order` meets its contract: the place lies within the order, whose length stores keep.
+-- `calls::read_order` meets its contract: the place lies within the order, whose length stores keep.
 use Prim.Native.Nat.{_-_, _≤_}
 use mathlib.Core.Path.{_≡_, refl, sym}
 use lib.ListN.{length, length-set}
 use lib.Seq.{length-take-le}
 use native.Mathlib.Omega.{arith}
 use borrow.Author.Needs.{needs}
-use Rattle.checks_runs.proofs.read_order.Statement.{statement}
-use Rattle.checks_runs.proofs.read_order.Tie as tie
+use Rattle.calls.proofs.read_order.Statement.{statement}
+use Rattle.calls.proofs.read_order.Tie as tie
 
 abbrev Inv-loop : tie.InvT-loop
 Inv-loop row from order₀ i₀ order i = (i ≤ length order) × (length order ≡ length order₀)

@@ -1,9 +1,9 @@
--- `right_replay` meets its contract: a refusal is never right.
+-- `answers::right_replay` meets its contract: a refusal is never right.
 use mathlib.Core.Path.{refl}
 use Rattle.words.proofs.Cases.{clash}
 use borrow.Author.Needs.{needs}
-use Rattle.checks_line.proofs.answers.right_replay.Statement.{statement}
-use Rattle.checks_line.proofs.answers.right_replay.Tie as tie
+use Rattle.answers.proofs.right_replay.Statement.{statement}
+use Rattle.answers.proofs.right_replay.Tie as tie
 
 returns : tie.Need-returns
 returns c = λ e. clash e refl

@@ -1,8 +1,8 @@
--- `print_messages` is safe and ends.
+-- `calls::print_messages` is safe and ends.
 use Prim.Native.Nat.{_-_, _≤_}
 use borrow.Author.Needs.{needs}
-use Rattle.checks_runs.proofs.print_messages.Statement.{statement}
-use Rattle.checks_runs.proofs.print_messages.Tie as tie
+use Rattle.calls.proofs.print_messages.Statement.{statement}
+use Rattle.calls.proofs.print_messages.Tie as tie
 
 abbrev Inv-loop : tie.InvT-loop
 Inv-loop run before count i₀ i = i ≤ count

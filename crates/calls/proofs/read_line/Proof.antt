@@ -1,8 +1,8 @@
--- `read_line` is safe and ends.
+-- `calls::read_line` is safe and ends.
 use Prim.Native.Nat.{_-_, _≤_}
 use borrow.Author.Needs.{needs}
-use Rattle.checks_runs.proofs.read_line.Statement.{statement}
-use Rattle.checks_runs.proofs.read_line.Tie as tie
+use Rattle.calls.proofs.read_line.Statement.{statement}
+use Rattle.calls.proofs.read_line.Tie as tie
 
 abbrev Inv-loop : tie.InvT-loop
 Inv-loop row count epochs₀ z₀ epochs z = z ≤ 64

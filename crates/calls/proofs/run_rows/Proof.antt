@@ -1,9 +1,9 @@
--- `run_rows` is safe and ends: each row ends after it begins.
+-- `calls::run_rows` is safe and ends: each row ends after it begins.
 use Prim.Native.Nat.{_-_, _≤_}
 use lib.ListN.{length}
 use borrow.Author.Needs.{needs}
-use Rattle.checks_runs.proofs.run_rows.Statement.{statement}
-use Rattle.checks_runs.proofs.run_rows.Tie as tie
+use Rattle.calls.proofs.run_rows.Statement.{statement}
+use Rattle.calls.proofs.run_rows.Tie as tie
 
 abbrev Inv-loop : tie.InvT-loop
 Inv-loop table rows at₀ at = 0 ≤ at

@@ -1,8 +1,8 @@
--- `print_record` is safe and ends.
+-- `calls::print_record` is safe and ends.
 use Prim.Native.Nat.{_-_, _≤_}
 use borrow.Author.Needs.{needs}
-use Rattle.checks_runs.proofs.print_record.Statement.{statement}
-use Rattle.checks_runs.proofs.print_record.Tie as tie
+use Rattle.calls.proofs.print_record.Statement.{statement}
+use Rattle.calls.proofs.print_record.Tie as tie
 
 abbrev Inv-loop : tie.InvT-loop
 Inv-loop run e₀ e = (1 ≤ e) × (e ≤ 2049)

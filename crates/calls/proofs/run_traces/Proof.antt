@@ -1,9 +1,9 @@
--- `run_traces` is safe and ends: each trace and its rows end after they begin.
+-- `calls::run_traces` is safe and ends: each trace and its rows end after they begin.
 use Prim.Native.Nat.{_-_, _≤_}
 use lib.ListN.{length}
 use borrow.Author.Needs.{needs}
-use Rattle.checks_runs.proofs.run_traces.Statement.{statement}
-use Rattle.checks_runs.proofs.run_traces.Tie as tie
+use Rattle.calls.proofs.run_traces.Statement.{statement}
+use Rattle.calls.proofs.run_traces.Tie as tie
 
 abbrev Inv-loop : tie.InvT-loop
 Inv-loop input at₀ at = 0 ≤ at

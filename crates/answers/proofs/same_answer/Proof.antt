@@ -1,9 +1,9 @@
--- `same_answer` meets its contract: a refusal is never the best line.
+-- `answers::same_answer` meets its contract: a refusal is never the best line.
 use mathlib.Core.Path.{refl}
 use Rattle.words.proofs.Cases.{clash}
 use borrow.Author.Needs.{needs}
-use Rattle.checks_line.proofs.answers.same_answer.Statement.{statement}
-use Rattle.checks_line.proofs.answers.same_answer.Tie as tie
+use Rattle.answers.proofs.same_answer.Statement.{statement}
+use Rattle.answers.proofs.same_answer.Tie as tie
 
 returns : tie.Need-returns
 returns c = λ e. clash e refl

@@ -1,4 +1,4 @@
-// The engine's answers beside what brute force found.
+// The engine's answers beside what brute force found: are they the same. Assumes what `libc` assumes.
 ghost use mathlib.Core.Bool.{true};
 ghost use mathlib.Core.Path.{_≡_};
 ghost use Prim.Native.Nat.{_≤_};
