@@ -3,7 +3,7 @@ ghost use mathlib.Core.Bool.{true};
 ghost use mathlib.Core.Path.{_≡_};
 ghost use Prim.Native.Nat.{_≤_};
 ghost use Rattle.bruteforce.specs.Counts.{Small};
-use bruteforce::Best;
+use bestline::Best;
 use bruteforce::Failure;
 use bruteforce::STAYS;
 use bruteforce::one_if;

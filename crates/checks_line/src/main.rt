@@ -11,7 +11,7 @@ ghost use Rattle.bruteforce.specs.Counts.{Small};
 use answers::right_replay;
 use answers::same_answer;
 use answers::widened;
-use bruteforce::Best;
+use bestline::Best;
 use bruteforce::Failure;
 use sequences::put_trace;
 use sequences::sequence;
@@ -48,7 +48,7 @@ fn expect(tally: &mut [u64; 6], right: bool) {
 fn compare(f: Failure, table: &[u32; 16384], tally: &mut [u64; 6]) -> Best
     requires { ⌜ Small f ⌝ }
 {
-    let b = bruteforce::best_line(f);
+    let b = bestline::best_line(f);
     add(tally, LINES, b.judged);
     expect(tally, b.reached);
     let r = restart::restart(table, f.cut as u64, f.set);
@@ -89,7 +89,7 @@ fn replay_all(
     let mut line = [0u32; 4];
     let mut x = 0;
     while x < 64 {
-        if bruteforce::may_replay(f, x, &mut line) {
+        if bestline::may_replay(f, x, &mut line) {
             replay(f, &line, table, faultless, run, tally);
         }
         x += 1;
@@ -117,7 +117,7 @@ fn replay_some(
 {
     replay(f, best, table, faultless, run, tally);
     let mut line = [0u32; 4];
-    bruteforce::highest(f, &mut line);
+    bestline::highest(f, &mut line);
     if bruteforce::loses(f, &line) {
         replay(f, &line, table, faultless, run, tally);
     }

@@ -1,12 +1,12 @@
 -- `highest` meets its contract: every store is at a process.
 use Prim.Native.Nat.{_-_, _≤_}
 use mathlib.Core.Path.{_≡_, refl, _∙_}
 use Rattle.bruteforce.specs.Counts.{spare}
 use Rattle.bruteforce.proofs.Counts.{spare-kept}
 use native.Mathlib.Omega.{arith}
 use borrow.Author.Needs.{needs}
-use Rattle.bruteforce.proofs.lines.highest.Statement.{statement}
-use Rattle.bruteforce.proofs.lines.highest.Tie as tie
+use Rattle.bestline.proofs.highest.Statement.{statement}
+use Rattle.bestline.proofs.highest.Tie as tie
 
 abbrev Inv-loop : tie.InvT-loop
 Inv-loop f line₀ z₀ line z = (z ≤ f .count) × (spare line ≡ spare line₀)

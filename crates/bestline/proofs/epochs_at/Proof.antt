@@ -1,12 +1,12 @@
 -- `epochs_at` meets its contract: every store is at a process.
 use Prim.Native.Nat.{_-_, _≤_}
 use mathlib.Core.Path.{_≡_, refl}
 use Rattle.bruteforce.specs.Counts.{spare}
 use Rattle.bruteforce.proofs.Counts.{spare-kept}
 use native.Mathlib.Omega.{arith}
 use borrow.Author.Needs.{needs}
-use Rattle.bruteforce.proofs.lines.epochs_at.Statement.{statement}
-use Rattle.bruteforce.proofs.lines.epochs_at.Tie as tie
+use Rattle.bestline.proofs.epochs_at.Statement.{statement}
+use Rattle.bestline.proofs.epochs_at.Tie as tie
 
 abbrev Inv-loop : tie.InvT-loop
 Inv-loop f epochs₀ events z₀ epochs z = (z ≤ f .count) × (spare epochs ≡ spare epochs₀)

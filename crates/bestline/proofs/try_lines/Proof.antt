@@ -1,8 +1,8 @@
 -- `try_lines` meets its contract: no line is judged twice.
 use Prim.Native.Nat.{_-_, _≤_}
 use borrow.Author.Needs.{needs}
-use Rattle.bruteforce.proofs.lines.try_lines.Statement.{statement}
-use Rattle.bruteforce.proofs.lines.try_lines.Tie as tie
+use Rattle.bestline.proofs.try_lines.Statement.{statement}
+use Rattle.bestline.proofs.try_lines.Tie as tie
 
 abbrev Inv-loop : tie.InvT-loop
 Inv-loop f epochs best₀ line₀ end judged₀ x₀ best line judged x = (judged ≤ x) × (x ≤ end)

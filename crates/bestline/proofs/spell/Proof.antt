@@ -1,12 +1,12 @@
 -- `spell` meets its contract: every store is at a process.
 use Prim.Native.Nat.{_-_, _≤_}
 use mathlib.Core.Path.{_≡_, refl}
 use Rattle.bruteforce.specs.Counts.{spare}
 use Rattle.bruteforce.proofs.Counts.{spare-kept}
 use native.Mathlib.Omega.{arith}
 use borrow.Author.Needs.{needs}
-use Rattle.bruteforce.proofs.lines.spell.Statement.{statement}
-use Rattle.bruteforce.proofs.lines.spell.Tie as tie
+use Rattle.bestline.proofs.spell.Statement.{statement}
+use Rattle.bestline.proofs.spell.Tie as tie
 
 abbrev Inv-loop : tie.InvT-loop
 Inv-loop count x line₀ rest₀ z₀ line rest z = (z ≤ count) × (spare line ≡ spare line₀)

@@ -1,13 +1,14 @@
-// Every line of two or three processes, and the best of those that lose nothing.
+// Every line of two or three processes, and the best of those that lose nothing, by trying them all. It names nothing
+// of the engine. Assumes nothing.
 ghost use mathlib.Core.Bool.{true};
 ghost use mathlib.Core.Path.{_≡_};
 ghost use Prim.Native.Nat.{_+_, _*_, _≤_, _<_};
 ghost use Rattle.bruteforce.specs.Counts.{Small, spare};
-use crate::events::Failure;
-use crate::events::STAYS;
-use crate::rules::epoch;
-use crate::rules::loses;
-use crate::rules::phases_at;
+use bruteforce::Failure;
+use bruteforce::STAYS;
+use bruteforce::epoch;
+use bruteforce::loses;
+use bruteforce::phases_at;
 
 // The best line of a failure: the largest number of each process in the lines that lose nothing; the epochs at the cut,
 // and the phases that the processes go on from; how many lines were judged for it; and whether the best is itself one

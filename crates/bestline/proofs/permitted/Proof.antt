@@ -1,8 +1,8 @@
 -- `permitted` is safe and ends.
 use Prim.Native.Nat.{_-_, _≤_}
 use borrow.Author.Needs.{needs}
-use Rattle.bruteforce.proofs.lines.permitted.Statement.{statement}
-use Rattle.bruteforce.proofs.lines.permitted.Tie as tie
+use Rattle.bestline.proofs.permitted.Statement.{statement}
+use Rattle.bestline.proofs.permitted.Tie as tie
 
 abbrev Inv-loop : tie.InvT-loop
 Inv-loop f epochs line z₀ z = z ≤ f .count

@@ -1,8 +1,8 @@
 -- `raise` is safe and ends.
 use Prim.Native.Nat.{_-_, _≤_}
 use borrow.Author.Needs.{needs}
-use Rattle.bruteforce.proofs.lines.raise.Statement.{statement}
-use Rattle.bruteforce.proofs.lines.raise.Tie as tie
+use Rattle.bestline.proofs.raise.Statement.{statement}
+use Rattle.bestline.proofs.raise.Tie as tie
 
 abbrev Inv-loop : tie.InvT-loop
 Inv-loop best₀ line z₀ best z = z ≤ 4
