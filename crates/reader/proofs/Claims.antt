@@ -5,14 +5,20 @@ use mathlib.Core.Path.{_≡_, refl, sym, ap, _∙_}
 use mathlib.Core.Logic.{_↔_}
 use mathlib.Core.List.{List, _++_}
 use mathlib.Core.Bool.{true}
+use native.Mathlib.Omega.{arith}
+use lib.ListN.{length}
+use borrow.Author.Tests.{lt-ltb, le-ltb}
+use Rattle.words.specs.Area.{areaWords}
+use Rattle.words.proofs.Cases.{by-lt}
 use Rattle.trace.specs.Trace.{Trace}
 use Rattle.trace.specs.Fit.{wellFormed}
 use Rattle.lines.specs.Line.{most, mostSet}
 use Rattle.reader.specs.Render.{render}
 use Rattle.lines.specs.Render.{renderFailure}
-use Rattle.reader.specs.Failure.{refused, failing, failureOf}
-use Rattle.reader.specs.Verdict.{accepted, verdict}
-use Rattle.reader.proofs.Whole.{verdict-taken, render-taken, failing-taken, render-failing, refused-taken}
+use Rattle.reader.specs.Answer.{answerOf, readAnswer}
+use Rattle.reader.specs.Failure.{Failing, refused, failing, failureOf, failureAnswerOf, failureAnswer}
+use Rattle.reader.specs.Verdict.{Verdict, accepted, verdict}
+use Rattle.reader.proofs.Whole.{verdict-taken, render-taken, failing-taken, render-failing, refused-taken, verdict-numbered}
 
 -- The canonical text theorem: a text is accepted as a trace exactly where the trace is well formed and the text is its
 -- rendering, byte for byte.
@@ -52,6 +58,31 @@ canonical-failing text t step set = (failing-taken text t step set, λ h. ap fai
 pub failing-fit : (text : List ℕ) (t : Trace) (step set : ℕ) → failureOf text ≡ failing t step set → wellFormed t ≡ true
 failing-fit text t step set e = canonical-failing text t step set .0 e .0
 
--- A refusal has a number.
-pub refusal-numbered : (text : List ℕ) (n k : ℕ) → failureOf text ≡ refused n k → n ≡ 0 → ⊥
-refusal-numbered = refused-taken
+-- ---- Answers
+
+answered-of : (text : List ℕ) (v : Verdict) → verdict text ≡ v → answerOf v .number ≡ 0 → (t : Trace) × (verdict text ≡ accepted t)
+answered-of text (Verdict.refused n k) e z = absurd (verdict-numbered text n k e z)
+answered-of text (Verdict.accepted t) e z = (t, e)
+
+-- "An answer has the number (0 if accepted)": what is answered with 0 is accepted as a trace, and the area is large
+-- enough.
+pub answered : (text a : List ℕ) → (readAnswer text a) .number ≡ 0 → (areaWords ≤ length a) × ((t : Trace) × (verdict text ≡ accepted t))
+unfolding readAnswer
+answered text a z =
+    by-lt (length a) areaWords
+    (λ low. let y : _≡_ {A = ℕ} 12 0 = (rw (lt-ltb (length a) areaWords low) at z) in absurd (let q : ⊥ = omega arith in q))
+    (λ high. (high, answered-of text (verdict text) refl (rw (le-ltb (length a) areaWords high) at z)))
+
+failing-of : (text : List ℕ) (x : Failing) → failureOf text ≡ x → failureAnswerOf x .number ≡ 0
+    → (t : Trace) × (failureOf text ≡ failing t (failureAnswerOf x .step) (failureAnswerOf x .set))
+failing-of text (Failing.refused n k) e z = absurd (refused-taken text n k e z)
+failing-of text (Failing.failing t step set) e z = (t, e)
+
+-- The same for a text with its failure line, of which the answer has the numbers.
+pub failing-answered : (text a : List ℕ) → (failureAnswer text a) .number ≡ 0
+    → (areaWords ≤ length a) × ((t : Trace) × (failureOf text ≡ failing t ((failureAnswer text a) .step) ((failureAnswer text a) .set)))
+unfolding failureAnswer
+failing-answered text a z =
+    by-lt (length a) areaWords
+    (λ low. let y : _≡_ {A = ℕ} 12 0 = (rw (lt-ltb (length a) areaWords low) at z) in absurd (let q : ⊥ = omega arith in q))
+    (λ high. (high, rw (le-ltb (length a) areaWords high) (failing-of text (failureOf text) refl (rw (le-ltb (length a) areaWords high) at z))))

@@ -178,3 +178,12 @@ refused-of text n j (Scan.stopped u i m k rest) h e z = last-refused rest k u i 
 pub refused-taken : (text : List ℕ) (n k : ℕ) → failureOf text ≡ refused n k → n ≡ 0 → ⊥
 unfolding failureOf
 refused-taken text n k e = refused-of text n k (scan text) (scan-taken text) e
+
+numbered-of : (text : List ℕ) (n j : ℕ) (s : Scan) → Taken text s → verdictOf s ≡ Verdict.refused n j → n ≡ 0 → ⊥
+numbered-of text n j (Scan.refused m k) h e z = let y : m ≡ n = cc in h (y ∙ z)
+numbered-of text n j (Scan.ended u k) h e z = let y : _≡_ {A = ℕ} 0 1 = cc in omega arith
+numbered-of text n j (Scan.stopped u i m k rest) h e z = let y : _≡_ {A = ℕ} 1 n = cc in omega arith
+
+pub verdict-numbered : (text : List ℕ) (n k : ℕ) → verdict text ≡ Verdict.refused n k → n ≡ 0 → ⊥
+unfolding verdict
+verdict-numbered text n k e = numbered-of text n k (scan text) (scan-taken text) e

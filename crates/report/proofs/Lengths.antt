@@ -4,26 +4,11 @@ use mathlib.Core.List.{List, [], _∷_, _++_}
 use native.Mathlib.Omega.{arith}
 use lib.ListN.{length, length-append}
 use Prim.Native.String.{String}
-use borrow.Author.Tests.{lt-ltb, le-ltb}
-use Rattle.words.proofs.Cases.{by-lt}
-use Rattle.text.specs.Number.{lastDigits, decimal}
+use Rattle.writer.proofs.Lengths.{pair-few}
 use Rattle.theory.specs.Answers.{Listed, gather}
 use Rattle.printing.specs.Bytes.{bytesOf}
 use Rattle.report.specs.Report.{given, Recovery, processLineOf, messageLines, printedOf, reportBytes}
 use Rattle.printing.specs.Lines.{processLine, messageLine, totalLine, refusalLine, keyOrphan, keyKept}
-
-digits-few : (n v : ℕ) → length (lastDigits n v) ≤ n
-unfolding lastDigits
-digits-few zero v = omega arith
-digits-few (suc n) v =
-    by-lt v 10
-    (λ h. rw (lt-ltb v 10 h) (omega arith))
-    (λ h. rw (le-ltb v 10 h) (omega (arith, length-append (lastDigits n (v / 10)) ((48 + v % 10) ∷ []), digits-few n (v / 10))))
-
--- a key and a number before the rest of a line
-pair-few : (k rest : List ℕ) (v n : ℕ) → length rest ≤ n → length (k ++ decimal v ++ rest) ≤ length k + 20 + n
-pair-few k rest v n h =
-    omega (arith, length-append (k ++ decimal v) rest, length-append k (decimal v), digits-few 20 v)
 
 process-few : (z e r p : ℕ) → length (processLine z e r p) ≤ 116
 unfolding processLine bytesOf

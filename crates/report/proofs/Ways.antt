@@ -11,7 +11,7 @@ use Rattle.words.proofs.Cases.{by-eq}
 use Rattle.trace.specs.Trace.{Trace}
 use Rattle.reader.specs.declared.FailureAnswer.{FailureAnswer}
 use Rattle.reader.specs.Failure.{Failing, failureAnswerOf, failureAnswer, failureArea, failureOf as lastFailure}
-use Rattle.reader.proofs.Claims.{refusal-numbered}
+use Rattle.reader.proofs.Claims.{failing-answered}
 use Rattle.table.specs.Held.{held, holdsTrace, heldTrace}
 use Rattle.table.proofs.Holding.{told}
 use Rattle.table.proofs.Claims.{failing-held, held-iff}
@@ -54,17 +54,10 @@ module _ (text : List ℕ) (short : length text ≤ 65536) (before : List ℕ) (
   pub text-refused : (r .number ≡ 0 → ⊥) → refusalLine (r .number) (r .place) ≡ printed text
   text-refused = refused-of (lastFailure text) refl
 
-  -- the text is a trace and a failure
-  failing-of : (x : Failing) → lastFailure text ≡ x → r .number ≡ 0 → (t : Trace) × (lastFailure text ≡ Failing.failing t (r .step) (r .set))
-  failing-of (Failing.refused n k) e h =
-      absurd (refusal-numbered text n k e (sym (ap (λ (y : FailureAnswer). y .number) (read-is (Failing.refused n k) e)) ∙ h))
-  failing-of (Failing.failing t step set) e h =
-      let q = read-is (Failing.failing t step set) e in
-      (t, rw (ap (λ (y : FailureAnswer). y .step) q, ap (λ (y : FailureAnswer). y .set) q) e)
-
   module _ (z : r .number ≡ 0) (a : List ℕ) (ha : a ≡ failureArea text before) where
+    -- the text is a trace and a failure
     T : (t : Trace) × (lastFailure text ≡ Failing.failing t (r .step) (r .set))
-    T = failing-of (lastFailure text) refl z
+    T = rw hr (failing-answered text before (rw hr at z) .1)
 
     area-held : heldTrace a ≡ some (T .0)
     area-held = subst (λ (x : List ℕ). heldTrace x ≡ some (T .0)) (sym ha) (failing-held text before (T .0) (r .step) (r .set) (T .1) (omega arith))

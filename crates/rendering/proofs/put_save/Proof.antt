@@ -1,0 +1,16 @@
+use native.Mathlib.Omega.{arith}
+use Rattle.rendering.proofs.Lines.{save-put}
+use borrow.Author.Needs.{needs}
+use Rattle.rendering.proofs.put_save.Statement.{statement}
+use Rattle.rendering.proofs.put_save.Tie as tie
+
+returns : tie.Need-returns
+returns c =
+    let put-pair = c .before .before .before .before .before .before .before .put-pair in
+    let put-bytes = c .before .before .put-bytes in
+    save-put _ _ _ _ _ _ _ ((put-pair .ensures)) ((put-bytes .ensures))
+
+pub put-save-spec : {M : Type 1} → statement M
+put-save-spec =
+    tie.close
+    (tie.spec (λ c. search needs) (λ c κs. search needs) (λ c. search needs) (λ c κs. search needs) (λ c. search needs) returns)

@@ -1,0 +1,34 @@
+-- What writing means, both ways (document 02, item 1).
+use Prim.Native.Nat.{ℕ, _<_, _≤_}
+use mathlib.Core.Path.{_≡_}
+use mathlib.Core.List.{List, _++_}
+use lib.ListN.{length, take, drop}
+use Rattle.words.specs.Area.{areaWords}
+use Rattle.lines.specs.Render.{renderFailure}
+use Rattle.reader.specs.Answer.{readAnswer, readArea}
+use Rattle.reader.specs.Failure.{failureAnswer, failureArea}
+use Rattle.rendering.specs.declared.Written.{Written}
+
+-- two areas have the same first 16,384 words
+abbrev pub SameArea : List ℕ → List ℕ → Type 0
+SameArea a b = take areaWords a ≡ take areaWords b
+
+-- "Reading that text must restore the same area": whatever stands in the area that it is read into
+pub record Restores (a text : List ℕ) : Type 0 where
+  pub accepted : (b : List ℕ) → areaWords ≤ length b → readAnswer text b ≡ record { number = 0; place = 0 }
+  pub same : (b : List ℕ) → areaWords ≤ length b → SameArea (readArea text b) a
+
+-- a text comes back in a buffer: whole, its length in the answer, and later bytes as they were; or, where the buffer is
+-- shorter, 14, and all bytes as they were
+pub record Comes (text out : List ℕ) (r : Written) (after : List ℕ) : Type 0 where
+  pub whole : length text ≤ length out → (r ≡ record { number = 0; place = 0; length = length text }) × (after ≡ text ++ drop (length text) out)
+  pub short : length out < length text → (r ≡ record { number = 14; place = 0; length = 0 }) × (after ≡ out)
+
+-- what a call answers and leaves that is given an area a and a buffer
+pub record RoundTrip (a out : List ℕ) (r : Written) (after : List ℕ) : Type 0 where
+  pub restores : r .number ≡ 0 → Restores a (take (r .length) after)
+  -- "writing after reading must return the same bytes": of an area that reading some text left, that text
+  pub returns : (text b : List ℕ) → (readAnswer text b) .number ≡ 0 → SameArea (readArea text b) a → Comes text out r after
+  -- "the `fail` line being outside it": of a text with a failure line, what stands before that line
+  pub failing : (text b : List ℕ) → (failureAnswer text b) .number ≡ 0 → SameArea (failureArea text b) a
+      → (front : List ℕ) × (text ≡ front ++ renderFailure ((failureAnswer text b) .step) ((failureAnswer text b) .set)) × Comes front out r after

@@ -1,0 +1,33 @@
+-- What writing the trace of a table area answers, and what it leaves in the byte buffer (document 02, item 1: "From a
+-- table area we need the text, in a lent byte buffer, and its length in the answer").
+use Prim.Native.Nat.{ℕ}
+use mathlib.Core.Bool.{not, cond}
+use mathlib.Core.List.{List, _++_}
+use lib.ListN.{length, drop}
+use lib.Dec.{ltb, eqb}
+use Rattle.words.specs.Area.{areaWords}
+use Rattle.trace.specs.Fit.{orElse}
+use Rattle.reader.specs.Render.{render}
+use Rattle.table.specs.Held.{held, holdsTrace}
+use Rattle.rendering.specs.declared.Written.{Written}
+
+-- the text of the trace that a table area holds
+unfoldable pub textOf : List ℕ → List ℕ
+textOf a = render (held a)
+
+-- what is wrong with a table area, and with a buffer of n bytes: 12, 13, "14 when the byte buffer is shorter than the
+-- text, checked after 13", or 0
+unfoldable pub writeFault : List ℕ → ℕ → ℕ
+writeFault a n = orElse (ltb (length a) areaWords) 12 (orElse (not (holdsTrace a)) 13 (orElse (ltb n (length (textOf a))) 14 0))
+
+-- "its length in the answer"; "In a refused answer every other number is 0."
+unfoldable pub writeAnswer : List ℕ → ℕ → Written
+writeAnswer a n = record { number = writeFault a n; place = 0; length = cond (eqb (writeFault a n) 0) (length (textOf a)) 0 }
+
+-- "Bytes past the text stay untouched", and a refusal "changes nothing"
+unfoldable pub writeBytes : List ℕ → List ℕ → List ℕ
+writeBytes a out = cond (eqb (writeFault a (length out)) 0) (textOf a ++ drop (length (textOf a)) out) out
+
+-- a buffer of so many bytes holds every text
+abbrev pub textBytes : ℕ
+textBytes = 131072
