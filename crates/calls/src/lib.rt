@@ -229,6 +229,7 @@ fn run_rows(table: &[u32; AREA_WORDS], rows: &[u8]) {
 fn run_trace(text: &[u8], rows: &[u8]) {
     let mut table = [0u32; AREA_WORDS];
     reader::read(text, &mut table);
+    roundtrip::print_trip(&table, text);
     run_rows(&table, rows);
 }
 

@@ -1,9 +1,10 @@
 // Sizes and refusals of the reader, run and printed: a line for each case, with the answer's number and place, how many
-// of the area's first 16,384 words are not 0, and how many later words changed. The file `stdout` has what document 01
-// asks of each. Proved safe and ending; what is printed no contract can say. Assumes what `libc` assumes.
+// of the area's first 16,384 words are not 0, and how many later words changed; where a text is accepted, also its
+// trace written back and read again. The file `stdout` has what documents 01 and 02 ask of each. Proved safe and ending; what is printed no contract can say. Assumes what `libc` assumes.
 ghost use Prim.Native.Nat.{_≤_};
 ghost use lib.ListN.{length};
 ghost use Rattle.io.specs.Counts.{Counts};
+use words::AREA_WORDS;
 
 // What every area holds before a reading.
 const BEFORE: u32 = 7;
@@ -42,6 +43,7 @@ fn case(name: &[u8], text: &[u8]) {
     let left = others(&area, 0, 16384, 0);
     let past = others(&area, 16384, 16400, BEFORE);
     checks::print(b" # #\n", &[left, past]);
+    print_back(text);
 }
 
 // Reads a text into an area of 16,383 words, one too few: the count is of words that changed.
@@ -50,6 +52,15 @@ fn small(name: &[u8], text: &[u8]) {
     let a = reader::read(text, &mut area);
     print_answer(name, a);
     checks::print(b" #\n", &[others(&area, 0, 16383, BEFORE)]);
+}
+
+// A text read, and where it is accepted written back and read again.
+fn print_back(text: &[u8]) {
+    let mut area = [BEFORE; AREA_WORDS];
+    let a = reader::read(text, &mut area);
+    if a.number == 0 {
+        roundtrip::print_trip(&area, text);
+    }
 }
 
 fn print_word(i: usize, w: u32) {
@@ -74,6 +85,7 @@ fn table(name: &[u8], text: &[u8], from: usize) {
     print_answer(name, a);
     io::write_all(1, b"\n");
     print_words(&area, from);
+    print_back(text);
 }
 
 // Puts a piece so many times at the end of a text, and answers where it ends then. No text here has a byte `#`.
@@ -272,6 +284,14 @@ fn events() {
     );
 }
 
+// The largest text that there is.
+fn largest_text() {
+    let mut text = [0u8; 71689];
+    let at = repeat(&mut text, 0, b"procs=64\n", 1);
+    let n = repeat(&mut text, at, b"ev=send at=63 to=62 val=4294967295\n", 2048);
+    case(b"largest-text", &text[..n]);
+}
+
 // 12, before anything else, and the words of document 01's trace H.
 fn areas() {
     small(b"small-fit", b"procs=2\n");
@@ -295,5 +315,6 @@ fn main() {
     first_receive();
     saves();
     events();
+    largest_text();
     areas();
 }

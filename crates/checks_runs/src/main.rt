@@ -5,14 +5,25 @@
 // phase and not its receiver's; D2, D3, D4 and D6 to D9, of which each tells one plausible mistake; two processes and
 // 64, 30 checkpoints and 31 (6); then the refusals 1, 2, 3, 4, 5, 8 and 9, wherever each can come. 7 takes 2,049
 // events: checks_reader has it. The second has the runs that have a line or an order of choices, through the library:
-// a trace, and a row for each call (crate `calls`). The file `stdout` was worked out from document 01 by a model that has nothing of the engine. Proved safe
-// and ending; what is printed no contract can say. Assumes what `libc` assumes.
+// a trace, and a row for each call (crate `calls`). Every trace is also written back and read again (crate
+// `roundtrip`). The file `stdout` was worked out from documents 01 and 02 by a model that has nothing of the engine.
+// Proved safe and ending; what is printed no contract can say. Assumes what `libc` assumes.
+use words::AREA_WORDS;
 
-// What the program prints for a text, and a line that ends it.
+// The trace of a text written back, which is all of the text but its failure line; where the text is refused, the zeros
+// that are left are no trace.
+fn print_back(text: &[u8]) {
+    let mut table = [0u32; AREA_WORDS];
+    reader::read_failure(text, &mut table);
+    roundtrip::print_trip(&table, text);
+}
+
+// What the program prints for a text, its trace written back, and a line that ends it.
 fn print_report(text: &[u8]) {
     let mut out = [0u8; report::REPORT_BYTES];
     let n = report::report(text, &mut out);
     io::write_all(1, &out[..n]);
+    print_back(text);
     io::write_all(1, b"-\n");
 }
 

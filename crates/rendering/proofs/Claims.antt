@@ -1,13 +1,12 @@
 -- What writing promises, over definitions alone: each claim under the sentence that it stands for (document 02, item
 -- 1).
 use Prim.Native.Nat.{ℕ, _<_, _≤_}
-use mathlib.Core.Path.{_≡_, refl, sym, ap, _∙_}
-use mathlib.Core.Bool.{true, false, not}
+use mathlib.Core.Path.{_≡_, sym, ap, _∙_}
+use mathlib.Core.Bool.{true, false}
 use mathlib.Core.Option.{some}
 use mathlib.Core.List.{List, _++_}
 use native.Mathlib.Omega.{arith}
 use native.Mathlib.Nat.{min-le-right}
-use lib.Dec.{ltb}
 use lib.ListN.{length, take, drop, length-take}
 use lib.Seq.{length-take-le, take-append-seam}
 use borrow.Author.Tests.{lt-ltb, le-ltb}
@@ -16,7 +15,7 @@ use Rattle.words.proofs.Cases.{by-bool, by-lt}
 use Rattle.trace.specs.Trace.{Trace}
 use Rattle.lines.specs.Render.{renderFailure}
 use Rattle.reader.specs.Answer.{readAnswer, readArea}
-use Rattle.reader.specs.Failure.{failing, failureOf, failureAnswer, failureArea}
+use Rattle.reader.specs.Failure.{failureAnswer, failureArea}
 use Rattle.reader.specs.Verdict.{accepted, verdict}
 use Rattle.reader.specs.Render.{render}
 use Rattle.reader.proofs.Claims.{canonical, canonical-failing, fit-accepted, answered, failing-answered}

@@ -1,10 +1,10 @@
 -- Each way out of `write`: from what was answered and written to the contract.
 use Prim.Native.Nat.{ℕ, _<_, _≤_}
-use mathlib.Core.Path.{_≡_, refl, sym, ap, _∙_}
+use mathlib.Core.Path.{_≡_, sym, ap, _∙_}
 use mathlib.Core.Bool.{true, false}
 use mathlib.Core.List.{List, _++_}
 use native.Mathlib.Omega.{arith}
-use lib.ListN.{length, take, drop, replicate}
+use lib.ListN.{length, take, drop}
 use lib.Seq.{take-all, take-append-seam}
 use borrow.Author.Tests.{ne-eqb}
 use Rattle.words.specs.Area.{areaWords}

@@ -1,4 +1,4 @@
-use native.Mathlib.Omega.{arith}
+-- `capi::hallback_write` meets its contract: what `write` promises, the answer in numbers.
 use mathlib.Core.Path.{ap}
 use Rattle.writer.proofs.Buffers.{then}
 use Rattle.rendering.specs.declared.Written.{Written}

@@ -1,4 +1,4 @@
-use native.Mathlib.Omega.{arith}
+-- `rendering::put_event` meets its contract: the line of its kind.
 use borrow.Author.Needs.{needs}
 use Rattle.rendering.proofs.put_event.Statement.{statement}
 use Rattle.rendering.proofs.put_event.Tie as tie

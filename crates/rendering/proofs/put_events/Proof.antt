@@ -1,3 +1,4 @@
+-- `rendering::put_events` meets its contract: after i turns the lines of the first i events.
 use native.Mathlib.Omega.{arith}
 use mathlib.Core.Path.{_≡_, refl, _∙_}
 use Prim.Native.Nat.{_-_, _≤_}

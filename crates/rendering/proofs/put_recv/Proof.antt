@@ -1,4 +1,4 @@
-use native.Mathlib.Omega.{arith}
+-- `rendering::put_recv` meets its contract: two keys with their numbers, and the end of the line.
 use Rattle.rendering.proofs.Lines.{recv-put}
 use borrow.Author.Needs.{needs}
 use Rattle.rendering.proofs.put_recv.Statement.{statement}

@@ -1,4 +1,4 @@
-use native.Mathlib.Omega.{arith}
+-- `rendering::put_save` meets its contract: a key with its number, and the end of the line.
 use Rattle.rendering.proofs.Lines.{save-put}
 use borrow.Author.Needs.{needs}
 use Rattle.rendering.proofs.put_save.Statement.{statement}

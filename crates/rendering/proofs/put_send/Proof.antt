@@ -1,4 +1,4 @@
-use native.Mathlib.Omega.{arith}
+-- `rendering::put_send` meets its contract: three keys with their numbers, and the end of the line.
 use Rattle.rendering.proofs.Lines.{send-put}
 use borrow.Author.Needs.{needs}
 use Rattle.rendering.proofs.put_send.Statement.{statement}

@@ -1,4 +1,4 @@
-use native.Mathlib.Omega.{arith}
+-- `rendering::put_text` meets its contract: the first line, and those of the events.
 use Rattle.rendering.proofs.Lines.{text-put}
 use borrow.Author.Needs.{needs}
 use Rattle.rendering.proofs.put_text.Statement.{statement}

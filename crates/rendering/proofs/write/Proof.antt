@@ -1,4 +1,4 @@
-use native.Mathlib.Omega.{arith}
+-- `rendering::write` meets its contract, one law for each way out.
 use mathlib.Core.Path.{sym, _∙_}
 use Prim.Native.Nat.{ℕ}
 use lib.ListN.{length-replicate}
