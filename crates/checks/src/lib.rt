@@ -5,6 +5,7 @@ ghost use mathlib.Core.Bool.{true};
 ghost use mathlib.Core.Path.{_≡_};
 ghost use Prim.Native.Nat.{_≤_};
 ghost use lib.ListN.{length, getD, take};
+ghost use Rattle.io.specs.Counts.{Counts};
 ghost use Rattle.writer.specs.Buffer.{Puts};
 ghost use Rattle.checks.specs.Filled.{piece, takes, filled, Fills};
 ghost use Rattle.checks.specs.Rows.{Place, fieldPlace, numberOf};
@@ -27,6 +28,13 @@ pub fn find(bytes: &[u8], from: usize, b: u8) -> usize
         i += 1;
     }
     i
+}
+
+// So many bytes of a buffer, or all that it has.
+pub fn most(bytes: &[u8], n: usize) -> usize
+    ensures { λ r. ⌜ Counts r (now (bytes .entry)) ⌝ }
+{
+    if n < bytes.len() { n } else { bytes.len() }
 }
 
 // Where field k of a row begins: fields are counted from 0, and a blank stands between two.

@@ -22,7 +22,7 @@ fn print_back(text: &[u8]) {
 fn print_report(text: &[u8]) {
     let mut out = [0u8; report::REPORT_BYTES];
     let n = report::report(text, &mut out);
-    io::write_all(1, &out[..n]);
+    io::write_all(1, &out[..checks::most(&out, n)]);
     print_back(text);
     io::write_all(1, b"-\n");
 }

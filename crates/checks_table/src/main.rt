@@ -1,25 +1,33 @@
-// What check 13 says of table areas. Standard input has a trace, which is read into an area, and after a byte `-` a
-// row for each case, of which the rest is a remark. `word K W`: that area with its word K changed to W; `length N`:
-// its first N words; `zero`: the zero area, and what a refused text leaves; `events N A B`, `saves N A B`: an area
-// filled by hand up to the limits. Expected: the file `stdout`. Proved safe and ending; what is printed no contract
-// can say.
+// What check 13 says of table areas, and the text of those that hold a trace, where it has at most 256 bytes. Standard
+// input has a trace, which is read into an area, and after a byte `-` a row for each case, of which the rest is a
+// remark. `word K W`: that area with its word K changed to W; `length N`: its first N words; `zero`: the zero area, and
+// what a refused text leaves; `events N A B`, `saves N A B`: an area filled by hand up to the limits. Expected: the
+// file `stdout`. Proved safe and ending; what is printed no contract can say.
 
 // Field k of a row as a word.
 fn word(row: &[u8], k: usize) -> u32 {
     (checks::number(row, k) % 4294967296) as u32
 }
 
-fn print_answer(holds: bool) {
-    if holds {
-        io::write_all(1, b" holds=yes\n");
+fn print_holds(area: &[u32]) {
+    if table::holds_trace(area) {
+        io::write_all(1, b" holds=yes");
     } else {
-        io::write_all(1, b" holds=no\n");
+        io::write_all(1, b" holds=no");
     }
 }
 
-fn print_change(k: usize, was: u32, now: u32, holds: bool) {
+// Whether an area holds a trace, what writing it back answers, and its text.
+fn print_answer(area: &[u32]) {
+    print_holds(area);
+    let mut out = [0u8; 256];
+    let w = rendering::write(area, &mut out);
+    checks::print(b" write=#\n", &[w.number as u64]);
+    io::write_all(1, &out[..checks::most(&out, w.length)]);
+}
+
+fn print_change(k: usize, was: u32, now: u32) {
     checks::print(b"word=# was=# now=#", &[k as u64, was as u64, now as u64]);
-    print_answer(holds);
 }
 
 // One word changed, the answer printed, and the word put back.
@@ -29,7 +37,8 @@ fn change(area: &mut [u32], k: usize, w: u32) {
     }
     let was = area[k];
     area[k] = w;
-    print_change(k, was, w, table::holds_trace(area));
+    print_change(k, was, w);
+    print_answer(area);
     area[k] = was;
 }
 
@@ -38,17 +47,17 @@ fn print_length(area: &[u32], n: usize) {
         return;
     }
     checks::print(b"words=#", &[n as u64]);
-    print_answer(table::holds_trace(&area[..n]));
+    print_answer(&area[..n]);
 }
 
 // The zero area, and what a refused text leaves.
 fn print_zero() {
     let mut area = [0u32; 16400];
     io::write_all(1, b"zero area");
-    print_answer(table::holds_trace(&area));
+    print_answer(&area);
     let r = reader::read(b"procs=1\n", &mut area);
     checks::print(b"refused=#", &[r.number as u64]);
-    print_answer(table::holds_trace(&area));
+    print_answer(&area);
 }
 
 fn put(area: &mut [u32], k: usize, w: u32) {
@@ -77,7 +86,7 @@ fn print_filled(name: &[u8], n: u32, odd: u32, even: u32) {
     let mut area = [0u32; 16400];
     fill(&mut area, n, odd, even);
     checks::print(name, &[n as u64]);
-    print_answer(table::holds_trace(&area));
+    print_answer(&area);
 }
 
 fn case(area: &mut [u32], row: &[u8]) {
@@ -112,7 +121,7 @@ fn check(input: &[u8]) {
     let mut area = [0u32; 16400];
     let r = reader::read(&input[..end], &mut area);
     checks::print(b"read=#", &[r.number as u64]);
-    print_answer(table::holds_trace(&area));
+    print_answer(&area);
     cases(&mut area, &input[end..]);
 }
 

@@ -1,7 +1,6 @@
 // A trace written back by `rendering::write`, compared with the text that it was read from, and read again; and what
 // came of it printed. Proved safe and ending; what is printed no contract can say. Assumes what `libc` assumes.
 ghost use Prim.Native.Nat.{_≤_};
-ghost use Rattle.io.specs.Counts.{Counts};
 use words::AREA_WORDS;
 
 // What every byte and every word holds before a call: those that the call leaves as they were are seen.
@@ -60,24 +59,17 @@ fn print_write(table: &[u32; AREA_WORDS], text: &[u8], out: &mut [u8]) -> usize 
     w.length
 }
 
-// So many bytes of a buffer, or all that it has.
-fn most(out: &[u8], n: usize) -> usize
-    ensures { λ r. ⌜ Counts r (now (out .entry)) ⌝ }
-{
-    if n < out.len() { n } else { out.len() }
-}
-
 // Writes into a buffer of so many bytes.
 fn print_room(table: &[u32; AREA_WORDS], text: &[u8], room: usize) {
     let mut out = [BEFORE; rendering::TEXT_BYTES];
-    let n = most(&out, room);
+    let n = checks::most(&out, room);
     print_write(table, text, &mut out[..n]);
 }
 
 // Reads the first n bytes of a buffer, and tells whether the area that this leaves is the one given: 1 if it is.
 fn again(table: &[u32; AREA_WORDS], out: &[u8], n: usize) -> u64 {
     let mut area = [BEFORE as u32; AREA_WORDS];
-    reader::read(&out[..most(out, n)], &mut area);
+    reader::read(&out[..checks::most(out, n)], &mut area);
     if checks::same_words(table, &area) {
         1
     } else {
