@@ -9,7 +9,7 @@ use native.Mathlib.Omega.{arith}
 use native.Mathlib.Nat.{min-le-right}
 use lib.ListN.{length, take, drop, length-take}
 use lib.Seq.{length-take-le, take-append-seam}
-use borrow.Author.Tests.{lt-ltb, le-ltb}
+use borrow.Author.Tests.{lt-ltb, le-ltb, ne-eqb}
 use Rattle.words.specs.Area.{areaWords}
 use Rattle.words.proofs.Cases.{by-bool, by-lt}
 use Rattle.trace.specs.Trace.{Trace}
@@ -116,9 +116,13 @@ back a out z =
     let h = fit-all a (length out) z .0 in
     rw (z, take-append-seam (textOf a) (drop (length (textOf a)) out)) (restores a h)
 
+as-it-was : (a out : List ℕ) → ((writeAnswer a (length out)) .number ≡ 0 → ⊥) → writeBytes a out ≡ out
+unfolding writeAnswer writeBytes
+as-it-was a out h = rw (ne-eqb (writeFault a (length out)) 0 h)
+
 -- Both ways, for every area and every buffer.
 pub round-trip : (a out : List ℕ) → RoundTrip a out (writeAnswer a (length out)) (writeBytes a out)
-round-trip a out = record { restores = back a out; returns = there; failing = outside }
+round-trip a out = record { restores = back a out; returns = there; failing = outside; nothing = as-it-was a out }
   where
     there : (text b : List ℕ) → (readAnswer text b) .number ≡ 0 → SameArea (readArea text b) a → Comes text out (writeAnswer a (length out)) (writeBytes a out)
     there text b z s = let (h, e) = same-bytes text a b z s in rw e (comes a out h)

@@ -13,7 +13,7 @@ use Rattle.rendering.specs.declared.Written.{Written}
 abbrev pub SameArea : List ℕ → List ℕ → Type 0
 SameArea a b = take areaWords a ≡ take areaWords b
 
--- "Reading that text must restore the same area": whatever stands in the area that it is read into
+-- reading a text restores an area, whatever stands in the area that it is read into
 pub record Restores (a text : List ℕ) : Type 0 where
   pub accepted : (b : List ℕ) → areaWords ≤ length b → readAnswer text b ≡ record { number = 0; place = 0 }
   pub same : (b : List ℕ) → areaWords ≤ length b → SameArea (readArea text b) a
@@ -24,11 +24,14 @@ pub record Comes (text out : List ℕ) (r : Written) (after : List ℕ) : Type 0
   pub whole : length text ≤ length out → (r ≡ record { number = 0; place = 0; length = length text }) × (after ≡ text ++ drop (length text) out)
   pub short : length out < length text → (r ≡ record { number = 14; place = 0; length = 0 }) × (after ≡ out)
 
--- what a call answers and leaves that is given an area a and a buffer
+-- what a call that is given an area a and a buffer answers and leaves
 pub record RoundTrip (a out : List ℕ) (r : Written) (after : List ℕ) : Type 0 where
+  -- "Reading that text must restore the same area": the bytes written, read again
   pub restores : r .number ≡ 0 → Restores a (take (r .length) after)
   -- "writing after reading must return the same bytes": of an area that reading some text left, that text
   pub returns : (text b : List ℕ) → (readAnswer text b) .number ≡ 0 → SameArea (readArea text b) a → Comes text out r after
   -- "the `fail` line being outside it": of a text with a failure line, what stands before that line
   pub failing : (text b : List ℕ) → (failureAnswer text b) .number ≡ 0 → SameArea (failureArea text b) a
       → (front : List ℕ) × (text ≡ front ++ renderFailure ((failureAnswer text b) .step) ((failureAnswer text b) .set)) × Comes front out r after
+  -- "and it changes nothing": no refusal does
+  pub nothing : (r .number ≡ 0 → ⊥) → after ≡ out
