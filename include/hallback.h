@@ -1,4 +1,4 @@
-/* Recovery of a recorded parallel run: reading, restart line, messages, replay. Link target/staticlib/libcapi.a (rt staticlib capi).
+/* Recovery of a recorded parallel run: reading, writing back, restart line, messages, replay. Link target/staticlib/libcapi.a (rt staticlib capi).
 
    Every function may be called with any numbers and any slices. It returns the number of the refusal, or 0 if the call was accepted (README.md has a
    table of the numbers), and writes the rest of its answer as numbers into `answer`, one after another from its first place on: as many as
@@ -22,7 +22,8 @@ enum {
     HALLBACK_WORDS = 16384,         /* of a table area, of a run area */
     HALLBACK_STAYS = 32,            /* in a line: the process stays */
     HALLBACK_RESTART_NUMBERS = 196, /* of the answer of hallback_restart */
-    HALLBACK_REPORT_BYTES = 262144  /* a buffer of so many bytes holds every report */
+    HALLBACK_REPORT_BYTES = 262144, /* a buffer of so many bytes holds every report */
+    HALLBACK_TEXT_BYTES = 131072    /* a buffer of so many bytes holds every text that hallback_write writes */
 };
 
 /* Reads a trace text without a failure line into the table area. Answer: place. Refusals: 12, then 1 to 7; after 1 to 7 the first 16,384
@@ -32,6 +33,22 @@ uint32_t hallback_read(const uint8_t *text, size_t text_len, uint32_t *table, si
 /* Reads a trace text whose last line is a failure line `fail=K set=M`. Answer: place, K, M. Refusals as above; whether the failure fits the
    trace (8, 9) is for the calls below to say. */
 uint32_t hallback_read_failure(const uint8_t *text, size_t text_len, uint32_t *table, size_t table_len, uint64_t *answer, size_t answer_len);
+
+/* Writes the text of the trace that a table area holds into `out`, without a failure line. Answer: place, length in bytes. Bytes of `out`
+   past the text stay. Refusals: 12, 13, and 14 if `out` is shorter than the text; a buffer of exactly its length is enough, and one of
+   HALLBACK_TEXT_BYTES always is. None changes anything. Reading the text restores the area's 16,384 words, and of an area that
+   hallback_read or hallback_read_failure left, what comes is what was read, byte for byte, up to its failure line. So a trace is edited:
+
+       static uint32_t table[HALLBACK_WORDS];
+       static uint8_t out[HALLBACK_TEXT_BYTES];
+       uint64_t answer[2];
+       if (hallback_read(text, text_len, table, HALLBACK_WORDS, answer, 1) != 0) return 1;
+       table[2065 + 1] = 6;                                // event 1, a send, now has the value 6 (docs/LAYOUT.md)
+       if (hallback_write(table, HALLBACK_WORDS, out, sizeof out, answer, 2) != 0) return 1;
+       fwrite(out, 1, answer[1], stdout);                  // the text of the edited trace; 13 if it were none
+
+   (A call that is refused says why by its number.) */
+uint32_t hallback_write(const uint32_t *table, size_t table_len, uint8_t *out, size_t out_len, uint64_t *answer, size_t answer_len);
 
 /* The greatest restart line that loses no message, for a failure right after event `step` of the processes in `set` (bit z is process z).
    Answer: place, count of processes, how many go back, the set of those; then 64 numbers each: the line, the epochs at the cut, the phases

@@ -10,7 +10,7 @@ fn accepted(number: u32, place: u64) -> Result<(), Refusal> {
     match number {
         0 => Ok(()),
         _ => Err(Refusal {
-            cause: Cause::from_number(number).expect("the archive gives numbers 0 to 13"),
+            cause: Cause::from_number(number).expect("the archive gives numbers 0 to 14"),
             place,
         }),
     }
@@ -60,6 +60,33 @@ pub fn read_failure(text: &[u8], table: &mut [u32]) -> Result<Failure, Refusal> 
         step: answer[1],
         set: answer[2],
     })
+}
+
+/// Writes the text of the trace in the table area to `out`, and gives it. Bytes past it stay.
+///
+/// Reading this text restores the area; written after reading, it is what was read, without the
+/// failure line. [`TEXT_BYTES`](crate::TEXT_BYTES) bytes hold every text. After a refusal `out` is
+/// as it was.
+///
+/// ```
+/// use hallback::{Cause, AREA_WORDS, TEXT_BYTES};
+///
+/// let (mut table, mut out) = (vec![0; AREA_WORDS], vec![0; TEXT_BYTES]);
+/// let text = b"procs=2\nev=send at=0 to=1 val=7\nev=recv at=1 from=0\n";
+/// hallback::read(text, &mut table)?;
+/// assert_eq!(hallback::write(&table, &mut out)?, text);
+///
+/// let one_short = &mut out[..text.len() - 1];
+/// let refusal = hallback::write(&table, one_short).unwrap_err();
+/// assert_eq!(refusal.cause, Cause::Buffer);
+/// # Ok::<(), hallback::Refusal>(())
+/// ```
+pub fn write<'a>(table: &[u32], out: &'a mut [u8]) -> Result<&'a [u8], Refusal> {
+    let mut answer = [0; 2];
+    let number = raw::write(table, out, &mut answer);
+    accepted(number, answer[0])?;
+    let length = usize::try_from(answer[1]).expect("the archive gives a length within the buffer");
+    Ok(&out[..length])
 }
 
 /// Finds the greatest restart line without a lost message.

@@ -9,6 +9,7 @@
 //! area, in which [`messages`](reference::messages) leaves its list and
 //! [`replay`](reference::replay) its delivery record. Both have [`AREA_WORDS`] words; longer slices
 //! are fine, words past that number are never touched. `docs/LAYOUT.md` has them word by word.
+//! [`write`](reference::write) gives the text of a table area again, in a lent byte buffer.
 //!
 #![cfg_attr(
     hallback_archive,
@@ -46,7 +47,7 @@ pub mod reference;
 pub mod shapes;
 
 #[cfg(hallback_archive)]
-pub use engine::{lowest, messages, read, read_failure, replay, report, restart};
+pub use engine::{lowest, messages, read, read_failure, replay, report, restart, write};
 
 /// How many words of a lent area are used; a shorter area is refused with 12.
 pub const AREA_WORDS: usize = 16_384;
@@ -62,6 +63,9 @@ pub const STAY: u32 = 32;
 
 /// How many bytes hold every report.
 pub const REPORT_BYTES: usize = 262_144;
+
+/// How many bytes hold every text of a trace.
+pub const TEXT_BYTES: usize = 131_072;
 
 /// Why a call was refused. The numbers are those of the requirements.
 #[derive(Clone, Copy, Debug, PartialEq, Eq, Hash)]
@@ -94,13 +98,15 @@ pub enum Cause {
     Area = 12,
     /// 13: the table area is not what reading some accepted trace leaves.
     Table = 13,
+    /// 14: the byte buffer is shorter than the text.
+    Buffer = 14,
 }
 
 impl Cause {
     /// The cause with this number, if there is one.
     pub fn from_number(number: u32) -> Option<Cause> {
         use Cause::*;
-        const ALL: [Cause; 13] = [
+        const ALL: [Cause; 14] = [
             Form,
             ProcessCount,
             Process,
@@ -114,11 +120,12 @@ impl Cause {
             Choice,
             Area,
             Table,
+            Buffer,
         ];
         ALL.into_iter().find(|cause| cause.number() == number)
     }
 
-    /// The number of this cause, 1 to 13.
+    /// The number of this cause, 1 to 14.
     pub fn number(self) -> u32 {
         self as u32
     }

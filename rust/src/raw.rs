@@ -25,6 +25,14 @@ mod c {
             answer: *mut u64,
             answer_len: usize,
         ) -> u32;
+        pub fn hallback_write(
+            table: *const u32,
+            table_len: usize,
+            out: *mut c_uchar,
+            out_len: usize,
+            answer: *mut u64,
+            answer_len: usize,
+        ) -> u32;
         pub fn hallback_restart(
             table: *const u32,
             table_len: usize,
@@ -106,6 +114,20 @@ pub fn read_failure(text: &[u8], table: &mut [u32], answer: &mut [u64]) -> u32 {
             text.len(),
             table.as_mut_ptr(),
             table.len(),
+            answer.as_mut_ptr(),
+            answer.len(),
+        )
+    }
+}
+
+/// Writes the text of the trace in a table area. Answer: place, length.
+pub fn write(table: &[u32], out: &mut [u8], answer: &mut [u64]) -> u32 {
+    unsafe {
+        c::hallback_write(
+            table.as_ptr(),
+            table.len(),
+            out.as_mut_ptr(),
+            out.len(),
             answer.as_mut_ptr(),
             answer.len(),
         )

@@ -20,8 +20,10 @@ mod machine;
 mod reader;
 mod recorded;
 mod report;
+mod table;
 #[cfg(test)]
 mod tests;
+mod trace_text;
 
 use machine::Lowest;
 pub use machine::Machine;
@@ -52,6 +54,9 @@ const SEND: u8 = 1;
 const RECEIVE: u8 = 2;
 const SAVE: u8 = 3;
 
+/// The most saves of a process.
+const MAX_SAVES: u8 = 30;
+
 /// The words of a lent area that are used, or refusal 12.
 fn area(words: &[u32]) -> Result<&[u32; AREA_WORDS], Refusal> {
     words
@@ -75,6 +80,11 @@ pub fn read(text: &[u8], table: &mut [u32]) -> Result<(), Refusal> {
 /// as it stands in the text.
 pub fn read_failure(text: &[u8], table: &mut [u32]) -> Result<Failure, Refusal> {
     reader::read(text, area_mut(table)?, true)
+}
+
+/// Writes the text of the trace in the table area, and gives its length. Bytes past it stay.
+pub fn write(table: &[u32], out: &mut [u8]) -> Result<usize, Refusal> {
+    trace_text::write(area(table)?, out)
 }
 
 /// Finds the greatest restart line without a lost message.

@@ -1,4 +1,6 @@
-//! Compares the archive with the reference: every number of every answer, every word of every area.
+//! Compares the archive with the reference: every number of every answer, every word of every area,
+//! every byte of every buffer. What the archive writes, it has to read as the same words, and to
+//! write as the same bytes what it has read.
 //!
 //! `cargo test --test differential -- [rounds [first round]]`; or `HALLBACK_ROUNDS` says how many
 //! rounds. A round is made from its number alone, so that one that differs can be run again; before
@@ -32,8 +34,10 @@ fn main() {
 mod compare {
     use hallback::shapes::{each_trace, Random, Shape, Trace};
     use hallback::{raw, reference};
-    use hallback::{Failure, Refusal, Replayed, Restart, AREA_WORDS, MAX_EVENTS, MAX_PROCS, STAY};
+    use hallback::{Failure, Refusal, Replayed, Restart, STAY};
+    use hallback::{AREA_WORDS, MAX_EVENTS, MAX_PROCS, TEXT_BYTES};
     use std::collections::BTreeMap;
+    use std::fmt::Display;
     use std::ops::Range;
     use std::path::Path;
     use std::time::Instant;
@@ -47,6 +51,7 @@ mod compare {
     /// How many words each answer has.
     const READ: usize = 1;
     const READ_FAILURE: usize = 3;
+    const WRITE: usize = 2;
     const RESTART: usize = 4 + 3 * MAX_PROCS;
     const MESSAGES: usize = 4;
     const REPLAY: usize = 3;
@@ -233,9 +238,12 @@ mod compare {
             let mut table = area;
             let mut differences =
                 self.answer(&wanted, READ, |answer| raw::read(text, &mut table, answer));
-            differences.extend(words_differ("table", &table, &wanted_area));
+            differences.extend(first_difference("table", &table, &wanted_area));
             let input = || String::from_utf8_lossy(text).into_owned();
             self.note("read", &wanted, differences, &input);
+            if wanted.is_ok() {
+                self.written_back(text, &table);
+            }
         }
 
         fn read_failure(&mut self, text: &[u8], area: Vec<u32>) {
@@ -246,9 +254,68 @@ mod compare {
             let mut differences = self.answer(&wanted, READ_FAILURE, |answer| {
                 raw::read_failure(text, &mut table, answer)
             });
-            differences.extend(words_differ("table", &table, &wanted_area));
+            differences.extend(first_difference("table", &table, &wanted_area));
             let input = || String::from_utf8_lossy(text).into_owned();
             self.note("read_failure", &wanted, differences, &input);
+            if wanted.is_ok() {
+                let fail = text.iter().rposition(|&byte| byte == b'f');
+                self.written_back(&text[..fail.expect("the last line has `fail`")], &table);
+            }
+        }
+
+        /// What the engine has read, it writes as the same bytes.
+        fn written_back(&mut self, text: &[u8], table: &[u32]) {
+            let written = engine_text(table, text.len());
+            let mut differences = Vec::new();
+            if written.as_deref() != Some(text) {
+                let written = String::from_utf8_lossy(written.as_deref().unwrap_or_default());
+                differences.push(format!("written again\n{written}"));
+            }
+            let input = || String::from_utf8_lossy(text).into_owned();
+            self.note("read_write", &Ok(vec![]), differences, &input);
+        }
+
+        /// What the engine writes, it reads as the same words.
+        fn read_back(&mut self, table: &[u32]) {
+            let text = engine_text(table, TEXT_BYTES).unwrap_or_default();
+            let mut area = self.area();
+            let number = raw::read(&text, &mut area, &mut []);
+            let mut differences = Vec::new();
+            if number != 0 {
+                differences.push(format!("read again it is refused with {number}"));
+            }
+            let difference = first_difference("area", &area[..AREA_WORDS], &table[..AREA_WORDS]);
+            differences.extend(difference);
+            self.note("write_read", &Ok(vec![]), differences, &|| {
+                describe_table(table)
+            });
+        }
+
+        /// Writes to a buffer of so many bytes, and gives the length of the text if it is accepted.
+        fn write_to(&mut self, table: &[u32], room: usize) -> Option<usize> {
+            let filled = 1 + self.random.below(255) as u8;
+            let mut wanted_out = vec![filled; room];
+            let length = reference::write(table, &mut wanted_out);
+            let wanted = length.map(|length| vec![length as u64]);
+            let mut out = vec![filled; room];
+            let mut differences =
+                self.answer(&wanted, WRITE, |answer| raw::write(table, &mut out, answer));
+            differences.extend(first_difference("buffer", &out, &wanted_out));
+            self.note("write", &wanted, differences, &|| describe_table(table));
+            length.ok()
+        }
+
+        /// Writes to buffers of all lengths that matter.
+        fn write(&mut self, table: &[u32]) {
+            let written = self.write_to(table, TEXT_BYTES);
+            let length = written.unwrap_or_else(|| self.random.below(200));
+            let other = self.random.below(2 * length + 2);
+            for room in [length, length.saturating_sub(1), length + 1, 0, other] {
+                self.write_to(table, room);
+            }
+            if written.is_some() {
+                self.read_back(table);
+            }
         }
 
         fn report(&mut self, text: &[u8]) {
@@ -304,7 +371,7 @@ mod compare {
             let wanted = reference(&mut wanted_run);
             let mut run = input.run.to_vec();
             let mut differences = self.answer(&wanted, words, |answer| engine(&mut run, answer));
-            differences.extend(words_differ("run", &run, &wanted_run));
+            differences.extend(first_difference("run", &run, &wanted_run));
             self.note(call, &wanted, differences, &|| describe(input));
         }
 
@@ -383,6 +450,7 @@ mod compare {
                 "fail=1 set=1\nfail=1 set=1\n",
                 "x",
             ];
+            let longest = "ev=send at=63 to=62 val=4294967295\n".repeat(2_048);
             let counts = ["0", "1", "2", "64", "65", "02", "4294967295", "4294967296"];
             for procs in counts {
                 for failure in failures {
@@ -401,11 +469,16 @@ mod compare {
                         format!("{}ev=save at=99\n", send.repeat(2_048)),
                         format!("{}ev=save at=99", send.repeat(2_048)),
                         format!("{}{}", save.repeat(30), send.repeat(2_018)),
+                        longest.clone(),
                     ] {
                         self.text(format!("procs={procs}\n{events}{failure}").as_bytes());
                     }
                 }
             }
+            let mut table = self.area();
+            reference::read(format!("procs=64\n{longest}").as_bytes(), &mut table)
+                .expect("the trace is fit");
+            self.write(&table);
         }
 
         /// All traces of two processes with few events, each with all failures and all lines.
@@ -414,6 +487,7 @@ mod compare {
             let mut table = run.clone();
             each_trace(2, 4, |trace| {
                 reference::read(&trace.text(), &mut table).expect("the trace is fit");
+                self.write(&table);
                 for step in 0..=trace.events.len() as u64 {
                     for set in 1..4 {
                         let failure = Failure { step, set };
@@ -438,7 +512,7 @@ mod compare {
             });
         }
 
-        /// All calls that take a table area.
+        /// All calls that take a table area and a failure.
         fn table(&mut self, input: Input) {
             self.restart(input);
             self.messages(input);
@@ -469,6 +543,7 @@ mod compare {
             let mut table = self.area();
             reference::read(&trace.text(), &mut table).expect("the trace is fit");
             let before = table.clone();
+            self.written(&table);
             for _ in 0..2 {
                 let failure = shape.failure(&trace, &mut self.random);
                 self.lines(&table, failure);
@@ -476,6 +551,18 @@ mod compare {
             self.unfit(&trace, failure, &table);
             self.typed(&trace, failure, &table);
             assert_eq!(table, before, "a table that is only read was written");
+        }
+
+        /// A table area and edits of it, written.
+        fn written(&mut self, table: &[u32]) {
+            self.write(table);
+            for _ in 0..2 {
+                let mut edited = table.to_vec();
+                for _ in 0..1 + self.random.below(3) {
+                    edit_trace(&mut edited, &mut self.random);
+                }
+                self.write(&edited);
+            }
         }
 
         /// The calls with answers as types, areas left aside.
@@ -489,6 +576,9 @@ mod compare {
             let (mut a, mut b) = (self.area(), self.area());
             let (mut out, mut wanted_out) = ([0; 200], [0; 200]);
             let length = reference::report(&with_failure, &mut wanted_out);
+            let room = self.random.pick(&[TEXT_BYTES, text.len(), text.len() - 1]);
+            let (mut written, mut wanted_text) = (vec![0; room], vec![0; room]);
+            let text_length = reference::write(table, &mut wanted_text);
             let equal = [
                 hallback::read(&text, &mut a) == reference::read(&text, &mut b),
                 hallback::read_failure(&with_failure, &mut a)
@@ -501,6 +591,8 @@ mod compare {
                 hallback::replay(table, failure, line, &order, &mut a)
                     == reference::replay(table, failure, line, &order, &mut b),
                 hallback::report(&with_failure, &mut out) == &wanted_out[..length],
+                hallback::write(table, &mut written)
+                    == text_length.map(|length| &wanted_text[..length]),
             ];
             let differences: Vec<_> = (1..)
                 .zip(equal)
@@ -652,6 +744,7 @@ mod compare {
             for _ in 0..2 {
                 let mut damaged = table.to_vec();
                 damage(&mut damaged, &mut self.random);
+                self.write(&damaged);
                 let failure = self.random.pick(&[failure, failure, unfit]);
                 self.table(Input {
                     table: &damaged,
@@ -661,6 +754,10 @@ mod compare {
             }
 
             let short = self.short_area();
+            let part = self.random.below(AREA_WORDS);
+            let parts = [&short, &table[..part], &table[..AREA_WORDS - 1]];
+            let part = self.random.pick(&parts);
+            self.write(part);
             let (table, run) = match self.random.below(3) {
                 0 => (&short[..], &run[..]),
                 1 => (table, &short[..]),
@@ -710,31 +807,56 @@ mod compare {
         order.unwrap_or_default()
     }
 
-    /// The first of the words that differ.
-    fn words_differ(name: &str, engine: &[u32], reference: &[u32]) -> Option<String> {
-        let place = (0..engine.len()).find(|&i| engine[i] != reference[i])?;
-        let count = (0..engine.len())
-            .filter(|&i| engine[i] != reference[i])
-            .count();
+    /// The first of the places that differ.
+    fn first_difference<T: PartialEq + Display>(
+        name: &str,
+        engine: &[T],
+        reference: &[T],
+    ) -> Option<String> {
+        // nearly all are equal, which is seen at once
+        if engine == reference {
+            return None;
+        }
+        let mut places = (0..engine.len()).filter(|&i| engine[i] != reference[i]);
+        let first = places.next()?;
         Some(format!(
-            "{name}: {count} words differ, the first is {place}: engine's {}, reference's {}",
-            engine[place], reference[place]
+            "{name}: {} places differ, the first is {first}: engine's {}, reference's {}",
+            1 + places.count(),
+            engine[first],
+            reference[first]
         ))
     }
 
-    /// An input in words; the table as its words that are not zero.
-    fn describe(input: Input) -> String {
-        let table: Vec<_> = (0..input.table.len())
-            .filter(|&i| input.table[i] != 0)
-            .map(|i| format!("{i}:{}", input.table[i]))
+    /// What the engine writes to a buffer of so many bytes, if it accepts.
+    fn engine_text(table: &[u32], room: usize) -> Option<Vec<u8>> {
+        let mut out = vec![b'~'; room];
+        let mut answer = [0; WRITE];
+        let number = raw::write(table, &mut out, &mut answer);
+        out.truncate(answer[1] as usize);
+        (number == 0).then_some(out)
+    }
+
+    /// A table area as its words that are not zero.
+    fn describe_table(table: &[u32]) -> String {
+        let words: Vec<_> = (0..table.len())
+            .filter(|&i| table[i] != 0)
+            .map(|i| format!("{i}:{}", table[i]))
             .collect();
         format!(
-            "{:?}\nline {:?}\norder {:?}\ntable of {} words, not zero: {}\nrun of {} words\n",
+            "table of {} words, not zero: {}\n",
+            table.len(),
+            words.join(" ")
+        )
+    }
+
+    /// An input in words.
+    fn describe(input: Input) -> String {
+        format!(
+            "{:?}\nline {:?}\norder {:?}\n{}run of {} words\n",
             input.failure,
             input.line,
             input.order,
-            input.table.len(),
-            table.join(" "),
+            describe_table(input.table),
             input.run.len()
         )
     }
@@ -808,6 +930,42 @@ mod compare {
                     text.splice(first..end, random.pick(&numbers).iter().copied());
                 }
             }
+        }
+    }
+
+    /// Changes the trace of a table area to another one, which is mostly fit.
+    fn edit_trace(table: &mut [u32], random: &mut Random) {
+        let procs = table[0] as usize;
+        let events = table[1] as usize;
+        let event = 1 + random.below(events.max(1));
+        let bits = random.bits() as u32;
+        let value = random.pick(&[bits, bits >> 16, bits >> 30, 0, 99_999_999, u32::MAX]);
+        let at = random.below(procs);
+        let to = (at + 1 + random.below(procs - 1)) % procs;
+        let save = 0x3000 | at as u32;
+        let send = 0x1000 | (to << 6 | at) as u32;
+        match random.below(7) {
+            // another value of a send, if it is one
+            0..=1 => {
+                if table[16 + event] >> 12 == 1 {
+                    table[2_065 + event] = value;
+                }
+            }
+            // another event in its place, which may leave a receive without its message
+            2 if events > 0 => (table[16 + event], table[2_065 + event]) = (save, 0),
+            3 if events > 0 => (table[16 + event], table[2_065 + event]) = (send, value),
+            // one event less at the end
+            4 if events > 0 => {
+                table[1] -= 1;
+                (table[16 + events], table[2_065 + events]) = (0, 0);
+            }
+            // one event more, or one process
+            5 if events < MAX_EVENTS => {
+                table[1] += 1;
+                let (word, value) = random.pick(&[(save, 0), (send, value)]);
+                (table[17 + events], table[2_066 + events]) = (word, value);
+            }
+            _ => table[0] = MAX_PROCS.min(procs + 1) as u32,
         }
     }
 

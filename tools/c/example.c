@@ -1,6 +1,7 @@
 /* The library from C: reads the trace H of document 01, finds the restart line after its failure, carries out the
    lowest order from it, and compares the record with that of the line on which every process goes back to its start.
-   Prints what it finds; 1 if that is not as expected. */
+   Then it changes the value of the first send and writes the trace back. Prints what it finds; 1 if that is not as
+   expected. */
 #include <stdio.h>
 #include <string.h>
 
@@ -21,6 +22,7 @@ static const char text[] =
 
 static uint32_t table[HALLBACK_WORDS], run[HALLBACK_WORDS], whole[HALLBACK_WORDS];
 static uint64_t failure[3], restart[HALLBACK_RESTART_NUMBERS], answer[3];
+static uint8_t out[HALLBACK_TEXT_BYTES];
 
 /* A number where 0 was expected. */
 static int refused(const char *call, uint32_t number, uint64_t place) {
@@ -54,5 +56,17 @@ int main(void) {
     if (number != 0) return refused("lowest", number, answer[0]);
     int same = memcmp(run, whole, sizeof run) == 0;
     printf("the record %s that of the run without failure\n", same ? "equals" : "differs from");
-    return !same;
+    if (!same) return 1;
+
+    /* Event 1 is a send: its value is word 2065 + 1 (docs/LAYOUT.md). All else comes back as it was read. */
+    table[2065 + 1] = 6;
+    number = hallback_write(table, HALLBACK_WORDS, out, sizeof out, answer, 2);
+    if (number != 0) return refused("write", number, answer[0]);
+    size_t traced = strstr(text, "fail=") - text;
+    uint8_t *value = (uint8_t *)strstr((char *)out, "val=") + 4;
+    int edited = *value == '6';
+    *value = '5';
+    int back = answer[1] == traced && memcmp(out, text, traced) == 0;
+    printf("the text %s back, edited: %llu bytes\n", edited && back ? "comes" : "does not come", (unsigned long long)answer[1]);
+    return !(edited && back);
 }

@@ -48,7 +48,7 @@ fn main() {
 mod bench {
     use hallback::shapes::{Habits, Random, Shape, Trace};
     use hallback::{raw, reference};
-    use hallback::{Failure, Replayed, AREA_WORDS, MAX_PROCS, REPORT_BYTES};
+    use hallback::{Failure, Replayed, AREA_WORDS, MAX_PROCS, REPORT_BYTES, TEXT_BYTES};
     use std::hint::black_box;
     use std::time::Instant;
 
@@ -66,16 +66,20 @@ mod bench {
         Replay,
         Lowest,
         Report,
+        Write,
+        WriteExact,
     }
 
     impl Call {
-        const ALL: [Call; 6] = [
+        const ALL: [Call; 8] = [
             Call::Read,
             Call::Restart,
             Call::Messages,
             Call::Replay,
             Call::Lowest,
             Call::Report,
+            Call::Write,
+            Call::WriteExact,
         ];
 
         fn name(self) -> &'static str {
@@ -86,6 +90,16 @@ mod bench {
                 Call::Replay => "replay",
                 Call::Lowest => "lowest",
                 Call::Report => "report",
+                Call::Write => "write",
+                Call::WriteExact => "write-exact",
+            }
+        }
+
+        /// How many bytes a text is written to.
+        fn room(self, text: &[u8]) -> usize {
+            match self {
+                Call::WriteExact => text.len(),
+                _ => TEXT_BYTES,
             }
         }
     }
@@ -158,6 +172,7 @@ mod bench {
 
     fn engine(call: Call, input: &mut Input) -> u64 {
         let Failure { step, set } = input.failure;
+        let room = call.room(&input.text);
         let Input {
             table,
             line,
@@ -174,12 +189,14 @@ mod bench {
             Call::Report => {
                 return raw::report(&input.text_with_failure, &mut input.out) as u64;
             }
+            Call::Write | Call::WriteExact => raw::write(table, &mut input.out[..room], answer),
         };
         u64::from(number) + answer[1]
     }
 
     fn reference(call: Call, input: &mut Input) -> u64 {
         let failure = input.failure;
+        let room = call.room(&input.text);
         let Input {
             table, line, run, ..
         } = input;
@@ -191,6 +208,9 @@ mod bench {
             Call::Replay => reference::replay(table, failure, line, &input.order, run).map(steps),
             Call::Lowest => reference::lowest(table, failure, line, run).map(steps),
             Call::Report => Ok(reference::report(&input.text_with_failure, &mut input.out) as u64),
+            Call::Write | Call::WriteExact => {
+                reference::write(table, &mut input.out[..room]).map(|length| length as u64)
+            }
         };
         answer.unwrap_or(u64::MAX)
     }
@@ -248,7 +268,7 @@ mod bench {
                     let engine = median(bench_engine_once, call, &mut input, repeats);
                     let reference = median(bench_reference_once, call, &mut input, repeats);
                     println!(
-                        "    {:9} {engine:10.1} {reference:10.1} {:8.1}",
+                        "    {:11} {engine:10.1} {reference:10.1} {:8.1}",
                         call.name(),
                         engine / reference
                     );
@@ -297,7 +317,7 @@ mod bench {
         }
         println!("of {rounds} traces the slowest, in microseconds: engine, reference");
         for (most, reference, call, what) in &slowest {
-            println!("{:9} {most:10.1} {reference:10.1}  {what}", call.name());
+            println!("{:11} {most:10.1} {reference:10.1}  {what}", call.name());
         }
         Some(())
     }

@@ -1,10 +1,7 @@
 //! The trace text, read in one pass.
 
-use super::{EVENT_BASE, RECEIVE, SAVE, SEND, VALUE_BASE};
+use super::{EVENT_BASE, MAX_SAVES, RECEIVE, SAVE, SEND, VALUE_BASE};
 use crate::{Cause, Failure, Refusal, AREA_WORDS, MAX_EVENTS, MAX_PROCS};
-
-/// The most saves of a process.
-const MAX_SAVES: u8 = 30;
 
 /// A place in a text.
 struct Cursor<'a> {

@@ -2,7 +2,7 @@
 
 use super::*;
 use crate::shapes::{each_trace, Event, Random, Shape, Trace};
-use crate::{MAX_EVENTS, STAY};
+use crate::{MAX_EVENTS, STAY, TEXT_BYTES};
 use std::collections::{BTreeMap, VecDeque};
 
 const H: &str = "procs=3
@@ -65,6 +65,31 @@ fn report_of(text: &[u8]) -> String {
     let mut out = vec![0; crate::REPORT_BYTES];
     let length = report(text, &mut out);
     String::from_utf8(out[..length].to_vec()).unwrap()
+}
+
+/// What a buffer of so many bytes holds after writing, and the answer; `~` before.
+fn written(table: &[u32], room: usize) -> (Result<usize, Refusal>, String) {
+    let mut out = vec![b'~'; room];
+    let answer = write(table, &mut out);
+    (answer, String::from_utf8(out).unwrap())
+}
+
+/// Writes a text read before to buffers of some lengths.
+fn writes_back(text: &str, rooms: impl IntoIterator<Item = usize>) {
+    let table = table_of(text);
+    for room in rooms {
+        let (answer, out) = written(&table, room);
+        match room.checked_sub(text.len()) {
+            Some(past) => {
+                assert_eq!(answer, Ok(text.len()), "{text}");
+                assert_eq!(out, format!("{text}{}", "~".repeat(past)));
+            }
+            None => {
+                assert_eq!(answer, Err(Refusal::new(Cause::Buffer, 0)), "{text}");
+                assert_eq!(out, "~".repeat(room));
+            }
+        }
+    }
 }
 
 #[test]
@@ -288,6 +313,112 @@ fn order_of_checks() {
     );
     assert_eq!(run[..AREA_WORDS], [0; AREA_WORDS]);
     assert_eq!(run[AREA_WORDS..], [9; 2]);
+}
+
+#[test]
+fn writes_what_was_read() {
+    let first_lines = [2, 9, 10, 64].map(|procs| format!("procs={procs}\n"));
+    let texts = [H, L, S, T].into_iter();
+    for text in texts.chain(first_lines.iter().map(String::as_str)) {
+        // up to where a text with so many lines has room whatever its numbers
+        let lines = text.lines().count();
+        writes_back(text, (0..=40 * lines).chain([TEXT_BYTES]));
+    }
+    let with_failure = format!("{H}fail=9 set=2\n");
+    let mut table = vec![3; AREA_WORDS];
+    read_failure(with_failure.as_bytes(), &mut table).unwrap();
+    assert_eq!(table[..], table_of(H)[..AREA_WORDS]);
+    assert_eq!(written(&table, H.len()), (Ok(H.len()), H.to_string()));
+}
+
+#[test]
+fn writes_all_numbers() {
+    let around = |number: u32| [number - 1, number, number + 1];
+    let values = (0..10).flat_map(|digits| around(10u32.pow(digits)));
+    let values: Vec<u32> = values.chain([u32::MAX - 1, u32::MAX]).collect();
+    assert_eq!(values[0], 0);
+    let send = |at: u32, to: u32, val: u32| format!("ev=send at={at} to={to} val={val}\n");
+    let sends = values.iter().map(|&val| send(63, 9, val));
+    let processes = (0..63).map(|z| send(z, z + 1, z) + &send(z + 1, z, 7));
+    let others = (1..64).map(|z| format!("ev=recv at={z} from={}\nev=save at={z}\n", z - 1));
+    let text: String = ["procs=64\n".to_string()]
+        .into_iter()
+        .chain(sends)
+        .chain(processes)
+        .chain(others)
+        .collect();
+    let length = text.len();
+    writes_back(&text, [length - 1, length, length + 1, TEXT_BYTES]);
+    for val in values {
+        let text = format!("procs=12\n{}", send(10, 11, val));
+        writes_back(&text, [text.len() - 1, text.len(), TEXT_BYTES]);
+    }
+    let longest = format!("procs=64\n{}", send(63, 62, u32::MAX).repeat(MAX_EVENTS));
+    let length = longest.len();
+    writes_back(&longest, [length - 1, length, TEXT_BYTES]);
+}
+
+#[test]
+fn writes_random_traces() {
+    let mut random = Random::new(4);
+    for round in 0..300 {
+        let shape = Shape::ALL[round % Shape::ALL.len()];
+        let procs = 2 + random.below(63);
+        let events = random.below(200);
+        let text = shape.trace(procs, events, &mut random).text();
+        let length = text.len();
+        let rooms = [length - 1, length, length + random.below(99), TEXT_BYTES];
+        writes_back(&String::from_utf8(text).unwrap(), rooms);
+    }
+}
+
+#[test]
+fn writes_no_other_area() {
+    let refused = |table: &[u32], room: usize, cause: Cause| {
+        let untouched = "~".repeat(room);
+        assert_eq!(
+            written(table, room),
+            (Err(Refusal::new(cause, 0)), untouched)
+        );
+    };
+    let table = table_of(H);
+    for room in [0, H.len(), TEXT_BYTES] {
+        refused(&[], room, Cause::Area);
+        refused(&table[..AREA_WORDS - 1], room, Cause::Area);
+        refused(&[0; AREA_WORDS], room, Cause::Table);
+    }
+    let saves = table_of(&format!("procs=2\n{}", "ev=save at=1\n".repeat(30)));
+    let mut one_more = saves.clone();
+    one_more[1] += 1;
+    refused(&one_more, TEXT_BYTES, Cause::Table);
+    one_more[EVENT_BASE + 31] = saves[EVENT_BASE + 30];
+    refused(&one_more, TEXT_BYTES, Cause::Table);
+}
+
+/// Areas with a small change are refused where the other calls refuse them, which have a check of
+/// their own; from those that hold another trace its text is written.
+#[test]
+fn writes_changed_areas() {
+    let table = table_of(H);
+    let mut random = Random::new(5);
+    for round in 0..4_000 {
+        let mut changed = table.clone();
+        let event = EVENT_BASE + 1 + random.below(10);
+        match round % 4 {
+            0 => changed[random.below(2)] ^= 1 << random.below(8),
+            1 => changed[event] ^= 1 << random.below(32),
+            2 => changed[event] = random.bits() as u32 & 0x3fff,
+            _ => changed[random.below(AREA_WORDS)] ^= 1 << random.below(32),
+        }
+        let (answer, out) = written(&changed, TEXT_BYTES);
+        match restart(&changed, failure(0, 1)) {
+            Ok(_) => {
+                let text = &out[..answer.unwrap()];
+                assert_eq!(table_of(text)[..AREA_WORDS], changed[..AREA_WORDS]);
+            }
+            Err(refusal) => assert_eq!(answer, Err(refusal)),
+        }
+    }
 }
 
 /// A trace of two processes in the short form of the proof plan: `v0` a save, `s01` a send from 0

@@ -1,0 +1,87 @@
+//! The words of a table area, and whether they hold a trace.
+
+use super::{EVENT_BASE, MAX_SAVES, RECEIVE, SAVE, SEND, VALUE_BASE};
+use crate::{AREA_WORDS, MAX_EVENTS, MAX_PROCS};
+
+/// What a table area has beside zeros, if it holds a trace.
+pub(super) struct Words<'a> {
+    /// How many processes.
+    pub procs: usize,
+    /// The word of each event.
+    pub events: &'a [u32],
+    /// The value of each event.
+    pub values: &'a [u32],
+}
+
+/// Whether all these words are 0. Without an early end, so that many are looked at at once.
+fn all_zero(words: &[u32]) -> bool {
+    words.iter().fold(0, |bits, word| bits | word) == 0
+}
+
+/// The kind of an event, its process and its peer, as its word has them. More than 14 bits show in
+/// the kind.
+#[inline]
+pub(super) fn unpack(word: u32) -> (u32, usize, usize) {
+    (word >> 12, (word & 63) as usize, (word >> 6 & 63) as usize)
+}
+
+/// Takes one of those left, if there is one.
+#[inline]
+fn take(left: Option<&mut u16>) -> bool {
+    match left {
+        Some(left) if *left > 0 => {
+            *left -= 1;
+            true
+        }
+        _ => false,
+    }
+}
+
+impl<'a> Words<'a> {
+    /// Those of a table area, if its counts are within the limits and all other words are 0.
+    #[inline]
+    pub fn of(table: &'a [u32; AREA_WORDS]) -> Option<Self> {
+        let procs = table[0] as usize;
+        let count = table[1] as usize;
+        if !(2..=MAX_PROCS).contains(&procs) || count > MAX_EVENTS {
+            return None;
+        }
+        let fit = all_zero(&table[2..=EVENT_BASE])
+            && all_zero(&table[EVENT_BASE + 1 + count..=VALUE_BASE])
+            && all_zero(&table[VALUE_BASE + 1 + count..]);
+        fit.then(|| Words {
+            procs,
+            events: &table[EVENT_BASE + 1..][..count],
+            values: &table[VALUE_BASE + 1..][..count],
+        })
+    }
+
+    /// Whether all events are fit, each after those before it.
+    ///
+    /// What is left for a receive or a save to take says most of it: nothing is in transit from a
+    /// process to itself, nor to or from one that is not there, and that one has no saves left.
+    #[inline]
+    pub fn hold_trace(&self) -> bool {
+        let procs = self.procs;
+        // by receiver: a channel to a process that is not there is past the end
+        let mut in_transit = vec![0; procs * MAX_PROCS];
+        let channel = |from: usize, to: usize| to << 6 | from;
+        let mut saves = [u16::from(MAX_SAVES); MAX_PROCS];
+        let saves = &mut saves[..procs];
+        self.events.iter().zip(self.values).all(|(&word, &value)| {
+            let (kind, at, peer) = unpack(word);
+            if kind == u32::from(SEND) {
+                let count = in_transit.get_mut(channel(at, peer));
+                at < procs && at != peer && count.map(|count| *count += 1).is_some()
+            } else if kind == u32::from(RECEIVE) {
+                value == 0 && take(in_transit.get_mut(channel(peer, at)))
+            } else if kind == u32::from(SAVE) {
+                // with a peer this is no process that there is
+                let process = word - (u32::from(SAVE) << 12);
+                value == 0 && take(saves.get_mut(process as usize))
+            } else {
+                false
+            }
+        })
+    }
+}
