@@ -7,7 +7,9 @@
    A table area holds a trace that was read, a run area what a call leaves of a replay or a list; both have at least 16,384 words
    (HALLBACK_WORDS), laid out as docs/LAYOUT.md says. Words past 16,384 are never touched. A line is given by its numbers: an epoch for each
    process, or 32 (HALLBACK_STAYS) for one that stays as it was at the cut. A slice is passed as its pointer and its length; a pointer
-   must not be null, not even where the length is 0. No two slices of a call may overlap, except two that are only read. */
+   must not be null, not even where the length is 0. No two slices of a call may overlap, except two that are only read.
+
+   Calls keep their tables on the stack, up to 170 KB (hallback_report; hallback_write 140 KB, whatever `out` is): give a thread 256 KB. */
 #ifndef HALLBACK_H
 #define HALLBACK_H
 
@@ -20,6 +22,11 @@ extern "C" {
 
 enum {
     HALLBACK_WORDS = 16384,         /* of a table area, of a run area */
+    HALLBACK_EVENT_BASE = 16,       /* word 16 + e of a table area is event e, from 1, ... */
+    HALLBACK_VALUE_BASE = 2065,     /* ... and word 2065 + e its value (docs/LAYOUT.md) */
+    HALLBACK_SEND = 1,              /* the kind of an event, bits 12 and 13 of its word: a send, ... */
+    HALLBACK_RECV = 2,              /* ... a receive, ... */
+    HALLBACK_SAVE = 3,              /* ... a save */
     HALLBACK_STAYS = 32,            /* in a line: the process stays */
     HALLBACK_RESTART_NUMBERS = 196, /* of the answer of hallback_restart */
     HALLBACK_REPORT_BYTES = 262144, /* a buffer of so many bytes holds every report */
@@ -35,19 +42,19 @@ uint32_t hallback_read(const uint8_t *text, size_t text_len, uint32_t *table, si
 uint32_t hallback_read_failure(const uint8_t *text, size_t text_len, uint32_t *table, size_t table_len, uint64_t *answer, size_t answer_len);
 
 /* Writes the text of the trace that a table area holds into `out`, without a failure line. Answer: place, length in bytes. Bytes of `out`
-   past the text stay. Refusals: 12, 13, and 14 if `out` is shorter than the text; a buffer of exactly its length is enough, and one of
-   HALLBACK_TEXT_BYTES always is. None changes anything. Reading the text restores the area's 16,384 words, and of an area that
-   hallback_read or hallback_read_failure left, what comes is what was read, byte for byte, up to its failure line. So a trace is edited:
+   past the text stay. Refusals: 12, 13, and 14 if `out` is shorter than the text; none changes `out`, and place and length are 0 then. A
+   buffer of exactly the text's length is enough; there is no asking for the length, but HALLBACK_TEXT_BYTES are always enough.
+   Reading the text restores the area's 16,384 words, and of an area that hallback_read or hallback_read_failure left, what comes is what
+   was read, byte for byte, up to its failure line. An area may be edited in between (docs/LAYOUT.md), here the value of event 1:
 
        static uint32_t table[HALLBACK_WORDS];
        static uint8_t out[HALLBACK_TEXT_BYTES];
        uint64_t answer[2];
        if (hallback_read(text, text_len, table, HALLBACK_WORDS, answer, 1) != 0) return 1;
-       table[2065 + 1] = 6;                                // event 1, a send, now has the value 6 (docs/LAYOUT.md)
+       if (table[1] >= 1 && table[HALLBACK_EVENT_BASE + 1] >> 12 == HALLBACK_SEND) table[HALLBACK_VALUE_BASE + 1] = 6;
        if (hallback_write(table, HALLBACK_WORDS, out, sizeof out, answer, 2) != 0) return 1;
-       fwrite(out, 1, answer[1], stdout);                  // the text of the edited trace; 13 if it were none
-
-   (A call that is refused says why by its number.) */
+       fwrite(out, 1, answer[1], stdout);
+*/
 uint32_t hallback_write(const uint32_t *table, size_t table_len, uint8_t *out, size_t out_len, uint64_t *answer, size_t answer_len);
 
 /* The greatest restart line that loses no message, for a failure right after event `step` of the processes in `set` (bit z is process z).

@@ -65,16 +65,21 @@ pub fn read_failure(text: &[u8], table: &mut [u32]) -> Result<Failure, Refusal> 
 /// Writes the text of the trace in the table area to `out`, and gives it. Bytes past it stay.
 ///
 /// Reading this text restores the area; written after reading, it is what was read, without the
-/// failure line. [`TEXT_BYTES`](crate::TEXT_BYTES) bytes hold every text. After a refusal `out` is
-/// as it was.
+/// failure line. [`TEXT_BYTES`](crate::TEXT_BYTES) bytes hold every text. Refused with
+/// [`Cause::Area`], [`Cause::Table`] or [`Cause::Buffer`], `out` being shorter than the text; after
+/// a refusal `out` is as it was.
 ///
 /// ```
-/// use hallback::{Cause, AREA_WORDS, TEXT_BYTES};
+/// use hallback::{Cause, AREA_WORDS, TEXT_BYTES, VALUE_BASE};
 ///
 /// let (mut table, mut out) = (vec![0; AREA_WORDS], vec![0; TEXT_BYTES]);
 /// let text = b"procs=2\nev=send at=0 to=1 val=7\nev=recv at=1 from=0\n";
 /// hallback::read(text, &mut table)?;
 /// assert_eq!(hallback::write(&table, &mut out)?, text);
+///
+/// table[VALUE_BASE + 1] = 8;
+/// let edited = b"procs=2\nev=send at=0 to=1 val=8\nev=recv at=1 from=0\n";
+/// assert_eq!(hallback::write(&table, &mut out)?, edited);
 ///
 /// let one_short = &mut out[..text.len() - 1];
 /// let refusal = hallback::write(&table, one_short).unwrap_err();

@@ -61,6 +61,12 @@ pub const MAX_EVENTS: usize = 2_048;
 /// The number in a restart line of a process that stays as it was at the cut.
 pub const STAY: u32 = 32;
 
+/// Word `EVENT_BASE + e` of a table area is event e, from 1 (`docs/LAYOUT.md` has its bits).
+pub const EVENT_BASE: usize = 16;
+
+/// Word `VALUE_BASE + e` of a table area is the value that event e sends.
+pub const VALUE_BASE: usize = 2_065;
+
 /// How many bytes hold every report.
 pub const REPORT_BYTES: usize = 262_144;
 

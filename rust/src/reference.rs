@@ -30,12 +30,6 @@ pub use machine::Machine;
 use recorded::{Recorded, Restarts};
 pub use report::report;
 
-/// Word `EVENT_BASE + e` of a table area is event e.
-const EVENT_BASE: usize = 16;
-
-/// Word `VALUE_BASE + e` of a table area is the value that event e sends.
-const VALUE_BASE: usize = 2_065;
-
 /// Word e of a delivery record is the number of the message that event e received, word
 /// `RECORD_VALUE_BASE + e` its value.
 const RECORD_VALUE_BASE: usize = 2_049;

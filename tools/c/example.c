@@ -58,8 +58,8 @@ int main(void) {
     printf("the record %s that of the run without failure\n", same ? "equals" : "differs from");
     if (!same) return 1;
 
-    /* Event 1 is a send: its value is word 2065 + 1 (docs/LAYOUT.md). All else comes back as it was read. */
-    table[2065 + 1] = 6;
+    /* Event 1 is a send; it gets another value. All else comes back as it was read. */
+    table[HALLBACK_VALUE_BASE + 1] = 6;
     number = hallback_write(table, HALLBACK_WORDS, out, sizeof out, answer, 2);
     if (number != 0) return refused("write", number, answer[0]);
     size_t traced = strstr(text, "fail=") - text;

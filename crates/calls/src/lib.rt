@@ -20,10 +20,6 @@ const ROW_PHASE_BASE: usize = 4114;
 
 const VALUES: usize = 2049;
 
-fn flag(b: bool) -> u64 {
-    if b { 1 } else { 0 }
-}
-
 // Where the failure of a call is, and the line that it goes back to.
 struct Call {
     step: u64,
@@ -69,8 +65,8 @@ fn print_replayed(r: Replayed, same: bool, run: &[u32; AREA_WORDS]) {
             r.number as u64,
             r.place as u64,
             r.steps as u64,
-            flag(r.complete),
-            flag(same),
+            checks::flag(r.complete),
+            checks::flag(same),
         ],
     );
     print_record(run);

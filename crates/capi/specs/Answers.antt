@@ -7,7 +7,7 @@ use Rattle.words.specs.Area.{wordsFrom}
 use Rattle.theory.specs.Lists.{pick}
 use Rattle.reader.specs.declared.Answer.{Answer}
 use Rattle.reader.specs.declared.FailureAnswer.{FailureAnswer}
-use Rattle.rendering.specs.declared.Written.{Written}
+use Rattle.rendering.specs.declared.WriteAnswer.{WriteAnswer}
 use Rattle.recovery_line.specs.declared.Line.{Line}
 use Rattle.orders.specs.declared.Replayed.{Replayed}
 use Rattle.theory.specs.Order.{lowestOrder}
@@ -27,7 +27,7 @@ readNumbers a = a .place ∷ []
 abbrev pub failureNumbers : FailureAnswer → List ℕ
 failureNumbers a = a .place ∷ a .step ∷ a .set ∷ []
 
-abbrev pub writeNumbers : Written → List ℕ
+abbrev pub writeNumbers : WriteAnswer → List ℕ
 writeNumbers w = w .place ∷ w .length ∷ []
 
 abbrev pub restartNumbers : Restarted → List ℕ

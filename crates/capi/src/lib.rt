@@ -2,16 +2,13 @@
 // Each returns the number of the refusal, or 0, and writes the rest of its answer into a lent slice, as far as that has
 // room (specs/Answers). No function has a `requires`. Assumes nothing.
 ghost use mathlib.Core.Path.{_≡_};
-ghost use mathlib.Core.Bool.{true};
 ghost use mathlib.Core.List.{[], _∷_};
-ghost use Prim.Native.Nat.{_≤_};
 ghost use lib.ListN.{length, getD};
 ghost use Rattle.theory.specs.Lists.{pick};
 ghost use Rattle.writer.specs.Buffer.{Puts, room, written};
 ghost use Rattle.reader.specs.Answer.{readAnswer, readArea};
 ghost use Rattle.reader.specs.Failure.{failureAnswer, failureArea};
-ghost use Rattle.table.specs.Held.{holdsTrace};
-ghost use Rattle.rendering.specs.Write.{textOf, textBytes, writeAnswer, writeBytes};
+ghost use Rattle.rendering.specs.Write.{writeAnswer, writeBuffer};
 ghost use Rattle.rendering.specs.Meaning.{RoundTrip};
 ghost use Rattle.recovery.specs.Answers.{replayAnswer, replayArea};
 ghost use Rattle.messages.specs.Messages.{messagesAnswer, messagesArea};
@@ -122,10 +119,9 @@ pub extern "C" fn hallback_read_failure(text: &[u8], table: &mut [u32], answer: 
 #[no_mangle]
 pub extern "C" fn hallback_write(table: &[u32], out: &mut [u8], answer: &mut [u64]) -> u32
     ensures number { λ r. ⌜ r ≡ writeAnswer (now (table .entry)) (length (now (out .entry))) .number ⌝ }
-    ensures bytes { λ _. ⌜ now (out .exit) ≡ writeBytes (now (table .entry)) (now (out .entry)) ⌝ }
+    ensures buffer { λ _. ⌜ now (out .exit) ≡ writeBuffer (now (table .entry)) (now (out .entry)) ⌝ }
     ensures numbers { λ _. ⌜ now (answer .exit) ≡ written (writeNumbers (writeAnswer (now (table .entry)) (length (now (out .entry))))) (now (answer .entry)) ⌝ }
     ensures trip { λ _. ⌜ RoundTrip (now (table .entry)) (now (out .entry)) (writeAnswer (now (table .entry)) (length (now (out .entry)))) (now (out .exit)) ⌝ }
-    ensures few { λ _. ⌜ (holdsTrace (now (table .entry)) ≡ true → length (textOf (now (table .entry))) ≤ textBytes) ⌝ }
 {
     let w = rendering::write(table, out);
     let second = put(answer, 0, w.place as u64);

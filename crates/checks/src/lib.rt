@@ -1,7 +1,7 @@
 // What gate programs share: the rows of their cases taken apart, rows of results put together and printed, and two
 // areas compared. Each function says what it does by a definition of specs/, for every input; no public function has
 // a `requires`. What reaches standard output no contract can say. Assumes what `libc` assumes.
-ghost use mathlib.Core.Bool.{true};
+ghost use mathlib.Core.Bool.{true, cond};
 ghost use mathlib.Core.Path.{_≡_};
 ghost use Prim.Native.Nat.{_≤_};
 ghost use lib.ListN.{length, getD, take};
@@ -28,6 +28,13 @@ pub fn find(bytes: &[u8], from: usize, b: u8) -> usize
         i += 1;
     }
     i
+}
+
+// A yes or no as a number.
+pub fn flag(yes: bool) -> u64
+    ensures { λ r. ⌜ (r ≡ cond yes 1 0) × (r ≤ 1) ⌝ }
+{
+    if yes { 1 } else { 0 }
 }
 
 // So many bytes of a buffer, or all that it has.

@@ -200,8 +200,17 @@ fn read(count: u32, events: &[u32; 6], size: u32, table: &mut [u32; 16384]) -> r
     reader::read(&text[..n], table)
 }
 
+// Whether the text of a sequence of events is what writing the area that it was read into gives.
+fn comes_back(count: u32, events: &[u32; 6], size: u32, table: &[u32; 16384]) -> bool
+    requires { ⌜ size ≤ 6 ⌝ }
+{
+    let mut text = [0u8; 160];
+    let n = put_trace(&mut text, count, events, size);
+    roundtrip::comes_back(table, &text[..n])
+}
+
 // One sequence of events: the reader is to refuse it, with 5 at the line of the first receive with nothing in transit,
-// or to accept it.
+// or to accept it, and then its text is to come back.
 fn check_sequence(count: u32, x: u32, table: &mut [u32; 16384], tally: &mut [u64; 6])
     requires { ⌜ (2 ≤ count) × (count ≤ 3) ⌝ }
 {
@@ -212,6 +221,7 @@ fn check_sequence(count: u32, x: u32, table: &mut [u32; 16384], tally: &mut [u64
     if e == 0 {
         add(tally, TRACES, 1);
         expect(tally, r.number == 0);
+        expect(tally, comes_back(count, &events, size, table));
         check_cuts(count, &events, size, table, tally);
     } else {
         add(tally, REFUSED, 1);

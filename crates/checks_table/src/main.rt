@@ -22,7 +22,7 @@ fn print_answer(area: &[u32]) {
     print_holds(area);
     let mut out = [0u8; 256];
     let w = rendering::write(area, &mut out);
-    checks::print(b" write=#\n", &[w.number as u64]);
+    checks::print(b" write=# place=#\n", &[w.number as u64, w.place as u64]);
     io::write_all(1, &out[..checks::most(&out, w.length)]);
 }
 

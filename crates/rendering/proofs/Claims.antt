@@ -1,7 +1,7 @@
 -- What writing promises, over definitions alone: each claim under the sentence that it stands for (document 02, item
 -- 1).
 use Prim.Native.Nat.{ℕ, _<_, _≤_}
-use mathlib.Core.Path.{_≡_, sym, ap, _∙_}
+use mathlib.Core.Path.{_≡_, refl, sym, ap, _∙_}
 use mathlib.Core.Bool.{true, false}
 use mathlib.Core.Option.{some}
 use mathlib.Core.List.{List, _++_}
@@ -13,31 +13,52 @@ use borrow.Author.Tests.{lt-ltb, le-ltb, ne-eqb}
 use Rattle.words.specs.Area.{areaWords}
 use Rattle.words.proofs.Cases.{by-bool, by-lt}
 use Rattle.trace.specs.Trace.{Trace}
+use Rattle.lines.specs.Line.{most, mostSet}
 use Rattle.lines.specs.Render.{renderFailure}
 use Rattle.reader.specs.Answer.{readAnswer, readArea}
-use Rattle.reader.specs.Failure.{failureAnswer, failureArea}
+use Rattle.reader.specs.Failure.{failing, failureOf, failureAnswer, failureArea}
 use Rattle.reader.specs.Verdict.{accepted, verdict}
 use Rattle.reader.specs.Render.{render}
 use Rattle.reader.proofs.Claims.{canonical, canonical-failing, fit-accepted, answered, failing-answered}
 use Rattle.table.specs.Held.{held, holdsTrace, heldTrace}
 use Rattle.table.proofs.Holding.{told, held-self, same-front}
 use Rattle.table.proofs.Claims.{held-iff, read-held, failing-held}
-use Rattle.rendering.specs.Write.{textOf, writeFault, writeAnswer, writeBytes}
-use Rattle.rendering.specs.Meaning.{SameArea, Restores, Comes, RoundTrip}
+use Rattle.rendering.specs.declared.WriteAnswer.{WriteAnswer}
+use Rattle.rendering.specs.Write.{textOf, writeFault, writeAnswer, writeBuffer}
+use Rattle.rendering.specs.Meaning.{SameArea, Restores, RestoresFailing, ComesBack, RoundTrip}
+use Rattle.rendering.proofs.Lengths.{text-few}
 
 read-zero : (text b : List ℕ) (t : Trace) → verdict text ≡ accepted t → areaWords ≤ length b → readAnswer text b ≡ record { number = 0; place = 0 }
 unfolding readAnswer
 read-zero text b t e l = rw (le-ltb (length b) areaWords l, e)
 
--- "Reading that text must restore the same area."
+-- "Reading that text must restore the same area"
 pub restores : (a : List ℕ) → holdsTrace a ≡ true → Restores a (textOf a)
 unfolding textOf
 restores a h =
     let (size, fit, words) = held-iff a (held a) .0 (held-self a h) in
+    let text = render (held a) in
     let e = fit-accepted (held a) fit in
     record {
-      accepted = λ b l. read-zero (render (held a)) b (held a) e l;
-      same = λ b l. held-iff (readArea (render (held a)) b) (held a) .0 (read-held (render (held a)) b (held a) e l) .2 ∙ sym words;
+      accepted = λ b l. read-zero text b (held a) e l;
+      same = λ b l. held-iff (readArea text b) (held a) .0 (read-held text b (held a) e l) .2 ∙ sym words;
+    }
+
+failing-zero : (text b : List ℕ) (t : Trace) (step set : ℕ) → failureOf text ≡ failing t step set → areaWords ≤ length b
+    → failureAnswer text b ≡ record { number = 0; place = 0; step = step; set = set }
+unfolding failureAnswer
+failing-zero text b t step set e l = rw (le-ltb (length b) areaWords l, e)
+
+-- "the `fail` line being outside it": the same with a failure line put after the text.
+pub restores-failing : (a : List ℕ) (step set : ℕ) → holdsTrace a ≡ true → step ≤ most → set ≤ mostSet → RestoresFailing a (textOf a) step set
+unfolding textOf
+restores-failing a step set h hs hm =
+    let (size, fit, words) = held-iff a (held a) .0 (held-self a h) in
+    let text = render (held a) ++ renderFailure step set in
+    let e = canonical-failing text (held a) step set .1 (fit, hs, hm, refl) in
+    record {
+      accepted = λ b l. failing-zero text b (held a) step set e l;
+      same = λ b l. held-iff (failureArea text b) (held a) .0 (failing-held text b (held a) step set e l) .2 ∙ sym words;
     }
 
 -- an area with the first words of one that holds a trace
@@ -49,19 +70,19 @@ same-holds a b t h e =
     told a t (same-front b a long m e t h)
 
 -- "writing after reading must return the same bytes": a text that was accepted is that of the area it left.
-pub same-bytes : (text a b : List ℕ) → (readAnswer text b) .number ≡ 0 → SameArea (readArea text b) a → (holdsTrace a ≡ true) × (text ≡ textOf a)
+pub returns : (text a b : List ℕ) → (readAnswer text b) .number ≡ 0 → SameArea (readArea text b) a → (holdsTrace a ≡ true) × (text ≡ textOf a)
 unfolding textOf
-same-bytes text a b z s =
+returns text a b z s =
     let (l, (t, e)) = answered text b z in
     let (holds, same) = same-holds a (readArea text b) t (read-held text b t e l) s in
     (holds, canonical text t .0 e .1 ∙ ap render (sym same))
 
 -- "the `fail` line being outside it": a text that was accepted with its failure line is that of the area it left, and
 -- that line.
-pub same-bytes-failing : (text a b : List ℕ) → (failureAnswer text b) .number ≡ 0 → SameArea (failureArea text b) a
+pub returns-failing : (text a b : List ℕ) → (failureAnswer text b) .number ≡ 0 → SameArea (failureArea text b) a
     → (holdsTrace a ≡ true) × (text ≡ textOf a ++ renderFailure ((failureAnswer text b) .step) ((failureAnswer text b) .set))
 unfolding textOf
-same-bytes-failing text a b z s =
+returns-failing text a b z s =
     let step = (failureAnswer text b) .step in
     let set = (failureAnswer text b) .set in
     let (l, (t, e)) = failing-answered text b z in
@@ -89,8 +110,8 @@ module _ (a : List ℕ) where
     all-fit s = rw (le-ltb (length a) areaWords l, h, le-ltb n (length (textOf a)) s)
 
 -- The text of an area that holds a trace comes, or 14.
-comes : (a out : List ℕ) → holdsTrace a ≡ true → Comes (textOf a) out (writeAnswer a (length out)) (writeBytes a out)
-unfolding writeAnswer writeBytes
+comes : (a out : List ℕ) → holdsTrace a ≡ true → ComesBack (textOf a) out (writeAnswer a (length out)) (writeBuffer a out)
+unfolding writeAnswer writeBuffer
 comes a out h =
     let l : areaWords ≤ length a = held-iff a (held a) .0 (held-self a h) .0 in
     record {
@@ -102,32 +123,51 @@ comes a out h =
 fit-all : (a : List ℕ) (n : ℕ) → writeFault a n ≡ 0 → (holdsTrace a ≡ true) × (length (textOf a) ≤ n)
 fit-all a n z =
     by-lt (length a) areaWords
-    (λ s. no 12 (sym (area-short a n s) ∙ z) (omega arith))
+    (λ s. absurd (let e = sym (area-short a n s) ∙ z in let q : ⊥ = omega arith in q))
     (λ l. by-bool (holdsTrace a)
-    (λ h. by-lt n (length (textOf a)) (λ s. no 14 (sym (buffer-short a n l h s) ∙ z) (omega arith)) (λ s. (h, s)))
-    (λ h. no 13 (sym (area-unheld a n l h) ∙ z) (omega arith)))
-  where
-    no : {A : Type 0} (k : ℕ) → k ≡ 0 → 0 < k → A
-    no k e p = absurd (let q : ⊥ = omega arith in q)
+    (λ h. by-lt n (length (textOf a)) (λ s. absurd (let e = sym (buffer-short a n l h s) ∙ z in let q : ⊥ = omega arith in q)) (λ s. (h, s)))
+    (λ h. absurd (let e = sym (area-unheld a n l h) ∙ z in let q : ⊥ = omega arith in q)))
 
-back : (a out : List ℕ) → (writeAnswer a (length out)) .number ≡ 0 → Restores a (take ((writeAnswer a (length out)) .length) (writeBytes a out))
-unfolding writeAnswer writeBytes
-back a out z =
-    let h = fit-all a (length out) z .0 in
-    rw (z, take-append-seam (textOf a) (drop (length (textOf a)) out)) (restores a h)
+-- 14 is said only of an area that holds a trace, whose text is longer than the buffer
+fault-14 : (a : List ℕ) (n : ℕ) → writeFault a n ≡ 14 → (holdsTrace a ≡ true) × (n < length (textOf a))
+fault-14 a n z =
+    by-lt (length a) areaWords
+    (λ s. absurd (let e = sym (area-short a n s) ∙ z in let q : ⊥ = omega arith in q))
+    (λ l. by-bool (holdsTrace a)
+    (λ h. by-lt n (length (textOf a)) (λ s. (h, s)) (λ s. absurd (let e = sym (all-fit a n l h s) ∙ z in let q : ⊥ = omega arith in q)))
+    (λ h. absurd (let e = sym (area-unheld a n l h) ∙ z in let q : ⊥ = omega arith in q)))
 
-as-it-was : (a out : List ℕ) → ((writeAnswer a (length out)) .number ≡ 0 → ⊥) → writeBytes a out ≡ out
-unfolding writeAnswer writeBytes
-as-it-was a out h = rw (ne-eqb (writeFault a (length out)) 0 h)
+-- ---- Each part of `RoundTrip`
 
--- Both ways, for every area and every buffer.
-pub round-trip : (a out : List ℕ) → RoundTrip a out (writeAnswer a (length out)) (writeBytes a out)
-round-trip a out = record { restores = back a out; returns = there; failing = outside; nothing = as-it-was a out }
-  where
-    there : (text b : List ℕ) → (readAnswer text b) .number ≡ 0 → SameArea (readArea text b) a → Comes text out (writeAnswer a (length out)) (writeBytes a out)
-    there text b z s = let (h, e) = same-bytes text a b z s in rw e (comes a out h)
+module _ (a out : List ℕ) where
+  abbrev r : WriteAnswer
+  r = writeAnswer a (length out)
 
-    outside : (text b : List ℕ) → (failureAnswer text b) .number ≡ 0 → SameArea (failureArea text b) a
-        → (front : List ℕ) × (text ≡ front ++ renderFailure ((failureAnswer text b) .step) ((failureAnswer text b) .set))
-        × Comes front out (writeAnswer a (length out)) (writeBytes a out)
-    outside text b z s = let (h, e) = same-bytes-failing text a b z s in (textOf a, e, comes a out h)
+  -- the bytes written are the text
+  bytes-are : r .number ≡ 0 → take (r .length) (writeBuffer a out) ≡ textOf a
+  unfolding writeAnswer writeBuffer
+  bytes-are z = rw (z, take-append-seam (textOf a) (drop (length (textOf a)) out))
+
+  fit : r .number ≡ 0 → holdsTrace a ≡ true
+  unfolding writeAnswer
+  fit z = fit-all a (length out) z .0
+
+  shut-out : r .number ≡ 14 → (holdsTrace a ≡ true) × (length out < length (textOf a))
+  unfolding writeAnswer
+  shut-out = fault-14 a (length out)
+
+  as-it-was : (r .number ≡ 0 → ⊥) → (r .place ≡ 0) × (r .length ≡ 0) × (writeBuffer a out ≡ out)
+  unfolding writeAnswer writeBuffer
+  as-it-was h = let e = ne-eqb (writeFault a (length out)) 0 h in (refl, rw e, rw e)
+
+  -- Both ways, for every area and every buffer.
+  pub round-trip : RoundTrip a out r (writeBuffer a out)
+  round-trip = record {
+    restores = λ z. rw (bytes-are z) (restores a (fit z));
+    restores-failing = λ z step set hs hm. rw (bytes-are z) (restores-failing a step set (fit z) hs hm);
+    returns = λ text b z s. let (h, e) = returns text a b z s in rw e (comes a out h);
+    returns-failing = λ text b z s. let (h, e) = returns-failing text a b z s in (textOf a, e, comes a out h);
+    too-short = λ z. let (h, s) = shut-out z in (textOf a, restores a h, s);
+    enough = λ l z. let (h, s) = shut-out z in omega (arith, text-few a h);
+    nothing = as-it-was;
+  }

@@ -1,21 +1,34 @@
 -- Each way out of `write`: from what was answered and written to the contract.
 use Prim.Native.Nat.{ℕ, _<_, _≤_}
 use mathlib.Core.Path.{_≡_, sym, ap, _∙_}
-use mathlib.Core.Bool.{true, false}
+use mathlib.Core.Bool.{Bool, true, false, not}
 use mathlib.Core.List.{List, _++_}
 use native.Mathlib.Omega.{arith}
-use lib.ListN.{length, take, drop}
+use lib.ListN.{length, getD, take, drop, replicate, length-replicate}
 use lib.Seq.{take-all, take-append-seam}
-use borrow.Author.Tests.{ne-eqb}
+use borrow.Author.Tests.{not-false, ne-eqb}
 use Rattle.words.specs.Area.{areaWords}
 use Rattle.table.specs.Held.{holdsTrace}
+use Rattle.table.proofs.Testing.{holds-facts}
 use Rattle.writer.specs.Buffer.{Puts, room, written}
 use Rattle.writer.proofs.Buffers.{whole}
-use Rattle.rendering.specs.declared.Written.{Written}
-use Rattle.rendering.specs.Write.{textOf, writeFault, writeAnswer, writeBytes, textBytes}
+use Rattle.rendering.specs.declared.WriteAnswer.{WriteAnswer}
+use Rattle.rendering.specs.Write.{textOf, writeFault, writeAnswer, writeBuffer, textBytes}
 use Rattle.rendering.specs.Meaning.{RoundTrip}
 use Rattle.rendering.proofs.Claims.{area-short, area-unheld, buffer-short, all-fit, round-trip}
 use Rattle.rendering.proofs.Lengths.{text-few}
+
+-- what check 13 says
+pub holds : (a : List ℕ) (said : Bool) → said ≡ holdsTrace a → not said ≡ false → holdsTrace a ≡ true
+holds a said e h = sym e ∙ not-false said h
+
+-- what `put_text` asks for
+pub within : (a : List ℕ) → holdsTrace a ≡ true → (areaWords ≤ length a) × (getD a 0 0 ≤ 64) × (getD a 1 0 ≤ 2048)
+within a h = let f = holds-facts a h in (f .size, f .most, f .few)
+
+-- the buffer of its own
+pub own-size : length {A = ℕ} (replicate textBytes 0) ≡ textBytes
+own-size = length-replicate {A = ℕ} textBytes 0
 
 -- the text, from the first place of a buffer that has room for it
 text-at : (a out after : List ℕ) (n : ℕ) → length (textOf a) ≤ length out → Puts (textOf a) out 0 after n
@@ -41,18 +54,17 @@ module _ (a : List ℕ) (h : holdsTrace a ≡ true) (own text : List ℕ) (n : �
   own-length = own-count ∙ ap length (sym own-front)
 
 -- the contract
-abbrev Promised : List ℕ → List ℕ → Written → List ℕ → Type 0
+abbrev Promised : List ℕ → List ℕ → WriteAnswer → List ℕ → Type 0
 Promised a out r after =
-    (r ≡ writeAnswer a (length out))
-    × ((after ≡ writeBytes a out) × (RoundTrip a out r after × (holdsTrace a ≡ true → length (textOf a) ≤ textBytes)))
+    (r ≡ writeAnswer a (length out)) × ((after ≡ writeBuffer a out) × RoundTrip a out r after)
 
 -- what the definitions say is all of it
-by-definition : (a out : List ℕ) (r : Written) (after : List ℕ) → r ≡ writeAnswer a (length out) → after ≡ writeBytes a out → Promised a out r after
-by-definition a out r after e f = (e, (f, (rw (e, f) (round-trip a out), text-few a)))
+by-definition : (a out : List ℕ) (r : WriteAnswer) (after : List ℕ) → r ≡ writeAnswer a (length out) → after ≡ writeBuffer a out → Promised a out r after
+by-definition a out r after e f = (e, (f, rw (e, f) (round-trip a out)))
 
-module _ (a out : List ℕ) (r : Written) where
+module _ (a out : List ℕ) (r : WriteAnswer) where
   refused-way : (n : ℕ) → 0 < n → r ≡ record { number = n; place = 0; length = 0 } → writeFault a (length out) ≡ n → Promised a out r out
-  unfolding writeAnswer writeBytes
+  unfolding writeAnswer writeBuffer
   refused-way n p e f =
       let d = ne-eqb n 0 (λ z. omega arith) in
       by-definition a out r out (e ∙ rw (f, d)) (rw (f, d))
@@ -67,7 +79,7 @@ module _ (a out : List ℕ) (r : Written) where
     -- the text has been written from the first place of a buffer that has room for it
     pub all-written : (after : List ℕ) (n : ℕ) → length (textOf a) ≤ length out → Puts (textOf a) out 0 after n
         → r ≡ record { number = 0; place = 0; length = length (textOf a) } → Promised a out r after
-    unfolding writeAnswer writeBytes
+    unfolding writeAnswer writeBuffer
     all-written after n s p e =
         let f = all-fit a (length out) l h s in
         by-definition a out r after (e ∙ rw f) (text-at a out after n s p .0 ∙ rw f)

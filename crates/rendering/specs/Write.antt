@@ -9,7 +9,7 @@ use Rattle.words.specs.Area.{areaWords}
 use Rattle.trace.specs.Fit.{orElse}
 use Rattle.reader.specs.Render.{render}
 use Rattle.table.specs.Held.{held, holdsTrace}
-use Rattle.rendering.specs.declared.Written.{Written}
+use Rattle.rendering.specs.declared.WriteAnswer.{WriteAnswer}
 
 -- the text of the trace that a table area holds
 unfoldable pub textOf : List ℕ → List ℕ
@@ -20,13 +20,13 @@ textOf a = render (held a)
 unfoldable pub writeFault : List ℕ → ℕ → ℕ
 writeFault a n = orElse (ltb (length a) areaWords) 12 (orElse (not (holdsTrace a)) 13 (orElse (ltb n (length (textOf a))) 14 0))
 
--- "its length in the answer"; "In a refused answer every other number is 0."
-unfoldable pub writeAnswer : List ℕ → ℕ → Written
+-- "its length in the answer"; document 01: "In a refused answer every other number is 0"
+unfoldable pub writeAnswer : List ℕ → ℕ → WriteAnswer
 writeAnswer a n = record { number = writeFault a n; place = 0; length = cond (eqb (writeFault a n) 0) (length (textOf a)) 0 }
 
--- "Bytes past the text stay untouched", and a refusal "changes nothing"
-unfoldable pub writeBytes : List ℕ → List ℕ → List ℕ
-writeBytes a out = cond (eqb (writeFault a (length out)) 0) (textOf a ++ drop (length (textOf a)) out) out
+-- the buffer afterwards: "Bytes past the text stay untouched"; 14 "changes nothing", nor does any other refusal
+unfoldable pub writeBuffer : List ℕ → List ℕ → List ℕ
+writeBuffer a out = cond (eqb (writeFault a (length out)) 0) (textOf a ++ drop (length (textOf a)) out) out
 
 -- a buffer of so many bytes holds every text
 abbrev pub textBytes : ℕ

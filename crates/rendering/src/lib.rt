@@ -2,26 +2,25 @@
 // specs/Write, what they mean both ways in specs/Meaning; proofs/Claims has the same over definitions alone. No public
 // function has a `requires`. Assumes nothing.
 ghost use mathlib.Core.Path.{_≡_};
-ghost use mathlib.Core.Bool.{true};
 ghost use mathlib.Core.List.{[], _∷_, _++_};
 ghost use Prim.Native.Nat.{_≤_};
 ghost use lib.ListN.{length, getD};
 ghost use Rattle.words.specs.Area.{areaWords};
 ghost use Rattle.trace.specs.declared.Event.the-variants.{Send, Recv, Save};
-ghost use Rattle.table.specs.Held.{held, heldEvents, holdsTrace};
+ghost use Rattle.table.specs.Held.{heldEvents};
 ghost use Rattle.lines.specs.Render.{renderEvent};
-ghost use Rattle.reader.specs.Render.{renderEvents, render};
+ghost use Rattle.reader.specs.Render.{renderEvents};
 ghost use Rattle.writer.specs.Buffer.{Puts};
-ghost use Rattle.rendering.specs.Write.{textOf, textBytes, writeAnswer, writeBytes};
+ghost use Rattle.rendering.specs.Write.{textOf, writeAnswer, writeBuffer};
 ghost use Rattle.rendering.specs.Meaning.{RoundTrip};
 use trace::EVENT_BASE;
 use trace::Event;
 use trace::VALUE_BASE;
 use words::AREA_WORDS;
 
-// The answer of a writing: the number of the refusal, 0 if accepted, its place, which is 0, and how many bytes the text
-// has.
-pub struct Written {
+// The answer of a writing: the number of the refusal, 0 if accepted; a place, which is always 0; and how many bytes the
+// text has, 0 in a refusal.
+pub struct WriteAnswer {
     pub number: u32,
     pub place: usize,
     pub length: usize,
@@ -91,21 +90,12 @@ fn put_text(out: &mut [u8], table: &[u32]) -> usize
     put_events(out, first, table, table[1] as usize)
 }
 
-fn refused(number: u32) -> Written
-    ensures { λ r. ⌜ r ≡ (record { number = number; place = 0; length = 0 }) ⌝ }
+// An answer; its place is always 0.
+fn answer(number: u32, length: usize) -> WriteAnswer
+    ensures { λ r. ⌜ r ≡ (record { number = number; place = 0; length = length }) ⌝ }
 {
-    Written {
+    WriteAnswer {
         number: number,
-        place: 0,
-        length: 0,
-    }
-}
-
-fn accepted(length: usize) -> Written
-    ensures { λ r. ⌜ r ≡ (record { number = 0; place = 0; length = length }) ⌝ }
-{
-    Written {
-        number: 0,
         place: 0,
         length: length,
     }
@@ -113,26 +103,25 @@ fn accepted(length: usize) -> Written
 
 // Writes the text of the trace that a table area holds into a lent buffer. A buffer that holds every text is written
 // straight; into a shorter one the text is copied once its length is known, since 14 must change nothing.
-pub fn write(table: &[u32], out: &mut [u8]) -> Written
+pub fn write(table: &[u32], out: &mut [u8]) -> WriteAnswer
     ensures answer { λ r. ⌜ r ≡ writeAnswer (now (table .entry)) (length (now (out .entry))) ⌝ }
-    ensures bytes { λ _. ⌜ now (out .exit) ≡ writeBytes (now (table .entry)) (now (out .entry)) ⌝ }
+    ensures buffer { λ _. ⌜ now (out .exit) ≡ writeBuffer (now (table .entry)) (now (out .entry)) ⌝ }
     ensures trip { λ r. ⌜ RoundTrip (now (table .entry)) (now (out .entry)) r (now (out .exit)) ⌝ }
-    ensures few { λ _. ⌜ (holdsTrace (now (table .entry)) ≡ true → length (textOf (now (table .entry))) ≤ textBytes) ⌝ }
 {
     if table.len() < AREA_WORDS {
-        return refused(12);
+        return answer(12, 0);
     }
     if !table::holds_trace(table) {
-        return refused(13);
+        return answer(13, 0);
     }
     if out.len() >= TEXT_BYTES {
-        return accepted(put_text(out, table));
+        return answer(0, put_text(out, table));
     }
     let mut text = [0u8; TEXT_BYTES];
     let length = put_text(&mut text, table);
     if out.len() < length {
-        return refused(14);
+        return answer(14, 0);
     }
     writer::put_bytes(out, 0, &text[..length]);
-    accepted(length)
+    answer(0, length)
 }

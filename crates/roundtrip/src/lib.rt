@@ -1,30 +1,16 @@
 // A trace written back by `rendering::write`, compared with the text that it was read from, and read again; and what
 // came of it printed. Proved safe and ending; what is printed no contract can say. Assumes what `libc` assumes.
-ghost use Prim.Native.Nat.{_≤_};
 use words::AREA_WORDS;
 
 // What every byte and every word holds before a call: those that the call leaves as they were are seen.
 const BEFORE: u8 = 7;
 
-// 1 where byte i of a buffer is not that of the text at the same place.
-fn differs(out: &[u8], i: usize, text: &[u8]) -> u64
-    ensures { λ r. ⌜ r ≤ 1 ⌝ }
-{
-    if i >= text.len() {
-        return 1;
-    }
-    if i >= out.len() {
-        return 1;
-    }
-    if out[i] == text[i] { 0 } else { 1 }
-}
-
-// How many of the first n bytes of a buffer are not those of the text.
-fn others(out: &[u8], n: usize, text: &[u8]) -> u64 {
+// How many of the first n bytes of a buffer are not those of a text.
+fn differing(out: &[u8], n: usize, text: &[u8]) -> u64 {
     let mut count: u64 = 0;
     let mut i: usize = 0;
     while i < n {
-        count += differs(out, i, text);
+        count += checks::flag(text::byte(out, i) != text::byte(text, i));
         i += 1;
     }
     count
@@ -32,27 +18,27 @@ fn others(out: &[u8], n: usize, text: &[u8]) -> u64 {
 
 // How many bytes of a buffer, from a place on, are not as they were.
 fn changed(out: &[u8], from: usize) -> u64 {
-    let same = [BEFORE; rendering::TEXT_BYTES];
     let mut count: u64 = 0;
     let mut i = from;
     while i < out.len() {
-        count += differs(out, i, &same);
+        count += checks::flag(out[i] != BEFORE);
         i += 1;
     }
     count
 }
 
-// Writes into a buffer: its bytes, the number and the length that are answered, how many of the bytes written are not
-// the text's, and how many of the others changed.
+// Writes into a buffer and prints how many bytes it has, the answer, how many of the bytes written are not the text's,
+// and how many of the others changed. Answers the length that was answered.
 fn print_write(table: &[u32; AREA_WORDS], text: &[u8], out: &mut [u8]) -> usize {
     let w = rendering::write(table, out);
     checks::print(
-        b" room=# number=# length=# differ=# changed=#",
+        b" room=# number=# place=# length=# differ=# changed=#",
         &[
             out.len() as u64,
             w.number as u64,
+            w.place as u64,
             w.length as u64,
-            others(out, w.length, text),
+            differing(out, w.length, text),
             changed(out, w.length),
         ],
     );
@@ -66,15 +52,14 @@ fn print_room(table: &[u32; AREA_WORDS], text: &[u8], room: usize) {
     print_write(table, text, &mut out[..n]);
 }
 
-// Reads the first n bytes of a buffer, and tells whether the area that this leaves is the one given: 1 if it is.
+// Reads the first n bytes of a buffer and tells whether they are accepted and leave the area given: 1 if so.
 fn again(table: &[u32; AREA_WORDS], out: &[u8], n: usize) -> u64 {
     let mut area = [BEFORE as u32; AREA_WORDS];
-    reader::read(&out[..checks::most(out, n)], &mut area);
-    if checks::same_words(table, &area) {
-        1
-    } else {
-        0
+    let a = reader::read(&out[..checks::most(out, n)], &mut area);
+    if a.number != 0 {
+        return 0;
     }
+    checks::flag(checks::same_words(table, &area))
 }
 
 // The trace of an area written back into a buffer that holds every text, and read again; and written into buffers of
@@ -92,4 +77,14 @@ pub fn print_trip(table: &[u32; AREA_WORDS], text: &[u8]) {
         print_room(table, text, n + 1);
     }
     io::write_all(1, b"\n");
+}
+
+// Whether writing the trace of an area gives just this text.
+pub fn comes_back(table: &[u32; AREA_WORDS], text: &[u8]) -> bool {
+    let mut out = [BEFORE; rendering::TEXT_BYTES];
+    let w = rendering::write(table, &mut out);
+    if w.length != text.len() {
+        return false;
+    }
+    differing(&out, w.length, text) == 0
 }

@@ -1,7 +1,7 @@
 //! The trace text, read in one pass.
 
-use super::{EVENT_BASE, MAX_SAVES, RECEIVE, SAVE, SEND, VALUE_BASE};
-use crate::{Cause, Failure, Refusal, AREA_WORDS, MAX_EVENTS, MAX_PROCS};
+use super::{MAX_SAVES, RECEIVE, SAVE, SEND};
+use crate::{Cause, Failure, Refusal, AREA_WORDS, EVENT_BASE, MAX_EVENTS, MAX_PROCS, VALUE_BASE};
 
 /// A place in a text.
 struct Cursor<'a> {

@@ -1,7 +1,7 @@
 //! The words of a table area, and whether they hold a trace.
 
-use super::{EVENT_BASE, MAX_SAVES, RECEIVE, SAVE, SEND, VALUE_BASE};
-use crate::{AREA_WORDS, MAX_EVENTS, MAX_PROCS};
+use super::{MAX_SAVES, RECEIVE, SAVE, SEND};
+use crate::{AREA_WORDS, EVENT_BASE, MAX_EVENTS, MAX_PROCS, VALUE_BASE};
 
 /// What a table area has beside zeros, if it holds a trace.
 pub(super) struct Words<'a> {

@@ -2,7 +2,7 @@
 
 use super::*;
 use crate::shapes::{each_trace, Event, Random, Shape, Trace};
-use crate::{MAX_EVENTS, STAY, TEXT_BYTES};
+use crate::{EVENT_BASE, MAX_EVENTS, STAY, TEXT_BYTES};
 use std::collections::{BTreeMap, VecDeque};
 
 const H: &str = "procs=3

@@ -1,7 +1,7 @@
 -- `capi::hallback_write` meets its contract: what `write` promises, the answer in numbers.
 use mathlib.Core.Path.{ap}
 use Rattle.writer.proofs.Buffers.{then}
-use Rattle.rendering.specs.declared.Written.{Written}
+use Rattle.rendering.specs.declared.WriteAnswer.{WriteAnswer}
 use Rattle.capi.specs.Answers.{writeNumbers}
 use Rattle.capi.proofs.Giving.{answer-is}
 use borrow.Author.Needs.{needs}
@@ -13,8 +13,8 @@ returns c =
     let put = c .before .before .before .before .before .before .put in
     let put2 = c .before .before .put2 in
     let write = c .before .before .before .before .before .before .before .before .before .before .write in
-    let two = then _ _ _ _ _ _ _ _ ((put .ensures)) ((put2 .ensures)) in
-    (ap (λ (w : Written). w .number) ((write .ensures .0)), (((write .ensures .1 .0)), (answer-is _ _ _ _ _ (ap writeNumbers ((write .ensures .0))) two, (rw ((write .ensures .0)) at ((write .ensures .1 .1 .0)), ((write .ensures .1 .1 .1))))))
+    let two = then _ _ _ _ _ _ _ _ (put .ensures) (put2 .ensures) in
+    (ap (λ (w : WriteAnswer). w .number) (write .ensures .0), ((write .ensures .1 .0), (answer-is _ _ _ _ _ (ap writeNumbers (write .ensures .0)) two, rw (write .ensures .0) at (write .ensures .1 .1))))
 
 pub hallback-write-spec : {M : Type 1} → statement M
 hallback-write-spec =

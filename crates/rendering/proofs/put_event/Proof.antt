@@ -7,19 +7,19 @@ returns : tie.Need-returns
 returns c =
     let e = c .before .before .before .before .before .e in
     let put-send = c .before .before .put-send in
-    rw ((e .given .1)) ((put-send .ensures))
+    rw (e .given .1) (put-send .ensures)
 
 returns-2 : tie.Need-returns-2
 returns-2 c =
     let e2 = c .before .before .before .before .before .e2 in
     let put-recv = c .before .before .put-recv in
-    rw ((e2 .given .1)) ((put-recv .ensures))
+    rw (e2 .given .1) (put-recv .ensures)
 
 returns-3 : tie.Need-returns-3
 returns-3 c =
     let e3 = c .before .before .before .before .before .e3 in
     let put-save = c .before .before .put-save in
-    rw ((e3 .given .1)) ((put-save .ensures))
+    rw (e3 .given .1) (put-save .ensures)
 
 pub put-event-spec : {M : Type 1} → statement M
 put-event-spec =

@@ -25,18 +25,18 @@ loop-again c =
     let put-event = c .before .before .put-event in
     let loop = c .before .before .before .before .before .before .before .before .loop in
     let event = c .before .before .before .before .event in
-    (omega arith, ((put-event .kept .0)) ∙ ((loop .inv .1)), lines-next _ _ _ _ _ _ _ _ ((loop .inv .2)) (rw ((event .ensures)) at (put-event .ensures)))
+    (omega arith, (put-event .kept .0) ∙ (loop .inv .1), lines-next _ _ _ _ _ _ _ _ (loop .inv .2) (rw (event .ensures) at (put-event .ensures)))
 
 same-length : tie.Need-same-length Inv-loop μ-loop
 same-length c =
     let loop = c .before .loop in
-    ((loop .inv .1))
+    (loop .inv .1)
 
 returns : tie.Need-returns Inv-loop μ-loop
 returns c =
     let loop = c .before .loop in
     let args = c .before .before .before .before .args in
-    let e : (loop .i) ≡ (args .n) = omega arith in rw e at ((loop .inv .2))
+    let e : (loop .i) ≡ (args .n) = omega arith in rw e at (loop .inv .2)
 
 pub put-events-spec : {M : Type 1} → statement M
 put-events-spec =

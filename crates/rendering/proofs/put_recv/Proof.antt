@@ -9,7 +9,7 @@ returns c =
     let put-pair = c .before .before .before .before .before .before .before .before .before .before .before .before .put-pair in
     let put-pair2 = c .before .before .before .before .before .before .before .put-pair2 in
     let put-bytes = c .before .before .put-bytes in
-    recv-put _ _ _ _ _ _ _ _ _ _ ((put-pair .ensures)) ((put-pair2 .ensures)) ((put-bytes .ensures))
+    recv-put _ _ _ _ _ _ _ _ _ _ (put-pair .ensures) (put-pair2 .ensures) (put-bytes .ensures)
 
 pub put-recv-spec : {M : Type 1} → statement M
 put-recv-spec =

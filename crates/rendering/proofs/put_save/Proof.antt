@@ -8,7 +8,7 @@ returns : tie.Need-returns
 returns c =
     let put-pair = c .before .before .before .before .before .before .before .put-pair in
     let put-bytes = c .before .before .put-bytes in
-    save-put _ _ _ _ _ _ _ ((put-pair .ensures)) ((put-bytes .ensures))
+    save-put _ _ _ _ _ _ _ (put-pair .ensures) (put-bytes .ensures)
 
 pub put-save-spec : {M : Type 1} → statement M
 put-save-spec =

@@ -10,7 +10,7 @@ returns c =
     let put-pair2 = c .before .before .before .before .before .before .before .before .before .before .before .before .put-pair2 in
     let put-pair3 = c .before .before .before .before .before .before .before .put-pair3 in
     let put-bytes = c .before .before .put-bytes in
-    send-put _ _ _ _ _ _ _ _ _ _ _ _ _ ((put-pair .ensures)) ((put-pair2 .ensures)) ((put-pair3 .ensures)) ((put-bytes .ensures))
+    send-put _ _ _ _ _ _ _ _ _ _ _ _ _ (put-pair .ensures) (put-pair2 .ensures) (put-pair3 .ensures) (put-bytes .ensures)
 
 pub put-send-spec : {M : Type 1} → statement M
 put-send-spec =

@@ -9,7 +9,7 @@ returns c =
     let put-pair = c .before .before .before .before .before .before .before .before .before .before .before .before .put-pair in
     let put-bytes = c .before .before .before .before .before .before .before .put-bytes in
     let put-events = c .before .before .put-events in
-    text-put _ _ _ _ _ _ _ _ ((put-pair .ensures)) ((put-bytes .ensures)) ((put-events .ensures))
+    text-put _ _ _ _ _ _ _ _ (put-pair .ensures) (put-bytes .ensures) (put-events .ensures)
 
 pub put-text-spec : {M : Type 1} → statement M
 put-text-spec =

@@ -6,10 +6,10 @@ use Rattle.roundtrip.proofs.changed.Statement.{statement}
 use Rattle.roundtrip.proofs.changed.Tie as tie
 
 abbrev Inv-loop : tie.InvT-loop
-Inv-loop out from same count₀ i₀ count i = count ≤ i
+Inv-loop out from count₀ i₀ count i = count ≤ i
 
 abbrev μ-loop : tie.MeasureT-loop
-μ-loop out from same count₀ i₀ count i = length out - i
+μ-loop out from count₀ i₀ count i = length out - i
 
 pub changed-spec : {M : Type 1} → statement M
 changed-spec =
