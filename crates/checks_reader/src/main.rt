@@ -1,6 +1,7 @@
 // Sizes and refusals of the reader, run and printed: a line for each case, with the answer's number and place, how many
 // of the area's first 16,384 words are not 0, and how many later words changed; where a text is accepted, also its
-// trace written back and read again. The file `stdout` has what documents 01 and 02 ask of each. Proved safe and ending; what is printed no contract can say. Assumes what `libc` assumes.
+// trace written back and read again. The file `stdout` has what documents 01 and 02 ask of each. Proved safe and
+// ending; what is printed no contract can say. Assumes what `libc` assumes.
 ghost use Prim.Native.Nat.{_≤_};
 ghost use lib.ListN.{length};
 ghost use Rattle.io.specs.Counts.{Counts};
