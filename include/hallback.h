@@ -9,7 +9,8 @@
    process, or 32 (HALLBACK_STAYS) for one that stays as it was at the cut. A slice is passed as its pointer and its length; a pointer
    must not be null, not even where the length is 0. No two slices of a call may overlap, except two that are only read.
 
-   Calls keep their tables on the stack, up to 170 KB (hallback_report; hallback_write 140 KB, whatever `out` is): give a thread 256 KB. */
+   Calls keep their tables on the stack, up to 170 KB (hallback_report; hallback_write 140 KB, whatever `out` is): give a
+   thread 256 KB. */
 #ifndef HALLBACK_H
 #define HALLBACK_H
 
@@ -41,21 +42,24 @@ uint32_t hallback_read(const uint8_t *text, size_t text_len, uint32_t *table, si
    trace (8, 9) is for the calls below to say. */
 uint32_t hallback_read_failure(const uint8_t *text, size_t text_len, uint32_t *table, size_t table_len, uint64_t *answer, size_t answer_len);
 
-/* Writes the text of the trace that a table area holds into `out`, without a failure line. Answer: place, length in bytes. Bytes of `out`
-   past the text stay. Refusals: 12, 13, and 14 if `out` is shorter than the text; none changes `out`, and place and length are 0 then. A
-   buffer of exactly the text's length is enough; there is no asking for the length, but HALLBACK_TEXT_BYTES are always enough.
-   Reading the text restores the area's 16,384 words, and of an area that hallback_read or hallback_read_failure left, what comes is what
-   was read, byte for byte, up to its failure line. An area may be edited in between (docs/LAYOUT.md), here the value of event 1:
+/* Writes the text of the trace that a table area holds into `out`, without a failure line. Answer: place, length in
+   bytes. Bytes of `out` past the text stay. Refusals: 12, 13, and 14 if `out` is shorter than the text; none changes
+   `out`, and place and length are 0 then. A buffer of exactly the text's length is enough; there is no asking for the
+   length, but HALLBACK_TEXT_BYTES are always enough. Reading the text restores the area's 16,384 words, and of an area
+   that hallback_read or hallback_read_failure left, what comes is what was read, byte for byte, up to its failure line.
+   An area may be edited in between (docs/LAYOUT.md), here the value of event 1 if it is a send:
 
        static uint32_t table[HALLBACK_WORDS];
        static uint8_t out[HALLBACK_TEXT_BYTES];
        uint64_t answer[2];
        if (hallback_read(text, text_len, table, HALLBACK_WORDS, answer, 1) != 0) return 1;
-       if (table[1] >= 1 && table[HALLBACK_EVENT_BASE + 1] >> 12 == HALLBACK_SEND) table[HALLBACK_VALUE_BASE + 1] = 6;
+       if (table[1] >= 1 && table[HALLBACK_EVENT_BASE + 1] >> 12 == HALLBACK_SEND)
+           table[HALLBACK_VALUE_BASE + 1] = 6;
        if (hallback_write(table, HALLBACK_WORDS, out, sizeof out, answer, 2) != 0) return 1;
        fwrite(out, 1, answer[1], stdout);
 */
-uint32_t hallback_write(const uint32_t *table, size_t table_len, uint8_t *out, size_t out_len, uint64_t *answer, size_t answer_len);
+uint32_t hallback_write(const uint32_t *table, size_t table_len, uint8_t *out, size_t out_len, uint64_t *answer,
+                        size_t answer_len);
 
 /* The greatest restart line that loses no message, for a failure right after event `step` of the processes in `set` (bit z is process z).
    Answer: place, count of processes, how many go back, the set of those; then 64 numbers each: the line, the epochs at the cut, the phases

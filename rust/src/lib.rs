@@ -2,7 +2,7 @@
 //!
 //! The functions at the root of this crate call the proved engine, a static archive
 //! (`../target/staticlib/libcapi.a`); they are there only if that archive was there when the crate
-//! was built. [`reference`] has the same functions written anew in Rust, to compare with, and
+//! was built. [`mod@reference`] has the same functions written anew in Rust, to compare with, and
 //! [`shapes`] makes traces to try both on.
 //!
 //! What is lent: a table area, which reading a trace fills and every other call takes, and a run

@@ -2,13 +2,14 @@
 use Prim.Native.Nat.{ℕ, zero, suc, _+_, _*_, _/_, _%_, _<_, _≤_}
 use mathlib.Core.Path.{_≡_}
 use mathlib.Core.Bool.{true}
-use mathlib.Core.List.{List, [], _∷_, _++_}
+use mathlib.Core.List.{List, _∷_, _++_}
 use native.Mathlib.Omega.{arith}
 use lib.Dec.{eqb}
 use lib.ListN.{length, length-append, getD}
 use Rattle.words.proofs.Cases.{by-bool}
 use Rattle.text.specs.Number.{decimal}
 use Rattle.trace.specs.declared.Event.the-variants.{Send, Recv, Save}
+use Rattle.trace.specs.Table.{eventBase, valueBase}
 use Rattle.lines.specs.Line.{kProcs, kSend, kTo, kVal, kRecv, kFrom, kSave}
 use Rattle.lines.specs.Render.{renderEvent}
 use Rattle.reader.specs.Render.{renderEvents, render}
@@ -53,7 +54,7 @@ events-few a i zero = omega arith
 events-few a i (suc n) =
     let l = renderEvent (heldEvent a i) in
     let rest = renderEvents (heldEvents a (suc i) n) in
-    omega (arith, length-append l (10 ∷ rest), event-few (getD a (16 + i) 0) (getD a (2065 + i) 0), events-few a (suc i) n)
+    omega (arith, length-append l (10 ∷ rest), event-few (getD a (eventBase + i) 0) (getD a (valueBase + i) 0), events-few a (suc i) n)
 
 -- the text of an area that holds a trace
 pub text-few : (a : List ℕ) → holdsTrace a ≡ true → length (textOf a) ≤ textBytes

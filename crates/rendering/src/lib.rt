@@ -1,4 +1,4 @@
-// The trace written back: from a table area the text that it was read from, into a lent buffer. The definitions are in
+// The trace written back: the text of the trace that a table area holds, into a lent buffer. The definitions are in
 // specs/Write, what they mean both ways in specs/Meaning; proofs/Claims has the same over definitions alone. No public
 // function has a `requires`. Assumes nothing.
 ghost use mathlib.Core.Path.{_≡_};
