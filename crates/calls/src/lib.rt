@@ -1,6 +1,6 @@
-// Calls of the library that rows of text name, carried out and printed: a trace, which is also written back, and a row
-// for each call, of the name, the call, the step, the set, the line's numbers, the choices and a remark. Proved safe
-// and ending; what is printed no contract can say. Assumes what `libc` assumes.
+// Calls of the library that rows of text name, carried out and printed: a trace, and a row for each call, of the name,
+// the call, the step, the set, the line's numbers, the choices and a remark. Proved safe and ending; what is printed no
+// contract can say. Assumes what `libc` assumes.
 ghost use Prim.Native.Nat.{_+_, _≤_};
 ghost use lib.ListN.{length};
 ghost use Rattle.io.specs.Counts.{Counts};
@@ -225,7 +225,6 @@ fn run_rows(table: &[u32; AREA_WORDS], rows: &[u8]) {
 fn run_trace(text: &[u8], rows: &[u8]) {
     let mut table = [0u32; AREA_WORDS];
     reader::read(text, &mut table);
-    roundtrip::print_trip(&table, text);
     run_rows(&table, rows);
 }
 
