@@ -1,7 +1,7 @@
 /* The library from C: reads the trace H of document 01, finds the restart line after its failure, carries out the
    lowest order from it, and compares the record with that of the line on which every process goes back to its start.
-   Then it changes the value of the first send and writes the trace back. Prints what it finds; 1 if that is not as
-   expected. */
+   Then it changes the value of the first send and writes the trace back, and the longest text that there is. Prints
+   what it finds; 1 if that is not as expected. */
 #include <stdio.h>
 #include <string.h>
 
@@ -28,6 +28,20 @@ static uint8_t out[HALLBACK_TEXT_BYTES];
 static int refused(const char *call, uint32_t number, uint64_t place) {
     printf("%s: refused with %u at %llu\n", call, (unsigned)number, (unsigned long long)place);
     return 1;
+}
+
+/* The kind of an event of the table. */
+static uint32_t kind(size_t e) {
+    return table[HALLBACK_EVENT_BASE + e] >> 12;
+}
+
+/* The longest text that there is: 64 processes, and 2,048 sends with values of ten digits. */
+static int longest_fits(void) {
+    static char longest[80000];
+    int n = sprintf(longest, "procs=64\n");
+    for (int e = 0; e < 2048; e++) n += sprintf(longest + n, "ev=send at=63 to=62 val=4294967295\n");
+    return hallback_read((const uint8_t *)longest, n, table, HALLBACK_WORDS, answer, 1) == 0 &&
+           hallback_write(table, HALLBACK_WORDS, out, sizeof out, answer, 2) == 0 && answer[1] == (uint64_t)n;
 }
 
 int main(void) {
@@ -59,6 +73,7 @@ int main(void) {
     if (!same) return 1;
 
     /* Event 1 is a send; it gets another value. All else comes back as it was read. */
+    if (kind(1) != HALLBACK_SEND || kind(2) != HALLBACK_RECV || kind(3) != HALLBACK_SAVE) return 1;
     table[HALLBACK_VALUE_BASE + 1] = 6;
     number = hallback_write(table, HALLBACK_WORDS, out, sizeof out, answer, 2);
     if (number != 0) return refused("write", number, answer[0]);
@@ -68,5 +83,5 @@ int main(void) {
     *value = '5';
     int back = answer[1] == traced && memcmp(out, text, traced) == 0;
     printf("the text %s back, edited: %llu bytes\n", edited && back ? "comes" : "does not come", (unsigned long long)answer[1]);
-    return !(edited && back);
+    return !(edited && back && longest_fits());
 }

@@ -206,7 +206,8 @@ fn comes_back(count: u32, events: &[u32; 6], size: u32, table: &[u32; 16384]) ->
 {
     let mut text = [0u8; 160];
     let n = put_trace(&mut text, count, events, size);
-    roundtrip::comes_back(table, &text[..n])
+    let mut out = [roundtrip::BEFORE; 160];
+    roundtrip::comes_back(table, &text[..n], &mut out)
 }
 
 // One sequence of events: the reader is to refuse it, with 5 at the line of the first receive with nothing in transit,

@@ -60,7 +60,8 @@ fn print_back(text: &[u8]) {
     let mut area = [BEFORE; AREA_WORDS];
     let a = reader::read(text, &mut area);
     if a.number == 0 {
-        roundtrip::print_trip(&area, text);
+        let mut out = [roundtrip::BEFORE; roundtrip::ROOM];
+        roundtrip::print_trip(&area, text, &mut out);
     }
 }
 

@@ -16,7 +16,8 @@ use words::AREA_WORDS;
 fn print_back(text: &[u8]) {
     let mut table = [0u32; AREA_WORDS];
     reader::read_failure(text, &mut table);
-    roundtrip::print_trip(&table, text);
+    let mut out = [roundtrip::BEFORE; roundtrip::ROOM];
+    roundtrip::print_trip(&table, text, &mut out);
 }
 
 // What the program prints for a text, its trace written back, and a line that ends it.

@@ -119,23 +119,27 @@ comes a out h =
       short = λ s. let f = buffer-short a (length out) l h s in (rw f, rw f);
     }
 
--- where nothing is wrong, the area holds a trace, and its text has room
-fit-all : (a : List ℕ) (n : ℕ) → writeFault a n ≡ 0 → (holdsTrace a ≡ true) × (length (textOf a) ≤ n)
-fit-all a n z =
+-- the number is below 14, or the area holds a trace and its text has room or has none
+by-fault : {A : Type 0} (a : List ℕ) (n : ℕ) → (writeFault a n ≡ 12 → A) → (writeFault a n ≡ 13 → A)
+    → (holdsTrace a ≡ true → n < length (textOf a) → writeFault a n ≡ 14 → A) → (holdsTrace a ≡ true → writeFault a n ≡ 0 → A) → A
+by-fault a n f₁₂ f₁₃ f₁₄ f₀ =
     by-lt (length a) areaWords
-    (λ s. absurd (let e = sym (area-short a n s) ∙ z in let q : ⊥ = omega arith in q))
+    (λ s. f₁₂ (area-short a n s))
     (λ l. by-bool (holdsTrace a)
-    (λ h. by-lt n (length (textOf a)) (λ s. absurd (let e = sym (buffer-short a n l h s) ∙ z in let q : ⊥ = omega arith in q)) (λ s. (h, s)))
-    (λ h. absurd (let e = sym (area-unheld a n l h) ∙ z in let q : ⊥ = omega arith in q)))
+    (λ h. by-lt n (length (textOf a)) (λ s. f₁₄ h s (buffer-short a n l h s)) (λ s. f₀ h (all-fit a n l h s)))
+    (λ h. f₁₃ (area-unheld a n l h)))
+
+-- where nothing is wrong, the area holds a trace
+fault-0 : (a : List ℕ) (n : ℕ) → writeFault a n ≡ 0 → holdsTrace a ≡ true
+fault-0 a n z =
+    by-fault a n (λ e. absurd (let q : ⊥ = omega arith in q)) (λ e. absurd (let q : ⊥ = omega arith in q))
+    (λ h s e. absurd (let q : ⊥ = omega arith in q)) (λ h e. h)
 
 -- 14 is said only of an area that holds a trace, whose text is longer than the buffer
 fault-14 : (a : List ℕ) (n : ℕ) → writeFault a n ≡ 14 → (holdsTrace a ≡ true) × (n < length (textOf a))
 fault-14 a n z =
-    by-lt (length a) areaWords
-    (λ s. absurd (let e = sym (area-short a n s) ∙ z in let q : ⊥ = omega arith in q))
-    (λ l. by-bool (holdsTrace a)
-    (λ h. by-lt n (length (textOf a)) (λ s. (h, s)) (λ s. absurd (let e = sym (all-fit a n l h s) ∙ z in let q : ⊥ = omega arith in q)))
-    (λ h. absurd (let e = sym (area-unheld a n l h) ∙ z in let q : ⊥ = omega arith in q)))
+    by-fault a n (λ e. absurd (let q : ⊥ = omega arith in q)) (λ e. absurd (let q : ⊥ = omega arith in q))
+    (λ h s e. (h, s)) (λ h e. absurd (let q : ⊥ = omega arith in q))
 
 -- ---- Each part of `RoundTrip`
 
@@ -150,7 +154,7 @@ module _ (a out : List ℕ) where
 
   fit : r .number ≡ 0 → holdsTrace a ≡ true
   unfolding writeAnswer
-  fit z = fit-all a (length out) z .0
+  fit z = fault-0 a (length out) z
 
   shut-out : r .number ≡ 14 → (holdsTrace a ≡ true) × (length out < length (textOf a))
   unfolding writeAnswer

@@ -355,6 +355,7 @@ fn writes_all_numbers() {
     }
     let longest = format!("procs=64\n{}", send(63, 62, u32::MAX).repeat(MAX_EVENTS));
     let length = longest.len();
+    assert!(length <= TEXT_BYTES);
     writes_back(&longest, [length - 1, length, TEXT_BYTES]);
 }
 
