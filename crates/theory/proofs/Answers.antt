@@ -7,9 +7,10 @@ use mathlib.Core.Bool.{Bool, true, false, _&&_, _||_}
 use mathlib.Core.List.{List, [], _∷_, _++_, map}
 use Prim.Native.Nat.{ℕ, zero, suc, _≤_, _<_}
 use native.Mathlib.Omega.{arith}
+use lib.ListN.{length, length-append}
 use lib.Dec.{leb, eqb}
 use borrow.Author.Tests.{eqb-true, le-leb}
-use Rattle.theory.specs.Lists.{iv, keep, has, no-one, all-below}
+use Rattle.theory.specs.Lists.{iv, keep, has, no-one, all-below, sum}
 use Rattle.theory.specs.Events.{send, size, at, kind, sends, sent, rcvd, sendOf}
 use Rattle.theory.specs.Line.{Run, lost, orphan, kept, orphanPhase, LossFree}
 use Rattle.theory.specs.Replay.{State, sentAgain, resends, ready, delivered, faultless, takenBy, SameRecord}
@@ -23,6 +24,11 @@ use Rattle.theory.proofs.Loss.{taken-iv}
 use Rattle.theory.proofs.Counters.{flow-keep}
 
 -- ---- Lists of messages
+
+pub gather-length : {A : Type 0} (f : ℕ → List A) (n : ℕ) → length (gather f n) ≡ sum n (λ i. length (f i))
+unfolding gather sum
+gather-length f zero = refl
+gather-length f (suc n) = omega (arith, length-append (gather f n) (f n), gather-length f n)
 
 abbrev item : (ℕ → ℕ → ℕ → ℕ) → ℕ → ℕ → ℕ → Listed
 item ph a b j = record { from = a; to = b; number = j; phase = ph a b j }

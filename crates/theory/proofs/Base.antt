@@ -10,7 +10,7 @@ use lib.ListN.{length}
 use lib.Dec.{leb, ltb, eqb}
 use borrow.Author.Tests.{leb-true, leb-false, ltb-true, eqb-true, eqb-false, lt-ltb, le-ltb, le-leb, eq-eqb, ne-eqb}
 pub use Rattle.words.proofs.Cases.{by-bool as by, clash}
-use Rattle.theory.specs.Lists.{iv, keep, cnt, place, lastOf, has, no-one, all-below, or-else, first}
+use Rattle.theory.specs.Lists.{iv, keep, cnt, place, lastOf, has, no-one, all-below, sum, or-else, first}
 
 -- ---- Cases
 
@@ -342,10 +342,6 @@ lastOf-top f (suc x) y t a b = by (f (suc x))
     rw u (lastOf-top f x y t a (omega arith)))
 
 -- ---- Sums over the processes
-
-unfoldable pub sum : ℕ → (ℕ → ℕ) → ℕ
-sum zero f = 0
-sum (suc n) f = f n + sum n f
 
 pub sum-cong : (n : ℕ) (f g : ℕ → ℕ) → ((x : ℕ) → x < n → f x ≡ g x) → sum n f ≡ sum n g
 unfolding sum

@@ -20,7 +20,7 @@ use Rattle.theory.specs.Epochs.{Rule, past, joined, epochAt, phaseAt, ep
 use Rattle.theory.specs.Line.{inSet, Run, undone, lost, orphan, kept, orphanPhase, LossFree, restartIn, recorded, current, reached, Usable, Permitted, Greatest, Above, lower, highest, greatestLine}
 use Rattle.theory.specs.Replay.{State, sentAgain, ready, delivered, faultless, SameRecord}
 use Rattle.theory.specs.Order.{carriedOut, refused, choose, Allowed, run, steps, Complete, complete, lowest, lowestOrder}
-use Rattle.theory.specs.Answers.{names, orphans, keptOnes, lostOnes, lossFree, sameRecord}
+use Rattle.theory.specs.Answers.{names, orphans, keptOnes, lostOnes, exactSteps, lossFree, sameRecord}
 use Rattle.theory.specs.Refusals.{failureFault, lineFault, FitFailure, FitLine}
 use Rattle.theory.specs.Laws.{Laws}
 use Rattle.theory.proofs.Base.{on, by, le?}
@@ -35,6 +35,7 @@ use Rattle.theory.proofs.Greatest.{highest-above, below-above, greatest
 use Rattle.theory.proofs.Orders.{run-reaches, run-refused, complete-iff, order-iff, order-differs, order-progress, order-done, order-bound}
 use Rattle.theory.proofs.Lowest.{lowest-some, lowest-iff, lowest-order}
 use Rattle.theory.proofs.Answers.{orphans-name, kept-name, lost-name, lossFree-iff, sameRecord-iff, ready-iff}
+use Rattle.theory.proofs.Exact.{exact-steps}
 use Rattle.theory.proofs.Refusals.{failure-fit, failure-8, failure-9, line-fit, line-8, line-9, line-10}
 
 -- Demand 3. "Take any accepted trace, any step for the failure, any set of zones it takes together, any line that puts
@@ -230,6 +231,11 @@ module _ (t : Trace) (w : wellFormed t ≡ true) (rule : Rule) where
         -- "Steps is the length of the order carried out, and is at most twice the number of events."
         pub steps-at-most : steps order ≤ size t + size t
         steps-at-most = order-bound S L order s h
+
+        -- Document 02, item 2: "For a line without loss, every complete order has exactly as many steps as there are
+        -- listed events after the restarts (after the cut for staying zones) plus kept messages."
+        pub steps-exactly : LossFree S → Complete S s → steps order ≡ exactSteps S
+        steps-exactly = exact-steps S L order s h
 
         -- "Phase r is ready when every orphan of phase r or less has been sent again."
         pub ready-means : (r : ℕ) → (ready S s r ≡ true) ↔ ((p q k : ℕ) → orphan S p q k ≡ true → orphanPhase S p q k ≤ r → sentAgain S s p q k ≡ true)

@@ -9,11 +9,11 @@ use native.Mathlib.Omega.{arith}
 use lib.Dec.{eqb}
 use borrow.Author.Tests.{eqb-true, ne-eqb}
 use Rattle.trace.specs.Trace.{Trace}
-use Rattle.theory.specs.Lists.{pick, ifSome, first}
+use Rattle.theory.specs.Lists.{pick, ifSome, first, sum}
 use Rattle.theory.specs.Events.{size}
 use Rattle.theory.specs.Epochs.{Rule, past, epochAt}
 use Rattle.theory.specs.Line.{lost, LossFree, recorded, current, Usable, Permitted, Greatest, Above, highest, lower, lowerIf, lowered, lowering, greatestLine}
-use Rattle.theory.proofs.Base.{by, on, clash, eqb-self, lastOf-top, first-none, first-some, sum, sum-lt}
+use Rattle.theory.proofs.Base.{by, on, clash, eqb-self, lastOf-top, first-none, first-some, sum-lt}
 use Rattle.theory.proofs.WellFormed.{Valid}
 use Rattle.theory.proofs.Lines.{may-is, may-restart, may-stay, now-is, now-few, number-of, lost-epochs, epoch-le, lost-in, lower-usable, lower-less, lower-over, past-unlogged}
 

@@ -159,7 +159,7 @@ module _ (R : Run) where
         (numberOf k, (a .1, choose-of s (numberOf k) k (number-choice k (in-range s (a .1) k i (view R s (a .1) k (a .2)))) ∙ a .2))
 
     -- no number is allowed: no choice is
-    stuck : (s : State) → Inv R s → Complete R s → (k : Choice) → step R s k ≡ none
+    pub stuck : (s : State) → Inv R s → Complete R s → (k : Choice) → step R s k ≡ none
     stuck s i h k = go (step R s k) refl
       where
         go : (o : Option State) → step R s k ≡ o → step R s k ≡ none

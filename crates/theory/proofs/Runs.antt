@@ -10,17 +10,17 @@ use Rattle.trace.specs.declared.Event.{Event}
 use Rattle.trace.specs.declared.Event.the-variants.{Send, Recv, Save}
 use Rattle.trace.specs.Trace.{Trace, count}
 use Rattle.trace.specs.Fit.{wellFormed, allFit, faultOf}
-use Rattle.theory.specs.Lists.{iv, keep, cnt, place, lastOf, no-one, all-below, first}
+use Rattle.theory.specs.Lists.{iv, keep, cnt, place, lastOf, no-one, all-below, sum, first}
 use Rattle.theory.specs.Events.{eventAt, at, kind, sends, recvs, checkpoints, sent, rcvd, sendOf, recvOf, value}
 use Rattle.theory.specs.Epochs.{past, note, notes, loggedBy}
 use Rattle.theory.specs.Line.{inSet, Run, sentBefore, sentAfter, received, receivedBefore, undone, lost, orphan, kept, orphanPhase, restartIn, recorded, reached, highest, lowered, lowering, greatestLine}
 use Rattle.theory.specs.Replay.{listed, keptOn, takenBy, resends, ready, gate, sendStep, recvStep, eventStep, processStep, handStep, step, delivered, faultless}
-use Rattle.theory.specs.Order.{choiceOf, choose, carry, run, isNone, lowest, lowestFrom, complete}
-use Rattle.theory.specs.Answers.{lineOf, Listed, gather, messages, orphans, samePairs, sameRecord, placeOf, leaves}
+use Rattle.theory.specs.Order.{choiceOf, choose, carry, run, steps, isNone, lowest, lowestFrom, complete}
+use Rattle.theory.specs.Answers.{lineOf, Listed, gather, messages, orphans, exactSteps, samePairs, sameRecord, placeOf, leaves}
 
 -- all that a row computes with
 unfoldable pub opens : ℕ
-unfolding bind iv keep cnt place lastOf no-one all-below first eventAt at kind sends recvs checkpoints sent rcvd sendOf recvOf value note notes loggedBy sentBefore sentAfter received receivedBefore undone lost orphan kept orphanPhase restartIn highest lowered lowering greatestLine listed keptOn takenBy resends ready gate sendStep recvStep eventStep processStep handStep step delivered faultless choiceOf choose carry run lowest lowestFrom complete gather messages samePairs sameRecord count wellFormed allFit faultOf
+unfolding bind iv keep cnt place lastOf no-one all-below sum first eventAt at kind sends recvs checkpoints sent rcvd sendOf recvOf value note notes loggedBy sentBefore sentAfter received receivedBefore undone lost orphan kept orphanPhase restartIn highest lowered lowering greatestLine listed keptOn takenBy resends ready gate sendStep recvStep eventStep processStep handStep step delivered faultless choiceOf choose carry run lowest lowestFrom complete gather messages exactSteps samePairs sameRecord count wellFormed allFit faultOf
 opens = 0
 
 -- do all rows of a table hold
@@ -49,6 +49,13 @@ completes R order = leaves (λ s. isNone (lowest R s) && sameRecord R s) (run R 
 abbrev pub differs : Run → List ℕ → Bool
 differs R order =
     leaves (λ s. isNone (lowest R s) && (all-below (R .trace .procs) (λ z. no-one (λ e. true) (s .todo z)) && not (sameRecord R s))) (run R order)
+
+-- the order is complete with as many steps as document 02's formula says; it is complete with other
+abbrev exact : Run → List ℕ → Bool
+exact R order = leaves (λ s. isNone (lowest R s) && eqb (steps order) (exactSteps R)) (run R order)
+
+abbrev inexact : Run → List ℕ → Bool
+inexact R order = leaves (λ s. isNone (lowest R s) && not (eqb (steps order) (exactSteps R))) (run R order)
 
 -- exactly one orphan, from 0 to 1 with number 1, of a phase
 abbrev only-orphan : List Listed → ℕ → Bool
@@ -181,9 +188,27 @@ d12-holds : d12 ≡ true
 unfolding opens d12 every
 d12-holds = refl
 
+-- the formula counts the events after the cut, of a process that stays no others, and every kept message, also one that
+-- nobody receives
+unfoldable d13 : Bool
+d13 = exact (at-cut t10 2 (1 ∷ 32 ∷ [])) (0 ∷ 0 ∷ 1 ∷ []) && exact (at-cut t8 2 (32 ∷ 1 ∷ [])) (65 ∷ 65 ∷ 1 ∷ [])
+
+d13-holds : d13 ≡ true
+unfolding opens d13 every
+d13-holds = refl
+
+-- from a line that loses a message a complete order may have fewer steps; that it has as many does not show that none
+-- is lost (row 9)
+unfoldable d14 : Bool
+d14 = inexact (at-cut t10 4 (32 ∷ 1 ∷ [])) [] && exact (at-cut t8 3 (32 ∷ 1 ∷ [])) (65 ∷ 1 ∷ [])
+
+d14-holds : d14 ≡ true
+unfolding opens d14 every
+d14-holds = refl
+
 rows : List Bool
-rows = fit ∷ d1 ∷ d2 ∷ d3 ∷ d4 ∷ d6 ∷ d7 ∷ d8 ∷ d9 ∷ d10 ∷ d11 ∷ d12 ∷ []
+rows = fit ∷ d1 ∷ d2 ∷ d3 ∷ d4 ∷ d6 ∷ d7 ∷ d8 ∷ d9 ∷ d10 ∷ d11 ∷ d12 ∷ d13 ∷ d14 ∷ []
 
 table : every rows ≡ true
 unfolding rows every
-table = rw (fit-holds, d1-holds, d2-holds, d3-holds, d4-holds, d6-holds, d7-holds, d8-holds, d9-holds, d10-holds, d11-holds, d12-holds)
+table = rw (fit-holds, d1-holds, d2-holds, d3-holds, d4-holds, d6-holds, d7-holds, d8-holds, d9-holds, d10-holds, d11-holds, d12-holds, d13-holds, d14-holds)

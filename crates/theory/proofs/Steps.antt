@@ -12,12 +12,12 @@ use borrow.Author.Tests.{eqb-true, eqb-false, ne-eqb}
 use Rattle.trace.specs.declared.Event.{Event}
 use Rattle.trace.specs.declared.Event.the-variants.{Send, Recv, Save}
 use Rattle.trace.specs.Trace.{isSend}
-use Rattle.theory.specs.Lists.{pick, iv, cnt, put, put2}
+use Rattle.theory.specs.Lists.{pick, iv, cnt, sum, put, put2}
 use Rattle.theory.specs.Events.{size, eventAt, at, sends, sent}
 use Rattle.theory.specs.Line.{Run}
 use Rattle.theory.specs.Replay.{Choice, State, listed, keptOn, start}
 use Rattle.theory.specs.Laws.{Laws}
-use Rattle.theory.proofs.Base.{by, eqb-self, cnt-iv, cnt-le, keep-length, length-iv, sum, sum-zero, sum-le, sum-add, sum-down}
+use Rattle.theory.proofs.Base.{by, eqb-self, cnt-iv, cnt-le, keep-length, length-iv, sum-zero, sum-le, sum-add, sum-down}
 use Rattle.theory.proofs.Classes.{sBefore, keptb, Kept, restart-n, s-le, in-run, kept-list}
 use Rattle.theory.proofs.Flow.{Did, did-other, did-send, did-recv, did-hand, view, at-head, Inv, Reach, here, next}
 use Rattle.theory.proofs.Loss.{inv}

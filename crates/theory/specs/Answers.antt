@@ -1,13 +1,13 @@
--- What an answer holds, as it can be computed: lines, lists of messages, loss, records compared, orders judged.
+-- What an answer holds, as it can be computed: lines, lists of messages, steps, loss, records compared, orders judged.
 use mathlib.Core.Bool.{Bool, true, false, _&&_, _||_}
 use mathlib.Core.List.{List, [], _∷_, _++_, map}
-use Prim.Native.Nat.{ℕ, zero, suc}
-use lib.ListN.{getD}
+use Prim.Native.Nat.{ℕ, zero, suc, _+_}
+use lib.ListN.{length, getD}
 use lib.Dec.{eqb}
-use Rattle.theory.specs.Lists.{iv, keep, no-one, all-below}
+use Rattle.theory.specs.Lists.{iv, keep, no-one, all-below, sum}
 use Rattle.theory.specs.Events.{size, sent}
 use Rattle.theory.specs.Line.{Run, lost, orphan, kept, orphanPhase}
-use Rattle.theory.specs.Replay.{State, delivered, faultless}
+use Rattle.theory.specs.Replay.{State, listed, delivered, faultless}
 use Rattle.theory.specs.Order.{Outcome, carriedOut, refused}
 
 -- a line given by its numbers; "Places of a line past its N numbers are 0"
@@ -62,6 +62,11 @@ module _ (R : Run) where
 
   abbrev pub lostOnes : List Listed
   lostOnes = messages (lost R) (R .carries)
+
+  -- Document 02, item 2: "as many steps as there are listed events after the restarts (after the cut for staying zones)
+  -- plus kept messages". Listed events go to the end of the trace; the restart of a process that stays is the cut.
+  unfoldable pub exactSteps : ℕ
+  exactSteps = sum (R .trace .procs) (λ z. length (listed R z (R .restart z))) + length keptOnes
 
   -- is no message lost
   unfoldable pub lossFree : Bool

@@ -1,9 +1,9 @@
--- Small tools: a choice by a test, numbers in a row, what a test keeps or counts of them, one place of a function
+-- Small tools: a choice by a test, numbers in a row, what a test keeps or counts of them, sums, one place of a function
 -- changed.
 use mathlib.Core.Bool.{Bool, true, false, _&&_, _||_, not}
 use mathlib.Core.List.{List, [], _∷_}
 use mathlib.Core.Option.{Option, none, some}
-use Prim.Native.Nat.{ℕ, zero, suc}
+use Prim.Native.Nat.{ℕ, zero, suc, _+_}
 use lib.Dec.{eqb}
 
 abbrev pub pick {ℓ} : {A : Type ℓ} → Bool → A → A → A
@@ -48,6 +48,11 @@ no-one f (x ∷ xs) = not (f x) && no-one f xs
 unfoldable pub all-below : ℕ → (ℕ → Bool) → Bool
 all-below zero f = true
 all-below (suc n) f = f n && all-below n f
+
+-- f 0 + .. + f (n - 1)
+unfoldable pub sum : ℕ → (ℕ → ℕ) → ℕ
+sum zero f = 0
+sum (suc n) f = f n + sum n f
 
 -- what f makes of the value that is there, or else b
 abbrev pub ifSome : {A B : Type 0} → Option A → B → (A → B) → B
