@@ -1,9 +1,11 @@
 -- What a function leaves in the slice of its answer, from the numbers that it put there.
 use Prim.Native.Nat.{ℕ}
-use mathlib.Core.Path.{_≡_}
+use mathlib.Core.Path.{_≡_, subst}
 use mathlib.Core.List.{List, [], _∷_, _++_}
 use Rattle.theory.specs.Lists.{pick}
+use Rattle.recovery_line.specs.declared.Line.{Line}
 use Rattle.orders.specs.declared.Replayed.{Replayed}
+use Rattle.recovery.specs.Answers.{Exact, Most}
 use Rattle.restart.specs.declared.Restarted.{Restarted}
 use Rattle.messages.specs.declared.Counted.{Counted}
 use Rattle.writer.specs.Buffer.{Puts, written}
@@ -29,3 +31,8 @@ messages-are c d orphans kept lost a b e h = rw (a, b, e, ← h)
 
 pub replay-is : (r : Replayed) (complete : ℕ) → complete ≡ pick (r .complete) 1 0 → (r .place ∷ r .steps ∷ complete ∷ []) ≡ replayNumbers r
 replay-is r complete e = rw e
+
+-- what is promised of the steps, of the line and the answer by their definitions
+pub steps-given : (a : List ℕ) (step : ℕ) (l m : Line) (r s : Replayed) → l ≡ m → r ≡ s → Exact a step l r × Most a r → Exact a step m s × Most a s
+steps-given a step l m r s e q h =
+    subst (λ (x : Line). Exact a step x s × Most a s) e (subst (λ (y : Replayed). Exact a step l y × Most a y) q h)

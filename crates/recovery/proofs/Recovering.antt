@@ -6,7 +6,9 @@ use lib.ListN.{length, drop}
 use Rattle.words.specs.Area.{areaWords}
 use Rattle.words.proofs.Cases.{by-lt}
 use Rattle.table.specs.Held.{held}
-use Rattle.theory.specs.Order.{lowestOrder}
+use Rattle.theory.specs.Line.{Run}
+use Rattle.theory.specs.Order.{run, lowestOrder}
+use Rattle.theory.specs.Answers.{exactSteps}
 use Rattle.protocol.proofs.Passes.{held-long}
 use Rattle.recovery_line.specs.declared.Line.{Line}
 use Rattle.recovery.specs.declared.Recovered.{Recovered}
@@ -19,7 +21,7 @@ use Rattle.recovery.specs.Recover.{recoverRefusal, Succeeds}
 use Rattle.restart.specs.Restart.{restartAnswer}
 use Rattle.preparing.proofs.Filling.{step-within, short-area, by-failure, short}
 use Rattle.preparing.proofs.Preparing.{failure-first}
-use Rattle.recovery.proofs.Replaying.{refuses, completed}
+use Rattle.recovery.proofs.Replaying.{refuses, counted, completed}
 use Rattle.messages.proofs.Listing.{refuses-messages, lists}
 use Rattle.restart.proofs.Restarting.{Ready, refuses-restart, answers-restart}
 use Rattle.recovery.proofs.Taking.{not-refused}
@@ -61,7 +63,11 @@ module _ (a : List ℕ) (step set : ℕ) where
       let G : Ready a step set (r .restarted) = record { holds = F .holds; fit = F .fit; answer = D .restarted; means = D .restarts } in
       let ok = not-refused a step set (r .restarted) G (length a) (held-long a (F .holds)) in
       let m = lists a a step set l 0 (r .counted) w (sym ok) refl (D .counted) (D .words) (D .few) in
-      let c = completed a a step set l (lowestOrder (runOf a step l)) (F .holds) (step-within a room step set full F) (r .replayed) (D .replayed) in (
+      let R : Run = runOf a step l in
+      let cl = step-within a room step set full F in
+      let c = completed a a step set l (lowestOrder R) (F .holds) cl (r .replayed) (D .replayed) in
+      let (e, b) = counted a a step set l (lowestOrder R) (F .holds) cl (run R (lowestOrder R)) refl in
+      let exact : r .replayed .steps ≡ exactSteps R = (rw (← (D .replayed)) at e) (c ok .0) (c ok .1) (D .restarts .greatest .loss-free) in (
         answers-restart a step set n (r .restarted) f z (D .restarted) (D .restarts) .0,
-        (D .replayed ∙ rw ok, (m .0, (m .1 .0, λ _. record { restarts = D .restarts; taken = ok; completed = c; few = D .few }))),
+        (D .replayed ∙ rw ok, (m .0, (m .1 .0, λ _. record { restarts = D .restarts; taken = ok; completed = c; exact = exact; most = rw (D .replayed) b; few = D .few }))),
       )

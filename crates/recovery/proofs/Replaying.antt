@@ -1,5 +1,6 @@
--- Each way out of `replay` and `lowest`: answer and run area by the definitions, and demand 3 for a complete order.
-use Prim.Native.Nat.{ℕ, _≤_}
+-- Each way out of `replay` and `lowest`: answer and run area by the definitions, demand 3 for a complete order, and how
+-- many steps it has.
+use Prim.Native.Nat.{ℕ, _*_, _≤_}
 use mathlib.Core.Path.{_≡_, refl, sym, ap, _∙_}
 use mathlib.Core.Bool.{true}
 use mathlib.Core.List.{List, _++_}
@@ -12,10 +13,12 @@ use Rattle.words.proofs.Area.{length-words}
 use Rattle.table.specs.Held.{held, holdsTrace}
 use Rattle.theory.specs.Events.{size}
 use Rattle.theory.specs.Epochs.{past}
+use Rattle.theory.specs.Laws.{Laws}
 use Rattle.theory.specs.Line.{Run}
 use Rattle.theory.specs.Order.{Outcome, carriedOut, refused, run, lowestOrder}
 use Rattle.theory.proofs.Epochs.{laws}
-use Rattle.theory.proofs.Orders.{complete-iff}
+use Rattle.theory.proofs.Orders.{complete-iff, order-bound}
+use Rattle.theory.proofs.Exact.{exact-steps}
 use Rattle.theory.proofs.Lowest.{lowest-order}
 use Rattle.protocol.proofs.Passes.{held-valid, held-few}
 use Rattle.recovery_line.specs.declared.Line.{Line}
@@ -25,17 +28,21 @@ use Rattle.orders.proofs.Records.{complete-record}
 use Rattle.orders.specs.declared.Replayed.{Replayed}
 use Rattle.orders.specs.Answer.{answerOf, wordsOf}
 use Rattle.preparing.specs.Faults.{runOf, faultOf}
-use Rattle.recovery.specs.Answers.{refusal, replayAnswer, replayArea, Equal, Completed}
+use Rattle.recovery.specs.Answers.{refusal, replayAnswer, replayArea, Equal, Exact, Most, Completed}
 
 module _ (a area : List ℕ) (step set : ℕ) (l : Line) (order : List ℕ) where
   abbrev pub Answered : Replayed → List ℕ → Type 0
-  Answered r w = (r ≡ replayAnswer a area step set l order) × ((w ≡ replayArea a area step set l order) × Equal a step l r w)
+  Answered r w =
+      (r ≡ replayAnswer a area step set l order)
+      × ((w ≡ replayArea a area step set l order) × (Equal a step l r w × (Exact a step l r × Most a r)))
 
   -- a refusal changes nothing
   pub refuses : (n : ℕ) (r : Replayed) → n ≡ faultOf a (length area) step set l → (n ≡ 0 → ⊥) → r ≡ refusal n → Answered r area
   unfolding replayAnswer replayArea
   refuses n r f z e =
-      (e ∙ rw (← f, ne-eqb n 0 z), (rw (← f, ne-eqb n 0 z), λ h c. absurd (z (sym (ap (λ (x : Replayed). x .number) e) ∙ h))))
+      let not-0 : r .number ≡ 0 → ⊥ = λ h. z (sym (ap (λ (x : Replayed). x .number) e) ∙ h) in
+      let none : r .steps ≡ 0 = ap (λ (x : Replayed). x .steps) e in
+      (e ∙ rw (← f, ne-eqb n 0 z), (rw (← f, ne-eqb n 0 z), (λ h c. absurd (not-0 h), (λ h c k. absurd (not-0 h), omega arith))))
 
   pub not-completed : (n : ℕ) (r : Replayed) → n ≡ faultOf a (length area) step set l → (n ≡ 0 → ⊥) → Completed a (length area) step set l r
   not-completed n r f z h = absurd (z (f ∙ h))
@@ -44,21 +51,29 @@ module _ (a area : List ℕ) (step set : ℕ) (l : Line) (order : List ℕ) wher
     abbrev R : Run
     R = runOf a step l
 
+    L : Laws R
+    L = laws (held a) past (held-valid a holds) step (lineIn l) cl
+
     equal : (o : Outcome) → run R order ≡ o → (w : List ℕ) → w ≡ wordsOf R o → Equal a step l (answerOf R o (length order)) (w ++ drop areaWords area)
     unfolding answerOf wordsOf
     equal (carriedOut s) e w q n c =
-        let L = laws (held a) past (held-valid a holds) step (lineIn l) cl in
         let d = complete-record R L (held-few a holds) order s e c in
         let front : take 16384 (w ++ drop 16384 area) ≡ wordsFrom (recordAt R s) 0 16384 =
         take-at w (drop 16384 area) 16384 (ap length q ∙ length-words (recordAt R s) 0 16384) ∙ q in
         rw front d
     equal (refused i) e w q n c = absurd (let y : ⊥ = omega arith in y)
 
+    -- exactly so many steps where the order is complete and the line loses nothing, and always at most so many
+    pub counted : (o : Outcome) → run R order ≡ o → Exact a step l (answerOf R o (length order)) × Most a (answerOf R o (length order))
+    unfolding answerOf
+    counted (carriedOut s) e =
+        (λ n c f. exact-steps R L order s e f (complete-iff R s .0 c), omega (arith, order-bound R L order s e))
+    counted (refused i) e = (λ n c f. absurd (let y : ⊥ = omega arith in y), omega arith)
+
     -- the lowest order is carried out, and no choice is left
     pub completed : (r : Replayed) → r ≡ answerOf R (run R (lowestOrder R)) (length (lowestOrder R)) → Completed a (length area) step set l r
     unfolding answerOf
     completed r e h =
-        let L = laws (held a) past (held-valid a holds) step (lineIn l) cl in
         let (s, c, d) = lowest-order R L in
         rw (e, c) (refl, complete-iff R s .1 d, refl)
 
@@ -66,4 +81,4 @@ module _ (a area : List ℕ) (step set : ℕ) (l : Line) (order : List ℕ) wher
         → w ≡ wordsOf R (run R order) → Answered r (w ++ drop areaWords area)
     unfolding replayAnswer replayArea
     carried n r w f z e q =
-        (e ∙ rw (← f, z), (ap (λ (x : List ℕ). x ++ drop 16384 area) q ∙ rw (← f, z), rw e (equal (run R order) refl w q)))
+        (e ∙ rw (← f, z), (ap (λ (x : List ℕ). x ++ drop 16384 area) q ∙ rw (← f, z), rw e (equal (run R order) refl w q, counted (run R order) refl)))

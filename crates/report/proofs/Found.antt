@@ -47,7 +47,7 @@ unfolding gather
 tabled-length f zero = refl
 tabled-length f (suc n) = length-append (tabled f n) (f n ∷ []) ∙ rw (tabled-length f n) (omega arith)
 
-tabled-at : (f : ℕ → ℕ) (n z : ℕ) → z < n → getD (tabled f n) z 0 ≡ f z
+pub tabled-at : (f : ℕ → ℕ) (n z : ℕ) → z < n → getD (tabled f n) z 0 ≡ f z
 unfolding gather
 tabled-at f zero z h = absurd (let y : ⊥ = omega arith in y)
 tabled-at f (suc n) z h =

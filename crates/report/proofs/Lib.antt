@@ -2,4 +2,5 @@ pub mod Found
 pub mod Lengths
 pub mod Lines
 pub mod Messages
+pub mod Steps
 pub mod Ways

@@ -22,14 +22,16 @@ use Rattle.restart.specs.Restart.{restartOf, restartRefusal, restartAnswer, Res
 use Rattle.restart.proofs.Restarting.{Ready}
 use Rattle.writer.specs.Buffer.{Puts, room, written}
 use Rattle.writer.proofs.Buffers.{same-bytes, whole}
-use Rattle.report.specs.Report.{Answer, refused, given, unless, failureOf, recoveryFor, recovery, printedOf, printed, reportBytes}
+use Rattle.report.specs.Report.{Answer, refused, given, unless, failureOf, recoveryFor, recovery, printedOf, printed, PrintedSteps, reportBytes}
 use Rattle.printing.specs.Lines.{refusalLine}
+use Rattle.report.proofs.Steps.{printed-steps}
 
 -- from what was written to the contract
 pub answered : (x text out after : List ℕ) (n : ℕ) → x ≡ printed text → length x ≤ reportBytes → Puts x out 0 after n
-    → (n ≡ length (room (printed text) out)) × ((after ≡ written (printed text) out) × (length (printed text) ≤ reportBytes))
+    → (n ≡ length (room (printed text) out))
+    × ((after ≡ written (printed text) out) × (PrintedSteps text × (length (printed text) ≤ reportBytes)))
 answered x text out after n e l h =
-    let w = whole (printed text) out after n (same-bytes x (printed text) out after 0 n e h) in (w .1, (w .0, rw e at l))
+    let w = whole (printed text) out after n (same-bytes x (printed text) out after 0 n e h) in (w .1, (w .0, (printed-steps text, rw e at l)))
 
 pub too-long : (text : List ℕ) → 65536 < length text → refusalLine 1 0 ≡ printed text
 unfolding printed printedOf

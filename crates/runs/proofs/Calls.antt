@@ -3,7 +3,7 @@
 -- recovery are called on what it left there.
 use Prim.Native.Nat.{ℕ, zero, suc, _+_, _<_, _≤_}
 use mathlib.Core.Path.{_≡_, refl, sym, ap, subst, _∙_, fun-ext}
-use mathlib.Core.Bool.{true, false}
+use mathlib.Core.Bool.{Bool, true, false}
 use mathlib.Core.List.{List, [], _∷_, _++_, map, append-nil}
 use mathlib.Core.Option.{some}
 use native.Mathlib.Omega.{arith}
@@ -24,7 +24,7 @@ use Rattle.theory.specs.Epochs.{past}
 use Rattle.theory.specs.Laws.{Laws}
 use Rattle.theory.specs.Line.{Run, recorded, LossFree}
 use Rattle.theory.specs.Order.{Outcome, carriedOut, run, complete, lowestOrder}
-use Rattle.theory.specs.Answers.{lineOf, Listed, names, orphans, keptOnes, lostOnes, sameRecord}
+use Rattle.theory.specs.Answers.{lineOf, Listed, names, orphans, keptOnes, lostOnes, exactSteps, sameRecord}
 use Rattle.theory.specs.Refusals.{failureFault, lineFault}
 use Rattle.theory.proofs.Base.{clash, eqb-self}
 use Rattle.theory.proofs.Answers.{lost-name}
@@ -50,9 +50,10 @@ use Rattle.restart.proofs.Restarting.{Answered as Restart, Ready}
 use Rattle.recovery.proofs.Taking.{not-refused}
 use Rattle.report.specs.Report.{Answer, refused, given, unless, then, Failure, runOf, Recovery, recoveryBy, engineLine, recoveryOf, recovery, failureOf}
 use Rattle.report.proofs.Found.{tabled-length, run-same, steps-are, epochs-at, phases-at, numbers-are, back-is}
+use Rattle.report.proofs.Steps.{not-given, unless-given}
 use Rattle.report.proofs.Messages.{blank, At, front-row, later-row, word-in, number-in, phase-in, orphan-row, kept-row}
 use Rattle.runs.proofs.Table.{completed}
-use Rattle.runs.specs.Answers.{losses, Replayed as Told, fault, replayOf, replay}
+use Rattle.runs.specs.Answers.{losses, Replayed as Told, fault, replayOf, replay, formula}
 
 -- ---- What the rows say. `Restart`, `Messages` and `Replay` are the contracts of those calls: what they promise of the
 -- answer, and of the run area that they leave.
@@ -104,9 +105,12 @@ pub record Lists (os ks ls : List Listed) (c : Counted) (w : List ℕ) : Type 0 
 abbrev pub Faultless : Trace → List ℕ → Type 0
 Faultless t v = take areaWords v ≡ wordsFrom (faultlessAt t) 0 areaWords
 
--- an order is complete after so many steps, and leaves that record
+-- an order is complete after so many steps; and leaves that record
+abbrev pub Complete : ℕ → Replayed → Type 0
+Complete n y = y ≡ record { number = 0; place = 0; steps = n; complete = true }
+
 abbrev pub Done : Trace → ℕ → Replayed → List ℕ → Type 0
-Done t n y v = (y ≡ record { number = 0; place = 0; steps = n; complete = true }) × Faultless t v
+Done t n y v = Complete n y × Faultless t v
 
 -- `restart`, then `messages` and `lowest` with the line that it gives, which loses no message
 abbrev pub Recovers : ℕ → ℕ → Recovery → Claim
@@ -127,7 +131,16 @@ Loses step set l ms t a run =
     let R = recorded t past step (lineOf l) in
     (c : Counted) (w : List ℕ) → Messages a run step set (lineFrom l) c w → Lists (orphans R) (keptOnes R) ms c w
 
--- `replay` with a line and an order: complete after so many steps; or 11 at a place
+-- `replay` with a line: every complete order, whatever its choices, has so many steps
+abbrev pub Takes : ℕ → ℕ → List ℕ → ℕ → Claim
+Takes step set l n t a run =
+    (order : List ℕ) (y : Replayed) (v : List ℕ) → Replay a run step set (lineFrom l) order y v → y .number ≡ 0 → y .complete ≡ true → y .steps ≡ n
+
+-- `replay` with a line and an order: complete after so many steps, whatever the record, or with that of the run without
+-- failure; or 11 at a place
+abbrev pub Ends : ℕ → ℕ → List ℕ → List ℕ → ℕ → Claim
+Ends step set l order n t a run = (y : Replayed) (v : List ℕ) → Replay a run step set (lineFrom l) order y v → Complete n y
+
 abbrev pub Completes : ℕ → ℕ → List ℕ → List ℕ → ℕ → Claim
 Completes step set l order n t a run = (y : Replayed) (v : List ℕ) → Replay a run step set (lineFrom l) order y v → Done t n y v
 
@@ -138,16 +151,9 @@ Stops step set l order i t a run =
 
 -- ---- Answers of the definitions, taken apart
 
-not-given : {A : Type 0} (n k : ℕ) (x : A) → refused n k ≡ given x → ⊥
-not-given n k x h = let z : _≡_ {A = ℕ} 0 1 = cc in omega arith
-
 then-given : {A : Type 0} (n : ℕ) (f : Failure) (g : Failure → Answer A) (x : A) → then (unless n (given f)) g ≡ given x → (n ≡ 0) × (g f ≡ given x)
 then-given zero f g x h = (refl, h)
 then-given (suc n) f g x h = absurd (not-given (suc n) 0 x h)
-
-unless-given : {A : Type 0} (n : ℕ) (y : Answer A) (x : A) → unless n y ≡ given x → (n ≡ 0) × (y ≡ given x)
-unless-given zero y x h = (refl, h)
-unless-given (suc n) y x h = absurd (not-given (suc n) 0 x h)
 
 -- a refusal with a place is none of 8, 9 and 10
 then-placed : {A : Type 0} (n : ℕ) (f : Failure) (g : Failure → Answer A) (m i : ℕ) → then (unless n (given f)) g ≡ refused m (suc i) → g f ≡ refused m (suc i)
@@ -316,7 +322,7 @@ module _ (text a : List ℕ) (step set : ℕ) (holds : holdsTrace a ≡ true) (e
             let T = codeRun a step (r .line) in
             let q = carried-out (run T (lowestOrder T)) (length (lowestOrder T)) (P .0 ∙ rw ok) in
             let n = sym (ap (λ (z : Replayed). z .steps) q) ∙ steps-are a step set r ready (length run₀) y ok C ∙ ap (λ (z : Recovery). z .steps) found in
-            (q ∙ rw n, P .1 .1 (C ok .0) (C ok .1) .1 (ready .means .greatest .loss-free))
+            (q ∙ rw n, P .1 .1 .0 (C ok .0) (C ok .1) .1 (ready .means .greatest .loss-free))
 
   -- ---- `messages` and `replay` with a line of numbers
 
@@ -336,15 +342,40 @@ module _ (text a : List ℕ) (step set : ℕ) (holds : holdsTrace a ≡ true) (e
         rw (le-ltb (length a) 16384 (held-long a holds), le-ltb (length run₀) 16384 long, holds)
         (ap (lineFault t step set (length l)) (fun-ext line-at))
 
-    lost-are : (ms : List Listed) → losses text l ≡ given ms → (c : Counted) (w : List ℕ) → Messages a run₀ step set (lineFrom l) c w
-        → Lists (orphans (runOf f l)) (keptOnes (runOf f l)) ms c w
+    -- what `losses` tells: nothing is wrong with the failure and the line, and these are the lost messages
+    told-lost : (ms : List Listed) → losses text l ≡ given ms → (failureFault t step set ≡ 0) × (fault f l ≡ 0) × (lostOnes (runOf f l) ≡ ms)
     unfolding losses failureOf
-    lost-are ms h c w M =
+    told-lost ms h =
         let u = then-given (failureFault t step set) f (λ g. unless (fault g l) (given (lostOnes (runOf g l)))) ms (rw e at h) in
         let v = unless-given (fault f l) (given (lostOnes (runOf f l))) ms (u .1) in
         let q : lostOnes (runOf f l) ≡ ms = let p = v .1 in cc in
+        (u .0, v .0, q)
+
+    lost-are : (ms : List Listed) → losses text l ≡ given ms → (c : Counted) (w : List ℕ) → Messages a run₀ step set (lineFrom l) c w
+        → Lists (orphans (runOf f l)) (keptOnes (runOf f l)) ms c w
+    lost-are ms h c w M =
+        let (_, z, q) = told-lost ms h in
         subst (λ (ls : List Listed). Lists (orphans (runOf f l)) (keptOnes (runOf f l)) ls c w) q
-        (lists a run₀ step set (lineFrom l) (runOf f l) run-is few-processes (fault-is ∙ v .0) c w M)
+        (lists a run₀ step set (lineFrom l) (runOf f l) run-is few-processes (fault-is ∙ z) c w M)
+
+    -- a line that loses no message, and the steps of its complete orders
+    lost-nothing : losses text l ≡ given [] → LossFree (runOf f l)
+    unfolding names
+    lost-nothing h p q k =
+        let (z, _, n) = told-lost [] h in
+        let L : Laws (runOf f l) = laws t past (held-valid a holds) step (lineOf l) (failure-fit t step set .0 z .step-most) in
+        sym (lost-name (runOf f l) L p q k) ∙ ap (names p q k) n
+
+    formula-is : (n : ℕ) → formula text l ≡ given n → exactSteps (runOf f l) ≡ n
+    unfolding formula failureOf
+    formula-is n h =
+        let u = then-given (failureFault t step set) f (λ g. unless (fault g l) (given (exactSteps (runOf g l)))) n (rw e at h) in
+        let v = unless-given (fault f l) (given (exactSteps (runOf f l))) n (u .1) in
+        let p = v .1 in cc
+
+    steps-so-many : (n : ℕ) → losses text l ≡ given [] → formula text l ≡ given n → Takes step set l n t a run₀
+    steps-so-many n h k order y v P z c =
+        P .1 .1 .1 .0 z c (subst LossFree (sym run-is) (lost-nothing h)) ∙ ap exactSteps run-is ∙ formula-is n k
 
     module _ (order : List ℕ) (y : Replayed) (v : List ℕ) (P : Replay a run₀ step set (lineFrom l) order y v) where
       abbrev S : Run
@@ -373,7 +404,7 @@ module _ (text a : List ℕ) (step set : ℕ) (holds : holdsTrace a ≡ true) (e
             λ all equal.
                 let d = complete-test t w past step cl (lineOf l) s .0 (ap (λ (u : Told). u .complete) p ∙ all) in
                 let same = record-test t w past step cl (lineOf l) order s q .0 (ap (λ (u : Told). u .equal) p ∙ equal) in
-                P .1 .1 (ap (λ (u : Replayed). u .number) i) (ap (λ (u : Replayed). u .complete) i ∙ all) .1
+                P .1 .1 .0 (ap (λ (u : Replayed). u .number) i) (ap (λ (u : Replayed). u .complete) i ∙ all) .1
                 (subst LossFree (sym run-is) (record-iff t w past step cl (lineOf l) order s q d .0 same)),
           )
       carried x (Outcome.refused i) q z h = absurd (not-given 11 i x h)
@@ -447,6 +478,14 @@ module _ (text : List ℕ) where
     module _ (l : List ℕ) (short : length l ≤ 64) where
       pub loses : (ms : List Listed) → losses text l ≡ given ms → OnTable t (Loses step set l ms)
       loses ms h = by-area (Loses step set l ms) (λ a run₀ o q n. lost-are text a step set o q l short run₀ n ms h)
+
+      pub takes : (n : ℕ) → losses text l ≡ given [] → formula text l ≡ given n → OnTable t (Takes step set l n)
+      takes n h k = by-area (Takes step set l n) (λ a run₀ o q m. steps-so-many text a step set o q l short run₀ m n h k)
+
+      pub ends : (order : List ℕ) (n : ℕ) (b : Bool) → replay text l order ≡ given (record { complete = true; equal = b; steps = n })
+          → OnTable t (Ends step set l order n)
+      ends order n b h =
+          by-area (Ends step set l order n) (λ a run₀ o q m y v P. replayed text a step set o q l short run₀ m order y v P _ h .0)
 
       pub completes : (order : List ℕ) (n : ℕ) → replay text l order ≡ completed n → OnTable t (Completes step set l order n)
       completes order n h =

@@ -4,6 +4,7 @@
 use Prim.Native.Nat.{ℕ, _≤_}
 use Prim.Native.String.{String}
 use mathlib.Core.Path.{_≡_, refl, sym, ap, _∙_}
+use mathlib.Core.Bool.{false}
 use mathlib.Core.List.{List, [], _∷_}
 use native.Mathlib.Omega.{arith}
 use lib.ListN.{length}
@@ -19,7 +20,7 @@ use Rattle.printing.specs.Bytes.{linesOf}
 use Rattle.report.specs.Report.{printed}
 use Rattle.runs.specs.Texts.{linesH, linesL, linesS, linesT, linesFirst, failing, textH}
 use Rattle.runs.proofs.Table.{reads, message, traceH, traceL, traceS, traceT, printed1, recovery1, recovery4, recovery5, recovery7, recovery8, recovery9, recovery10, table}
-use Rattle.runs.proofs.Calls.{cleared, Accepts, Reads, OnTable, Recovers, Refuses, Loses, Completes, Stops, accepts, read-refused, failure-refused, recovers, refuses, loses, completes, stops, reads as reads-failure}
+use Rattle.runs.proofs.Calls.{cleared, Accepts, Reads, OnTable, Recovers, Refuses, Loses, Takes, Ends, Completes, Stops, accepts, read-refused, failure-refused, recovers, refuses, loses, takes, ends, completes, stops, reads as reads-failure}
 
 -- `report` writes these lines: into a buffer `out`, which it leaves as `after`, and it answers n
 abbrev pub Prints : List ℕ → List String → Type 0
@@ -225,7 +226,39 @@ c12 =
     let (v, p) = table .11 in
     (read-refused (linesOf linesFirst) 5 2 v, failure-refused text 5 2 refused12, prints text ("refused=5 place=2" ∷ []) p)
 
+-- Document 02, item 2: every complete order from the lines of R1, R3 to R5 and R7 to R10, whatever its choices, has the
+-- formula's steps; order 1 from that of R2, which loses a message, is complete with fewer
+abbrev pub CodeByFormula : Type 0
+CodeByFormula =
+    OnTable traceH (Takes 9 2 (2 ∷ 2 ∷ 32 ∷ []) 4)
+    × OnTable traceH (Ends 9 2 (32 ∷ 2 ∷ 32 ∷ []) (1 ∷ []) 1)
+    × (OnTable traceH (Takes 9 2 (1 ∷ 1 ∷ 32 ∷ []) 8)
+    × OnTable traceH (Completes 9 2 (1 ∷ 1 ∷ 32 ∷ []) (0 ∷ 0 ∷ 0 ∷ 1 ∷ 1 ∷ 1 ∷ 1 ∷ 1 ∷ []) 8))
+    × OnTable traceH (Takes 0 1 (1 ∷ 32 ∷ 32 ∷ []) 9)
+    × OnTable traceL (Takes 3 2 (32 ∷ 2 ∷ []) 2)
+    × OnTable traceS (Takes 3 2 (2 ∷ 1 ∷ []) 2)
+    × OnTable traceS (Takes 3 1 (2 ∷ 32 ∷ []) 1)
+    × OnTable traceT (Takes 1 2 (32 ∷ 1 ∷ []) 2)
+    × OnTable traceT (Takes 1 1 (1 ∷ 32 ∷ []) 2)
+
+code-by-formula : CodeByFormula
+code-by-formula =
+    let (f1, f2, f3, f4, f5, f7, f8, f9, f10) = table .12 in (
+      takes textH traceH 9 2 fails1 (2 ∷ 2 ∷ 32 ∷ []) (omega arith) 4 (f1 .0) (f1 .1),
+      ends textH traceH 9 2 fails1 (32 ∷ 2 ∷ 32 ∷ []) (omega arith) (1 ∷ []) 1 false (f2 .1),
+      (
+        takes textH traceH 9 2 fails1 (1 ∷ 1 ∷ 32 ∷ []) (omega arith) 8 (f3 .0 .0) (f3 .0 .1),
+        completes textH traceH 9 2 fails1 (1 ∷ 1 ∷ 32 ∷ []) (omega arith) (0 ∷ 0 ∷ 0 ∷ 1 ∷ 1 ∷ 1 ∷ 1 ∷ 1 ∷ []) 8 (f3 .1),
+      ),
+      takes (failing linesH "fail=0 set=1") traceH 0 1 fails4 (1 ∷ 32 ∷ 32 ∷ []) (omega arith) 9 (f4 .0) (f4 .1),
+      takes (failing linesL "fail=3 set=2") traceL 3 2 fails5 (32 ∷ 2 ∷ []) (omega arith) 2 (f5 .0) (f5 .1),
+      takes (failing linesS "fail=3 set=2") traceS 3 2 fails7 (2 ∷ 1 ∷ []) (omega arith) 2 (f7 .0) (f7 .1),
+      takes (failing linesS "fail=3 set=1") traceS 3 1 fails8 (2 ∷ 32 ∷ []) (omega arith) 1 (f8 .0) (f8 .1),
+      takes (failing linesT "fail=1 set=2") traceT 1 2 fails9 (32 ∷ 1 ∷ []) (omega arith) 2 (f9 .0) (f9 .1),
+      takes (failing linesT "fail=1 set=1") traceT 1 1 fails10 (1 ∷ 32 ∷ []) (omega arith) 2 (f10 .0) (f10 .1),
+    )
+
 -- ---- "Marked R1 to R12, to be proved together in one table"
 
-pub code-table : C1 × C2 × C3 × C4 × C5 × C6 × C7 × C8 × C9 × C10 × C11 × C12
-code-table = (c1, c2, c3, c4, c5, c6, c7, c8, c9, c10, c11, c12)
+pub code-table : C1 × C2 × C3 × C4 × C5 × C6 × C7 × C8 × C9 × C10 × C11 × C12 × CodeByFormula
+code-table = (c1, c2, c3, c4, c5, c6, c7, c8, c9, c10, c11, c12, code-by-formula)

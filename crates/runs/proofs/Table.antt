@@ -1,6 +1,6 @@
 -- The runs R1 to R12 of document 01 ("Runs to check"), each computed from its text, and all of them together.
 use mathlib.Core.Path.{_≡_, refl}
-use mathlib.Core.Bool.{true}
+use mathlib.Core.Bool.{true, false}
 use mathlib.Core.List.{List, [], _∷_, _++_}
 use Prim.Native.Nat.{ℕ, _≤_}
 use Prim.Native.String.{String}
@@ -25,11 +25,11 @@ use Rattle.printing.specs.Bytes.{bytesOf, linesOf}
 use Rattle.runs.specs.Texts.{linesH, linesL, linesS, linesT, linesFirst, failing, textH}
 use Rattle.report.specs.Report.{Answer, refused, given, Failure, failureOf, Recovery, engineLine, recoveryBy, recovery, messageLines, printedOf, printed}
 use Rattle.printing.specs.Lines.{processLine, messageLine, totalLine, refusalLine}
-use Rattle.runs.specs.Answers.{losses, Replayed, replay}
+use Rattle.runs.specs.Answers.{losses, Replayed, replay, formula}
 
 -- all that a row computes with, beside what the theory's rows do: `opens`
 unfoldable pub reads : ℕ
-unfolding bytesOf linesOf failing startsWith fieldAt isDigit pushed digitsFrom numberAt lastDigits procsOf sendOf recvOf saveOf failOf lineIn pieces faultHere judgeEvent judge linesFrom scanPieces scan verdict lastFailure failureFault permits lineFault failureOf losses replay engineLine recoveryBy recovery processLine messageLine messageLines totalLine refusalLine printedOf printed
+unfolding bytesOf linesOf failing startsWith fieldAt isDigit pushed digitsFrom numberAt lastDigits procsOf sendOf recvOf saveOf failOf lineIn pieces faultHere judgeEvent judge linesFrom scanPieces scan verdict lastFailure failureFault permits lineFault failureOf losses replay formula engineLine recoveryBy recovery processLine messageLine messageLines totalLine refusalLine printedOf printed
 reads = 0
 
 -- a trace of two processes
@@ -230,10 +230,35 @@ r12 : R12
 unfolding opens reads
 r12 = (refl, refl)
 
+-- Document 02, item 2, of these runs. A line loses no message, and the formula gives so many steps:
+abbrev pub Exactly : List ℕ → List ℕ → ℕ → Type 0
+Exactly text l n = (losses text l ≡ given []) × (formula text l ≡ given n)
+
+-- R1, R3 to R5 and R7 to R10 (R6 is refused, and its line is that of R5): the steps of the recovery, and of an order
+-- from the line of R3. The line of R2 loses a message: its only order has 1 step, where the formula gives 3.
+abbrev pub ByFormula : Type 0
+ByFormula =
+    Exactly textH (recovery1 .line) (recovery1 .steps)
+    × ((formula textH (32 ∷ 2 ∷ 32 ∷ []) ≡ given 3)
+    × (replay textH (32 ∷ 2 ∷ 32 ∷ []) (1 ∷ []) ≡ given (record { complete = true; equal = false; steps = 1 })))
+    × (Exactly textH (1 ∷ 1 ∷ 32 ∷ []) 8
+    × (replay textH (1 ∷ 1 ∷ 32 ∷ []) (0 ∷ 0 ∷ 0 ∷ 1 ∷ 1 ∷ 1 ∷ 1 ∷ 1 ∷ []) ≡ completed 8))
+    × Exactly (failing linesH "fail=0 set=1") (recovery4 .line) (recovery4 .steps)
+    × Exactly (failing linesL "fail=3 set=2") (recovery5 .line) (recovery5 .steps)
+    × Exactly (failing linesS "fail=3 set=2") (recovery7 .line) (recovery7 .steps)
+    × Exactly (failing linesS "fail=3 set=1") (recovery8 .line) (recovery8 .steps)
+    × Exactly (failing linesT "fail=1 set=2") (recovery9 .line) (recovery9 .steps)
+    × Exactly (failing linesT "fail=1 set=1") (recovery10 .line) (recovery10 .steps)
+
+by-formula : ByFormula
+unfolding opens reads
+by-formula =
+    ((refl, refl), (refl, refl), ((refl, refl), refl), (refl, refl), (refl, refl), (refl, refl), (refl, refl), (refl, refl), (refl, refl))
+
 -- ---- "Marked R1 to R12, to be proved together in one table"
 
-pub table : R1 × R2 × R3 × R4 × R5 × R6 × R7 × R8 × R9 × R10 × R11 × R12
-table = (r1, r2, r3, r4, r5, r6, r7, r8, r9, r10, r11, r12)
+pub table : R1 × R2 × R3 × R4 × R5 × R6 × R7 × R8 × R9 × R10 × R11 × R12 × ByFormula
+table = (r1, r2, r3, r4, r5, r6, r7, r8, r9, r10, r11, r12, by-formula)
 
 -- ---- Not among them, but of the same texts: the numbers 1, 8 and 10, and which comes first
 

@@ -1,12 +1,12 @@
--- Two more answers to a text that ends with a failure line: the messages that another line loses, and what an order
--- does.
+-- Three more answers to a text that ends with a failure line: the messages that another line loses, what an order does,
+-- and how many steps document 02's formula gives.
 use mathlib.Core.List.{List}
 use mathlib.Core.Bool.{Bool}
 use Prim.Native.Nat.{ℕ}
 use lib.ListN.{length}
 use Rattle.theory.specs.Line.{Run}
 use Rattle.theory.specs.Order.{Outcome, carriedOut, run, steps, complete}
-use Rattle.theory.specs.Answers.{lineOf, Listed, lostOnes, sameRecord}
+use Rattle.theory.specs.Answers.{lineOf, Listed, lostOnes, exactSteps, sameRecord}
 use Rattle.theory.specs.Refusals.{lineFault, orderFault}
 use Rattle.report.specs.Report.{Answer, refused, given, unless, then, Failure, failureOf, runOf}
 
@@ -33,3 +33,8 @@ replayOf R order (Outcome.refused i) = refused (orderFault (Outcome.refused i)) 
 
 unfoldable pub replay : List ℕ → List ℕ → List ℕ → Answer Replayed
 replay text l order = then (failureOf text) (λ f. unless (fault f l) (replayOf (runOf f l) order (run (runOf f l) order)))
+
+-- ---- Document 02, item 2: how many steps every complete order from a line has, if it loses no message
+
+unfoldable pub formula : List ℕ → List ℕ → Answer ℕ
+formula text l = then (failureOf text) (λ f. unless (fault f l) (given (exactSteps (runOf f l))))

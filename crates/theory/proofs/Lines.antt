@@ -11,7 +11,7 @@ use Rattle.trace.specs.Trace.{Trace}
 use Rattle.theory.specs.Lists.{cnt, place, lastOf}
 use Rattle.theory.specs.Events.{size, sends, recvs, checkpoints, sent, rcvd}
 use Rattle.theory.specs.Epochs.{Rule, past, epochAt, epochOf, loggedBy}
-use Rattle.theory.specs.Line.{may, lost, LossFree, restartIn, recorded, current, reached, Usable, Permitted}
+use Rattle.theory.specs.Line.{may, sentBefore, received, receivedBefore, undone, lost, LossFree, restartIn, recorded, current, reached, Usable, Permitted}
 use Rattle.theory.specs.Laws.{Laws}
 use Rattle.theory.proofs.Base.{by, on, clash, le?, both, cnt-le, cnt-lt, cnt-bound, place-zero, place-cnt, place-mono, lastOf-le, lastOf-top}
 use Rattle.theory.proofs.Events.{sends-is, send-no-checkpoint, recv-no-checkpoint, sent-le, rcvd-le, rcvd-lt, send-of, recv-of}
@@ -170,6 +170,16 @@ module _ (t : Trace) (rule : Rule) (A : Valid t) (cut : ℕ) (cl : cut ≤ size 
       let w = sends-is t p q (f .0) (f .3) in
       let n : f .0 ≤ size t = omega (arith, f .2, restart-cut t cut l p) in
       (omega (arith, A .process-lt (f .0) (f .1) n, w .0), A .peer-lt (f .0) q (f .1) n (w .1), omega (arith, cnt-bound (sends t p q) (f .0), f .4))
+
+  -- what a line loses depends on its numbers for the processes of the trace, and on no other
+  lost-same : (l m : ℕ → ℕ) (p q k : ℕ) → l p ≡ m p → l q ≡ m q → lost (recorded t rule cut l) p q k ≡ lost (recorded t rule cut m) p q k
+  unfolding lost undone received receivedBefore sentBefore restartIn
+  lost-same l m p q k a b = rw (a, b)
+
+  pub loss-same : (l m : ℕ → ℕ) → ((z : ℕ) → z < t .procs → l z ≡ m z) → LossFree (recorded t rule cut l) → LossFree (recorded t rule cut m)
+  loss-same l m e f p q k = by (lost (recorded t rule cut m) p q k)
+      (λ h. let n = lost-in m p q k h in clash (lost-same l m p q k (e p (n .0)) (e q (n .1)) ∙ h) (f p q k))
+      (λ h. h)
 
   -- ---- Usable checkpoints
 

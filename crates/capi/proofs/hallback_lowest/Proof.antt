@@ -2,7 +2,7 @@
 use mathlib.Core.Path.{ap, _∙_}
 use Rattle.orders.specs.declared.Replayed.{Replayed}
 use Rattle.capi.specs.Answers.{lowestAnswer, lowestArea, replayNumbers}
-use Rattle.capi.proofs.Giving.{answer-is}
+use Rattle.capi.proofs.Giving.{answer-is, steps-given}
 use borrow.Author.Needs.{needs}
 use Rattle.capi.proofs.hallback_lowest.Statement.{statement}
 use Rattle.capi.proofs.hallback_lowest.Tie as tie
@@ -15,7 +15,8 @@ returns c =
     let put-replayed = c .before .before .put-replayed in
     let e = (lowest .ensures .0) ∙ ap (lowestAnswer (args .table .now) ((args .run) .now) (args .step) (args .set)) (line-from .ensures) in
     let w = (lowest .ensures .1 .0) ∙ ap (lowestArea (args .table .now) ((args .run) .now) (args .step) (args .set)) (line-from .ensures) in
-    (ap (λ (x : Replayed). x .number) e, (w, answer-is _ _ _ _ _ (ap replayNumbers e) (put-replayed .ensures)))
+    let b = steps-given (args .table .now) (args .step) _ _ _ _ (line-from .ensures) e (lowest .ensures .1 .1 .1 .0, lowest .ensures .1 .1 .1 .1 .0) in
+    (ap (λ (x : Replayed). x .number) e, (w, (answer-is _ _ _ _ _ (ap replayNumbers e) (put-replayed .ensures), b)))
 
 pub hallback-lowest-spec : {M : Type 1} → statement M
 hallback-lowest-spec =

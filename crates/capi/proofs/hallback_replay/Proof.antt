@@ -4,7 +4,7 @@ use Rattle.recovery_line.specs.declared.Line.{Line}
 use Rattle.orders.specs.declared.Replayed.{Replayed}
 use Rattle.recovery.specs.Answers.{replayAnswer, replayArea}
 use Rattle.capi.specs.Answers.{replayNumbers}
-use Rattle.capi.proofs.Giving.{answer-is}
+use Rattle.capi.proofs.Giving.{answer-is, steps-given}
 use borrow.Author.Needs.{needs}
 use Rattle.capi.proofs.hallback_replay.Statement.{statement}
 use Rattle.capi.proofs.hallback_replay.Tie as tie
@@ -17,7 +17,8 @@ returns c =
     let put-replayed = c .before .before .put-replayed in
     let e = (replay .ensures .0) ∙ ap (λ (l : Line). replayAnswer (args .table .now) ((args .run) .now) (args .step) (args .set) l ((args .order) .now)) (line-from .ensures) in
     let w = (replay .ensures .1 .0) ∙ ap (λ (l : Line). replayArea (args .table .now) ((args .run) .now) (args .step) (args .set) l ((args .order) .now)) (line-from .ensures) in
-    (ap (λ (x : Replayed). x .number) e, (w, answer-is _ _ _ _ _ (ap replayNumbers e) (put-replayed .ensures)))
+    let b = steps-given (args .table .now) (args .step) _ _ _ _ (line-from .ensures) e (replay .ensures .1 .1 .1) in
+    (ap (λ (x : Replayed). x .number) e, (w, (answer-is _ _ _ _ _ (ap replayNumbers e) (put-replayed .ensures), b)))
 
 pub hallback-replay-spec : {M : Type 1} → statement M
 hallback-replay-spec =
