@@ -427,6 +427,37 @@ mod compare {
             );
         }
 
+        /// The engine's steps for a complete order: as the formula says, if the line loses no
+        /// message; else at most twice the events.
+        fn steps(&mut self, input: Input) {
+            let Input {
+                table,
+                failure: Failure { step, set },
+                line,
+                order,
+                ..
+            } = input;
+            let Ok(exact) = reference::exact_steps(table, input.failure, line) else {
+                return;
+            };
+            let mut run = input.run.to_vec();
+            let mut answer = [0; REPLAY];
+            raw::replay(table, step, set, line, order, &mut run, &mut answer);
+            let [_, steps, complete] = answer;
+            let most = 2 * u64::from(table[1]);
+            let (call, as_promised) = match exact {
+                Some(exact) => ("steps_exact", steps == exact),
+                None => ("steps_most", steps <= most),
+            };
+            let mut differences = Vec::new();
+            if complete != 1 || !as_promised {
+                differences.push(format!(
+                    "{steps} steps, complete {complete}; the formula says {exact:?}, the limit is {most}"
+                ));
+            }
+            self.note(call, &Ok(vec![]), differences, &|| describe(input));
+        }
+
         /// Texts at the limits, which random ones seldom reach.
         fn fixed_texts(&mut self) {
             let send = "ev=send at=0 to=1 val=4294967295\n";
@@ -689,10 +720,12 @@ mod compare {
                 ..input
             });
             let mut order = random_order(table, failure, line, &mut self.random);
-            self.replay(Input {
+            let complete = Input {
                 order: &order,
                 ..input
-            });
+            };
+            self.replay(complete);
+            self.steps(complete);
             let length = self.random.below(order.len() + 1);
             self.replay(Input {
                 order: &order[..length],
