@@ -71,19 +71,28 @@ uint32_t hallback_restart(const uint32_t *table, size_t table_len, uint64_t step
 uint32_t hallback_messages(const uint32_t *table, size_t table_len, uint64_t step, uint64_t set, const uint32_t *line, size_t line_len,
                            uint32_t *run, size_t run_len, uint64_t *answer, size_t answer_len);
 
-/* Carries out an order of choices from a line: 0 to 63 is the next event of that process, 64 + 64 P + Q hands over the oldest kept message
-   from P to Q. Leaves the delivery record in the run area. Answer: place, steps, 1 if the order is complete (no choice is left). Refusals: 12,
-   13, 8, 9, 10, and 11 with the place of the choice in the order, from 1; after 11 the first 16,384 words of the run area are zero, the
-   others change nothing. */
-uint32_t hallback_replay(const uint32_t *table, size_t table_len, uint64_t step, uint64_t set, const uint32_t *line, size_t line_len,
-                         const uint16_t *order, size_t order_len, uint32_t *run, size_t run_len, uint64_t *answer, size_t answer_len);
+/* Carries out an order of choices from a line: 0 to 63 is the next event of that process, 64 + 64 P + Q hands over the
+   oldest kept message from P to Q. Leaves the delivery record in the run area. Answer: place, steps, 1 if the order is
+   complete (no choice is left). Refusals: 12, 13, 8, 9, 10, and 11 with the place of the choice in the order, from 1;
+   after 11 the first 16,384 words of the run area are zero, the others change nothing.
 
-/* The same for the order that always takes the lowest allowed choice. It is never refused with 11 and always complete. */
-uint32_t hallback_lowest(const uint32_t *table, size_t table_len, uint64_t step, uint64_t set, const uint32_t *line, size_t line_len,
-                         uint32_t *run, size_t run_len, uint64_t *answer, size_t answer_len);
+   Steps are the choices carried out. From a line that loses no message (of hallback_restart, or one of which
+   hallback_messages counts none lost) every complete order has exactly the same number of steps: the events of each
+   process after its restart (of one that stays, after the cut), to the end of the trace, and the kept messages, also
+   those that nobody receives. From a line that loses a message an order has at most twice as many steps as the trace
+   has events. That a complete order has the number above does not show that its line loses nothing. */
+uint32_t hallback_replay(const uint32_t *table, size_t table_len, uint64_t step, uint64_t set, const uint32_t *line,
+                         size_t line_len, const uint16_t *order, size_t order_len, uint32_t *run, size_t run_len,
+                         uint64_t *answer, size_t answer_len);
 
-/* What the program hallback prints for a text with its failure line, a refusal too. Returns how many bytes were written: all
-   of the report, or as many as there is room for. Bytes past them stay. */
+/* The same for the order that always takes the lowest allowed choice. It is never refused with 11 and always complete,
+   so that its steps are those of every complete order, if the line loses no message. */
+uint32_t hallback_lowest(const uint32_t *table, size_t table_len, uint64_t step, uint64_t set, const uint32_t *line,
+                         size_t line_len, uint32_t *run, size_t run_len, uint64_t *answer, size_t answer_len);
+
+/* What the program hallback prints for a text with its failure line, a refusal too. Returns how many bytes were
+   written: all of the report, or as many as there is room for. Bytes past them stay. Its `steps=` are those of every
+   complete order from the line that it prints, which loses no message. */
 size_t hallback_report(const uint8_t *text, size_t text_len, uint8_t *out, size_t out_len);
 
 #ifdef __cplusplus

@@ -167,6 +167,11 @@ fn replayed(number: u32, answer: [u64; 3]) -> Result<Replayed, Refusal> {
 ///
 /// After a refusal 11 the run area is zero; other refusals leave it as it was.
 ///
+/// From a line that loses no message every complete order has the same number of steps: the events
+/// after the restarts (of a process that stays, after the cut), to the end of the trace, and the
+/// kept messages, also those that nobody receives. From any other line an order has at most twice as
+/// many steps as the trace has events.
+///
 /// ```
 /// use hallback::{Cause, Failure, AREA_WORDS};
 ///
@@ -202,6 +207,9 @@ pub fn replay(
 }
 
 /// Carries out the order that always picks the lowest allowed choice, as [`replay`] does an order.
+///
+/// It is always complete, so that its steps are those of every complete order from a line that loses
+/// no message.
 ///
 /// ```
 /// use hallback::{Failure, Replayed, AREA_WORDS};
