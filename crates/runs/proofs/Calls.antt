@@ -106,11 +106,11 @@ abbrev pub Faultless : Trace → List ℕ → Type 0
 Faultless t v = take areaWords v ≡ wordsFrom (faultlessAt t) 0 areaWords
 
 -- an order is complete after so many steps; and leaves that record
-abbrev pub Complete : ℕ → Replayed → Type 0
-Complete n y = y ≡ record { number = 0; place = 0; steps = n; complete = true }
+abbrev pub Finished : ℕ → Replayed → Type 0
+Finished n y = y ≡ record { number = 0; place = 0; steps = n; complete = true }
 
 abbrev pub Done : Trace → ℕ → Replayed → List ℕ → Type 0
-Done t n y v = Complete n y × Faultless t v
+Done t n y v = Finished n y × Faultless t v
 
 -- `restart`, then `messages` and `lowest` with the line that it gives, which loses no message
 abbrev pub Recovers : ℕ → ℕ → Recovery → Claim
@@ -139,7 +139,7 @@ Takes step set l n t a run =
 -- `replay` with a line and an order: complete after so many steps, whatever the record, or with that of the run without
 -- failure; or 11 at a place
 abbrev pub Ends : ℕ → ℕ → List ℕ → List ℕ → ℕ → Claim
-Ends step set l order n t a run = (y : Replayed) (v : List ℕ) → Replay a run step set (lineFrom l) order y v → Complete n y
+Ends step set l order n t a run = (y : Replayed) (v : List ℕ) → Replay a run step set (lineFrom l) order y v → Finished n y
 
 abbrev pub Completes : ℕ → ℕ → List ℕ → List ℕ → ℕ → Claim
 Completes step set l order n t a run = (y : Replayed) (v : List ℕ) → Replay a run step set (lineFrom l) order y v → Done t n y v
