@@ -1,16 +1,22 @@
 -- What a function leaves in the slice of its answer, from the numbers that it put there.
 use Prim.Native.Nat.{ℕ}
-use mathlib.Core.Path.{_≡_, subst}
+use native.Mathlib.Omega.{arith}
+use mathlib.Core.Path.{_≡_, refl, sym, ap, subst, _∙_}
+use mathlib.Core.Bool.{Bool, true, false}
 use mathlib.Core.List.{List, [], _∷_, _++_}
+use lib.ListN.{length}
+use borrow.Author.Tests.{ne-eqb}
+use Rattle.words.proofs.Cases.{by-eq}
 use Rattle.theory.specs.Lists.{pick}
 use Rattle.recovery_line.specs.declared.Line.{Line}
 use Rattle.orders.specs.declared.Replayed.{Replayed}
-use Rattle.recovery.specs.Answers.{Exact, Most}
+use Rattle.preparing.specs.Faults.{runOf, faultOf}
+use Rattle.recovery.specs.Answers.{refusal, replayAnswer, StepsExact, StepsAtMost, Completed}
 use Rattle.restart.specs.declared.Restarted.{Restarted}
 use Rattle.messages.specs.declared.Counted.{Counted}
-use Rattle.writer.specs.Buffer.{Puts, written}
+use Rattle.writer.specs.Buffer.{Puts, room, written}
 use Rattle.writer.proofs.Buffers.{then, same-bytes, whole}
-use Rattle.capi.specs.Answers.{restartNumbers, messagesNumbers, replayNumbers}
+use Rattle.capi.specs.Answers.{restartNumbers, messagesNumbers, replayNumbers, lowestAnswer, ExactIn, AtMostIn, CompletedIn}
 
 pub answer-is : (vs ws before after : List ℕ) (next : ℕ) → vs ≡ ws → Puts vs before 0 after next → after ≡ written ws before
 answer-is vs ws before after next e h = whole ws before after next (same-bytes vs ws before after 0 next e h) .0
@@ -32,7 +38,43 @@ messages-are c d orphans kept lost a b e h = rw (a, b, e, ← h)
 pub replay-is : (r : Replayed) (complete : ℕ) → complete ≡ pick (r .complete) 1 0 → (r .place ∷ r .steps ∷ complete ∷ []) ≡ replayNumbers r
 replay-is r complete e = rw e
 
--- what is promised of the steps, of the line and the answer by their definitions
-pub steps-given : (a : List ℕ) (step : ℕ) (l m : Line) (r s : Replayed) → l ≡ m → r ≡ s → Exact a step l r × Most a r → Exact a step m s × Most a s
-steps-given a step l m r s e q h =
-    subst (λ (x : Line). Exact a step x s × Most a s) e (subst (λ (y : Replayed). Exact a step l y × Most a y) q h)
+-- ---- Steps in a slice
+
+-- a slice that begins with some numbers has those that were written
+first-two : (p s c : ℕ) (before : List ℕ) (p′ n : ℕ) (rest : List ℕ) → p′ ∷ n ∷ rest ≡ written (p ∷ s ∷ c ∷ []) before → n ≡ s
+unfolding written room
+first-two p s c [] p′ n rest h = absurd (let z : _≡_ {A = ℕ} 0 1 = cc in omega arith)
+first-two p s c (x ∷ []) p′ n rest h = absurd (let z : _≡_ {A = ℕ} 0 1 = cc in omega arith)
+first-two p s c (x ∷ y ∷ bs) p′ n rest h = cc
+
+first-three : (p s c : ℕ) (before : List ℕ) (p′ n c′ : ℕ) (rest : List ℕ) → p′ ∷ n ∷ c′ ∷ rest ≡ written (p ∷ s ∷ c ∷ []) before → c′ ≡ c
+unfolding written room
+first-three p s c [] p′ n c′ rest h = absurd (let z : _≡_ {A = ℕ} 0 1 = cc in omega arith)
+first-three p s c (x ∷ []) p′ n c′ rest h = absurd (let z : _≡_ {A = ℕ} 0 1 = cc in omega arith)
+first-three p s c (x ∷ y ∷ []) p′ n c′ rest h = absurd (let z : _≡_ {A = ℕ} 0 1 = cc in omega arith)
+first-three p s c (x ∷ y ∷ z ∷ bs) p′ n c′ rest h = cc
+
+yes-is : (b : Bool) → _≡_ {A = ℕ} 1 (pick b 1 0) → b ≡ true
+yes-is true h = refl
+yes-is false h = absurd (let z : ⊥ = omega arith in z)
+
+-- what `replay` and `lowest` promise, of the number and the numbers that are given
+module _ (a : List ℕ) (step : ℕ) (l : Line) (r : Replayed) (before answer : List ℕ) (w : answer ≡ written (replayNumbers r) before) where
+  exact-in : StepsExact a step l r → ExactIn (runOf a step l) (r .number) answer
+  exact-in x n rest z h f =
+      let e = sym h ∙ w in
+      first-two _ _ _ before 0 n (1 ∷ rest) e ∙ x z (yes-is (r .complete) (first-three _ _ _ before 0 n 1 rest e)) f
+
+  at-most-in : StepsAtMost a step l r → AtMostIn (runOf a step l) answer
+  at-most-in x place n rest h = let e = first-two _ _ _ before place n rest (sym h ∙ w) in (omega (arith, x .0), omega (arith, x .1))
+
+  pub steps-in : (m : Line) → l ≡ m → StepsExact a step l r × StepsAtMost a step l r → ExactIn (runOf a step m) (r .number) answer × AtMostIn (runOf a step m) answer
+  steps-in m e x = subst (λ (k : Line). ExactIn (runOf a step k) (r .number) answer × AtMostIn (runOf a step k) answer) e (exact-in (x .0), at-most-in (x .1))
+
+  pub completed-in : (area : List ℕ) (set : ℕ) → r ≡ lowestAnswer a area step set l → Completed a (length area) step set l r → CompletedIn (r .number) answer
+  unfolding replayAnswer
+  completed-in area set e x place n c rest z h =
+      let fault = faultOf a (length area) step set l in
+      by-eq fault 0
+      (λ ok. first-three _ _ _ before place n c rest (sym h ∙ w) ∙ rw (x ok .1))
+      (λ no. let q : r ≡ refusal fault = e ∙ rw (ne-eqb fault 0 no) in absurd (no (sym (ap (λ (y : Replayed). y .number) q) ∙ z)))

@@ -1,6 +1,7 @@
 -- Answers as numbers in a lent slice, one after another: as many as there is room for, and the rest of the slice as it
 -- was (`written`, crate writer).
-use Prim.Native.Nat.{ℕ}
+use Prim.Native.Nat.{ℕ, _≤_}
+use mathlib.Core.Path.{_≡_}
 use mathlib.Core.List.{List, [], _∷_, _++_}
 use lib.ListN.{length, getD}
 use Rattle.words.specs.Area.{wordsFrom}
@@ -10,7 +11,9 @@ use Rattle.reader.specs.declared.FailureAnswer.{FailureAnswer}
 use Rattle.rendering.specs.declared.WriteAnswer.{WriteAnswer}
 use Rattle.recovery_line.specs.declared.Line.{Line}
 use Rattle.orders.specs.declared.Replayed.{Replayed}
-use Rattle.theory.specs.Order.{lowestOrder}
+use Rattle.theory.specs.Line.{Run, LossFree}
+use Rattle.theory.specs.Order.{mostSteps, lowestOrder}
+use Rattle.theory.specs.Answers.{exactSteps}
 use Rattle.preparing.specs.Faults.{runOf}
 use Rattle.recovery.specs.Answers.{replayAnswer, replayArea}
 use Rattle.restart.specs.declared.Restarted.{Restarted}
@@ -45,3 +48,19 @@ lowestAnswer a area step set l = replayAnswer a area step set l (lowestOrder (ru
 
 abbrev pub lowestArea : List ℕ → List ℕ → ℕ → ℕ → Line → List ℕ
 lowestArea a area step set l = replayArea a area step set l (lowestOrder (runOf a step l))
+
+-- ---- What is promised of the steps (crate recovery: `StepsExact`, `StepsAtMost`, `Completed`), of what a caller gets: the
+-- number r that is returned, and a slice that begins with place, steps and, if it has room for it, 1 or 0 for complete
+
+-- a complete order from a line that loses no message has exactly so many steps
+abbrev pub ExactIn : Run → ℕ → List ℕ → Type 0
+ExactIn R r answer = (n : ℕ) (rest : List ℕ) → r ≡ 0 → answer ≡ 0 ∷ n ∷ 1 ∷ rest → LossFree R → n ≡ exactSteps R
+
+-- no order has more than these
+abbrev pub AtMostIn : Run → List ℕ → Type 0
+AtMostIn R answer =
+    (place n : ℕ) (rest : List ℕ) → answer ≡ place ∷ n ∷ rest → (n ≤ mostSteps (R .trace)) × (n ≤ exactSteps R)
+
+-- the lowest order is always complete
+abbrev pub CompletedIn : ℕ → List ℕ → Type 0
+CompletedIn r answer = (place n c : ℕ) (rest : List ℕ) → r ≡ 0 → answer ≡ place ∷ n ∷ c ∷ rest → c ≡ 1

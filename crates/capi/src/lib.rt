@@ -10,11 +10,12 @@ ghost use Rattle.reader.specs.Answer.{readAnswer, readArea};
 ghost use Rattle.reader.specs.Failure.{failureAnswer, failureArea};
 ghost use Rattle.rendering.specs.Write.{writeAnswer, writeBuffer};
 ghost use Rattle.rendering.specs.Meaning.{RoundTrip};
-ghost use Rattle.recovery.specs.Answers.{replayAnswer, replayArea, Exact, Most};
+ghost use Rattle.preparing.specs.Faults.{runOf};
+ghost use Rattle.recovery.specs.Answers.{replayAnswer, replayArea};
 ghost use Rattle.messages.specs.Messages.{messagesAnswer, messagesArea};
 ghost use Rattle.restart.specs.Restart.{restartAnswer};
-ghost use Rattle.report.specs.Report.{printed, PrintedSteps};
-ghost use Rattle.capi.specs.Answers.{lineGiven, readNumbers, failureNumbers, writeNumbers, restartNumbers, messagesNumbers, replayNumbers, lowestAnswer, lowestArea};
+ghost use Rattle.report.specs.Report.{printed, StepsPrinted};
+ghost use Rattle.capi.specs.Answers.{lineGiven, readNumbers, failureNumbers, writeNumbers, restartNumbers, messagesNumbers, replayNumbers, lowestAnswer, lowestArea, ExactIn, AtMostIn, CompletedIn};
 use orders::Replayed;
 use recovery_line::Line;
 use restart::Restarted;
@@ -204,8 +205,8 @@ pub extern "C" fn hallback_replay(
     ensures number { λ r. ⌜ r ≡ replayAnswer (now (table .entry)) (now (run .entry)) step set (lineGiven (now (line .entry))) (now (order .entry)) .number ⌝ }
     ensures words { λ _. ⌜ now (run .exit) ≡ replayArea (now (table .entry)) (now (run .entry)) step set (lineGiven (now (line .entry))) (now (order .entry)) ⌝ }
     ensures numbers { λ _. ⌜ now (answer .exit) ≡ written (replayNumbers (replayAnswer (now (table .entry)) (now (run .entry)) step set (lineGiven (now (line .entry))) (now (order .entry)))) (now (answer .entry)) ⌝ }
-    ensures exact { λ _. ⌜ Exact (now (table .entry)) step (lineGiven (now (line .entry))) (replayAnswer (now (table .entry)) (now (run .entry)) step set (lineGiven (now (line .entry))) (now (order .entry))) ⌝ }
-    ensures most { λ _. ⌜ Most (now (table .entry)) (replayAnswer (now (table .entry)) (now (run .entry)) step set (lineGiven (now (line .entry))) (now (order .entry))) ⌝ }
+    ensures exact { λ r. ⌜ ExactIn (runOf (now (table .entry)) step (lineGiven (now (line .entry)))) r (now (answer .exit)) ⌝ }
+    ensures at_most { λ _. ⌜ AtMostIn (runOf (now (table .entry)) step (lineGiven (now (line .entry)))) (now (answer .exit)) ⌝ }
 {
     let r = recovery::replay(table, step, set, line_from(line), order, run);
     put_replayed(answer, r);
@@ -225,8 +226,9 @@ pub extern "C" fn hallback_lowest(
     ensures number { λ r. ⌜ r ≡ lowestAnswer (now (table .entry)) (now (run .entry)) step set (lineGiven (now (line .entry))) .number ⌝ }
     ensures words { λ _. ⌜ now (run .exit) ≡ lowestArea (now (table .entry)) (now (run .entry)) step set (lineGiven (now (line .entry))) ⌝ }
     ensures numbers { λ _. ⌜ now (answer .exit) ≡ written (replayNumbers (lowestAnswer (now (table .entry)) (now (run .entry)) step set (lineGiven (now (line .entry))))) (now (answer .entry)) ⌝ }
-    ensures exact { λ _. ⌜ Exact (now (table .entry)) step (lineGiven (now (line .entry))) (lowestAnswer (now (table .entry)) (now (run .entry)) step set (lineGiven (now (line .entry)))) ⌝ }
-    ensures most { λ _. ⌜ Most (now (table .entry)) (lowestAnswer (now (table .entry)) (now (run .entry)) step set (lineGiven (now (line .entry)))) ⌝ }
+    ensures exact { λ r. ⌜ ExactIn (runOf (now (table .entry)) step (lineGiven (now (line .entry)))) r (now (answer .exit)) ⌝ }
+    ensures at_most { λ _. ⌜ AtMostIn (runOf (now (table .entry)) step (lineGiven (now (line .entry)))) (now (answer .exit)) ⌝ }
+    ensures completed { λ r. ⌜ CompletedIn r (now (answer .exit)) ⌝ }
 {
     let r = recovery::lowest(table, step, set, line_from(line), run);
     put_replayed(answer, r);
@@ -238,7 +240,7 @@ pub extern "C" fn hallback_lowest(
 pub extern "C" fn hallback_report(text: &[u8], out: &mut [u8]) -> usize
     ensures length { λ r. ⌜ r ≡ length (room (printed (now (text .entry))) (now (out .entry))) ⌝ }
     ensures bytes { λ _. ⌜ now (out .exit) ≡ written (printed (now (text .entry))) (now (out .entry)) ⌝ }
-    ensures exact { λ _. ⌜ PrintedSteps (now (text .entry)) ⌝ }
+    ensures exact { λ _. ⌜ StepsPrinted (now (text .entry)) ⌝ }
 {
     report::report(text, out)
 }

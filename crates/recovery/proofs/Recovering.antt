@@ -21,7 +21,7 @@ use Rattle.recovery.specs.Recover.{recoverRefusal, Succeeds}
 use Rattle.restart.specs.Restart.{restartAnswer}
 use Rattle.preparing.proofs.Filling.{step-within, short-area, by-failure, short}
 use Rattle.preparing.proofs.Preparing.{failure-first}
-use Rattle.recovery.proofs.Replaying.{refuses, counted, completed}
+use Rattle.recovery.proofs.Replaying.{refuses, steps-counted, completed}
 use Rattle.messages.proofs.Listing.{refuses-messages, lists}
 use Rattle.restart.proofs.Restarting.{Ready, refuses-restart, answers-restart}
 use Rattle.recovery.proofs.Taking.{not-refused}
@@ -66,8 +66,8 @@ module _ (a : List ℕ) (step set : ℕ) where
       let R : Run = runOf a step l in
       let cl = step-within a room step set full F in
       let c = completed a a step set l (lowestOrder R) (F .holds) cl (r .replayed) (D .replayed) in
-      let (e, b) = counted a a step set l (lowestOrder R) (F .holds) cl (run R (lowestOrder R)) refl in
+      let (e, b) = steps-counted a a step set l (lowestOrder R) (F .holds) cl (run R (lowestOrder R)) refl in
       let exact : r .replayed .steps ≡ exactSteps R = (rw (← (D .replayed)) at e) (c ok .0) (c ok .1) (D .restarts .greatest .loss-free) in (
         answers-restart a step set n (r .restarted) f z (D .restarted) (D .restarts) .0,
-        (D .replayed ∙ rw ok, (m .0, (m .1 .0, λ _. record { restarts = D .restarts; taken = ok; completed = c; exact = exact; most = rw (D .replayed) b; few = D .few }))),
+        (D .replayed ∙ rw ok, (m .0, (m .1 .0, λ _. record { restarts = D .restarts; taken = ok; completed = c; exact = exact; at-most = rw (D .replayed) b; few = D .few }))),
       )

@@ -1,6 +1,6 @@
 -- Each way out of `replay` and `lowest`: answer and run area by the definitions, demand 3 for a complete order, and how
 -- many steps it has.
-use Prim.Native.Nat.{ℕ, _*_, _≤_}
+use Prim.Native.Nat.{ℕ, _≤_}
 use mathlib.Core.Path.{_≡_, refl, sym, ap, _∙_}
 use mathlib.Core.Bool.{true}
 use mathlib.Core.List.{List, _++_}
@@ -18,7 +18,7 @@ use Rattle.theory.specs.Line.{Run}
 use Rattle.theory.specs.Order.{Outcome, carriedOut, refused, run, lowestOrder}
 use Rattle.theory.proofs.Epochs.{laws}
 use Rattle.theory.proofs.Orders.{complete-iff, order-bound}
-use Rattle.theory.proofs.Exact.{exact-steps}
+use Rattle.theory.proofs.Exact.{steps-within, exact-steps}
 use Rattle.theory.proofs.Lowest.{lowest-order}
 use Rattle.protocol.proofs.Passes.{held-valid, held-few}
 use Rattle.recovery_line.specs.declared.Line.{Line}
@@ -28,13 +28,13 @@ use Rattle.orders.proofs.Records.{complete-record}
 use Rattle.orders.specs.declared.Replayed.{Replayed}
 use Rattle.orders.specs.Answer.{answerOf, wordsOf}
 use Rattle.preparing.specs.Faults.{runOf, faultOf}
-use Rattle.recovery.specs.Answers.{refusal, replayAnswer, replayArea, Equal, Exact, Most, Completed}
+use Rattle.recovery.specs.Answers.{refusal, replayAnswer, replayArea, Equal, StepsExact, StepsAtMost, Completed}
 
 module _ (a area : List ℕ) (step set : ℕ) (l : Line) (order : List ℕ) where
   abbrev pub Answered : Replayed → List ℕ → Type 0
   Answered r w =
       (r ≡ replayAnswer a area step set l order)
-      × ((w ≡ replayArea a area step set l order) × (Equal a step l r w × (Exact a step l r × Most a r)))
+      × ((w ≡ replayArea a area step set l order) × (Equal a step l r w × (StepsExact a step l r × StepsAtMost a step l r)))
 
   -- a refusal changes nothing
   pub refuses : (n : ℕ) (r : Replayed) → n ≡ faultOf a (length area) step set l → (n ≡ 0 → ⊥) → r ≡ refusal n → Answered r area
@@ -42,7 +42,7 @@ module _ (a area : List ℕ) (step set : ℕ) (l : Line) (order : List ℕ) wher
   refuses n r f z e =
       let not-0 : r .number ≡ 0 → ⊥ = λ h. z (sym (ap (λ (x : Replayed). x .number) e) ∙ h) in
       let none : r .steps ≡ 0 = ap (λ (x : Replayed). x .steps) e in
-      (e ∙ rw (← f, ne-eqb n 0 z), (rw (← f, ne-eqb n 0 z), (λ h c. absurd (not-0 h), (λ h c k. absurd (not-0 h), omega arith))))
+      (e ∙ rw (← f, ne-eqb n 0 z), (rw (← f, ne-eqb n 0 z), (λ h c. absurd (not-0 h), (λ h c k. absurd (not-0 h), (omega arith, omega arith)))))
 
   pub not-completed : (n : ℕ) (r : Replayed) → n ≡ faultOf a (length area) step set l → (n ≡ 0 → ⊥) → Completed a (length area) step set l r
   not-completed n r f z h = absurd (z (f ∙ h))
@@ -64,11 +64,11 @@ module _ (a area : List ℕ) (step set : ℕ) (l : Line) (order : List ℕ) wher
     equal (refused i) e w q n c = absurd (let y : ⊥ = omega arith in y)
 
     -- exactly so many steps where the order is complete and the line loses nothing, and always at most so many
-    pub counted : (o : Outcome) → run R order ≡ o → Exact a step l (answerOf R o (length order)) × Most a (answerOf R o (length order))
+    pub steps-counted : (o : Outcome) → run R order ≡ o → let r = answerOf R o (length order) in StepsExact a step l r × StepsAtMost a step l r
     unfolding answerOf
-    counted (carriedOut s) e =
-        (λ n c f. exact-steps R L order s e f (complete-iff R s .0 c), omega (arith, order-bound R L order s e))
-    counted (refused i) e = (λ n c f. absurd (let y : ⊥ = omega arith in y), omega arith)
+    steps-counted (carriedOut s) e =
+        (λ n c f. exact-steps R L order s e f (complete-iff R s .0 c), (order-bound R L order s e, steps-within R L order s e))
+    steps-counted (refused i) e = (λ n c f. absurd (let y : ⊥ = omega arith in y), (omega arith, omega arith))
 
     -- the lowest order is carried out, and no choice is left
     pub completed : (r : Replayed) → r ≡ answerOf R (run R (lowestOrder R)) (length (lowestOrder R)) → Completed a (length area) step set l r
@@ -81,4 +81,4 @@ module _ (a area : List ℕ) (step set : ℕ) (l : Line) (order : List ℕ) wher
         → w ≡ wordsOf R (run R order) → Answered r (w ++ drop areaWords area)
     unfolding replayAnswer replayArea
     carried n r w f z e q =
-        (e ∙ rw (← f, z), (ap (λ (x : List ℕ). x ++ drop 16384 area) q ∙ rw (← f, z), rw e (equal (run R order) refl w q, counted (run R order) refl)))
+        (e ∙ rw (← f, z), (ap (λ (x : List ℕ). x ++ drop 16384 area) q ∙ rw (← f, z), rw e (equal (run R order) refl w q, steps-counted (run R order) refl)))

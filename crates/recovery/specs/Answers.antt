@@ -1,7 +1,7 @@
 -- What the public functions of recovery answer and leave, for every input (document 01, "Numbers given by whoever
 -- causes them": the order is 12, 13, 8, 9, 10, 11; "In a refused answer every other number is 0 and every yes or no is
 -- no"; "Other refusals change nothing").
-use Prim.Native.Nat.{ℕ, _*_, _≤_}
+use Prim.Native.Nat.{ℕ, _≤_}
 use mathlib.Core.Path.{_≡_}
 use mathlib.Core.Logic.{_↔_}
 use mathlib.Core.Bool.{true, false}
@@ -11,9 +11,8 @@ use lib.Dec.{eqb}
 use Rattle.words.specs.Area.{areaWords, wordsFrom}
 use Rattle.table.specs.Held.{held}
 use Rattle.theory.specs.Lists.{pick}
-use Rattle.theory.specs.Events.{size}
 use Rattle.theory.specs.Line.{LossFree}
-use Rattle.theory.specs.Order.{run, steps, lowestOrder}
+use Rattle.theory.specs.Order.{run, steps, mostSteps, lowestOrder}
 use Rattle.theory.specs.Answers.{exactSteps}
 use Rattle.recovery_line.specs.declared.Line.{Line}
 use Rattle.orders.specs.Record.{faultlessAt}
@@ -42,14 +41,14 @@ Equal a step l r w =
 
 -- Document 02, item 2: "For a line without loss, every complete order has exactly as many steps as there are listed
 -- events after the restarts (after the cut for staying zones) plus kept messages."
-abbrev pub Exact : List ℕ → ℕ → Line → Replayed → Type 0
-Exact a step l r =
+abbrev pub StepsExact : List ℕ → ℕ → Line → Replayed → Type 0
+StepsExact a step l r =
     r .number ≡ 0 → r .complete ≡ true → LossFree (runOf a step l) → r .steps ≡ exactSteps (runOf a step l)
 
--- "Lines that lose a message retain the upper limit of document 01.": "at most twice the number of events", whatever
--- the line and the order. (A refusal has no steps.)
-abbrev pub Most : List ℕ → Replayed → Type 0
-Most a r = r .steps ≤ 2 * size (held a)
+-- "Lines that lose a message retain the upper limit of document 01.": "at most twice the number of events"; and no more
+-- than that formula. Whatever the line and the order, complete or not; a refusal has no steps.
+abbrev pub StepsAtMost : List ℕ → ℕ → Line → Replayed → Type 0
+StepsAtMost a step l r = (r .steps ≤ mostSteps (held a)) × (r .steps ≤ exactSteps (runOf a step l))
 
 -- "An order is complete when no choice is allowed": the lowest order is never refused, gets there, and has as many
 -- steps as choices.

@@ -8,7 +8,7 @@ use Rattle.table.specs.Held.{held}
 use Rattle.recovery.specs.declared.Recovered.{Recovered}
 use Rattle.theory.specs.Answers.{exactSteps}
 use Rattle.preparing.specs.Faults.{faultOf, runOf}
-use Rattle.recovery.specs.Answers.{refusal, Completed, Most}
+use Rattle.recovery.specs.Answers.{refusal, StepsAtMost, Completed}
 use Rattle.messages.specs.Messages.{messagesRefusal}
 use Rattle.restart.specs.Restart.{restartRefusal, Restarts}
 
@@ -17,11 +17,11 @@ abbrev pub recoverRefusal : ℕ → Recovered
 recoverRefusal n = record { restarted = restartRefusal n; replayed = refusal n; counted = messagesRefusal n }
 
 -- of an answer that is no refusal: demand 2; the engine's line is not refused; the lowest order is carried out to its
--- end, with exactly so many steps, since that line loses no message
+-- end, with as many steps as `exactSteps` says, since that line loses no message
 pub record Succeeds (a : List ℕ) (step set : ℕ) (r : Recovered) : Type 0 where
   pub restarts : Restarts (held a) step set (r .restarted)
   pub taken : faultOf a (length a) step set (r .restarted .line) ≡ 0
   pub completed : Completed a (length a) step set (r .restarted .line) (r .replayed)
   pub exact : r .replayed .steps ≡ exactSteps (runOf a step (r .restarted .line))
-  pub most : Most a (r .replayed)
+  pub at-most : StepsAtMost a step (r .restarted .line) (r .replayed)
   pub few : r .counted .orphans + (r .counted .kept + r .counted .lost) ≤ 2048

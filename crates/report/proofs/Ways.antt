@@ -1,5 +1,5 @@
 -- Each way out of `report`: what is written is what the text's definition prints.
-use Prim.Native.Nat.{ℕ, zero, suc, _<_, _≤_}
+use Prim.Native.Nat.{ℕ, _<_, _≤_}
 use mathlib.Core.Path.{_≡_, refl, sym, ap, subst, _∙_}
 use mathlib.Core.Bool.{true}
 use mathlib.Core.List.{List}
@@ -22,24 +22,21 @@ use Rattle.restart.specs.Restart.{restartOf, restartRefusal, restartAnswer, Res
 use Rattle.restart.proofs.Restarting.{Ready}
 use Rattle.writer.specs.Buffer.{Puts, room, written}
 use Rattle.writer.proofs.Buffers.{same-bytes, whole}
-use Rattle.report.specs.Report.{Answer, refused, given, unless, failureOf, recoveryFor, recovery, printedOf, printed, PrintedSteps, reportBytes}
+use Rattle.report.specs.Report.{refused, given, failureOf, recoveryFor, recovery, printedOf, printed, StepsPrinted, reportBytes}
 use Rattle.printing.specs.Lines.{refusalLine}
-use Rattle.report.proofs.Steps.{printed-steps}
+use Rattle.report.proofs.Answers.{unless-some}
+use Rattle.report.proofs.Steps.{steps-printed}
 
 -- from what was written to the contract
 pub answered : (x text out after : List ℕ) (n : ℕ) → x ≡ printed text → length x ≤ reportBytes → Puts x out 0 after n
     → (n ≡ length (room (printed text) out))
-    × ((after ≡ written (printed text) out) × (PrintedSteps text × (length (printed text) ≤ reportBytes)))
+    × ((after ≡ written (printed text) out) × (StepsPrinted text × (length (printed text) ≤ reportBytes)))
 answered x text out after n e l h =
-    let w = whole (printed text) out after n (same-bytes x (printed text) out after 0 n e h) in (w .1, (w .0, (printed-steps text, rw e at l)))
+    let w = whole (printed text) out after n (same-bytes x (printed text) out after 0 n e h) in (w .1, (w .0, (steps-printed text, rw e at l)))
 
 pub too-long : (text : List ℕ) → 65536 < length text → refusalLine 1 0 ≡ printed text
 unfolding printed printedOf
 too-long text h = rw (lt-ltb 65536 (length text) h)
-
-unless-some : {A : Type 0} (n : ℕ) (a : Answer A) → (n ≡ 0 → ⊥) → unless n a ≡ refused n 0
-unless-some zero a h = absurd (h refl)
-unless-some (suc n) a h = refl
 
 module _ (text : List ℕ) (short : length text ≤ 65536) (before : List ℕ) (room-is : length before ≡ 16384)
     (r : FailureAnswer) (hr : r ≡ failureAnswer text before) where

@@ -3,17 +3,16 @@
 use mathlib.Core.Path.{_≡_}
 use mathlib.Core.List.{List, [], _∷_, _++_}
 use mathlib.Core.Bool.{not}
-use Prim.Native.Nat.{ℕ, zero, suc, _*_, _≤_}
+use Prim.Native.Nat.{ℕ, zero, suc, _≤_}
 use Prim.Native.String.{String}
 use lib.ListN.{length, getD}
 use lib.Dec.{ltb, eqb}
 use Rattle.trace.specs.Trace.{Trace}
 use Rattle.reader.specs.Failure.{Failing, failureOf as lastFailure}
 use Rattle.theory.specs.Lists.{pick, keep}
-use Rattle.theory.specs.Events.{size}
 use Rattle.theory.specs.Epochs.{past}
 use Rattle.theory.specs.Line.{inSet, Run, recorded, current, reached, greatestLine}
-use Rattle.theory.specs.Order.{steps, lowestOrder}
+use Rattle.theory.specs.Order.{steps, mostSteps, lowestOrder}
 use Rattle.theory.specs.Answers.{lineOf, Listed, gather, orphans, keptOnes, exactSteps}
 use Rattle.theory.specs.Refusals.{failureFault}
 use Rattle.printing.specs.Lines.{processLine, messageLine, totalLine, refusalLine, keyOrphan, keyKept}
@@ -117,14 +116,16 @@ printedOf (given r) =
 unfoldable pub printed : List ℕ → List ℕ
 printed text = printedOf (pick (ltb 65536 (length text)) (refused 1 0) (recovery text))
 
--- Document 02, item 2, of `steps=` in the total line: the engine's line loses no message and the lowest order is
--- complete, so that it is exact; and at most twice the number of events
-abbrev pub ExactlyFor : Failure → Type 0
-ExactlyFor f =
-    (recoveryOf f .steps ≡ exactSteps (runOf f (engineLine f))) × (recoveryOf f .steps ≤ 2 * size (f .trace))
+-- Document 02, item 2, of what is printed: the engine's line loses no message and the lowest order is complete, so that
+-- `steps=` in the last line is exact; and at most twice the number of events
+abbrev pub EndsExactly : Failure → List ℕ → Type 0
+EndsExactly f bytes =
+    let r = recoveryOf f in
+    let n = exactSteps (runOf f (engineLine f)) in
+    ((front : List ℕ) × (bytes ≡ front ++ totalLine (r .back) (length (r .orphans)) (length (r .kept)) n)) × (n ≤ mostSteps (f .trace))
 
-abbrev pub PrintedSteps : List ℕ → Type 0
-PrintedSteps text = (f : Failure) → failureOf text ≡ given f → ExactlyFor f
+abbrev pub StepsPrinted : List ℕ → Type 0
+StepsPrinted text = (f : Failure) → length text ≤ 65536 → failureOf text ≡ given f → EndsExactly f (printed text)
 
 -- a buffer of so many bytes holds every report
 abbrev pub reportBytes : ℕ

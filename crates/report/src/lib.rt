@@ -6,7 +6,7 @@ ghost use lib.ListN.{length};
 ghost use Rattle.words.specs.Area.{areaWords};
 ghost use Rattle.theory.specs.Answers.{gather};
 ghost use Rattle.writer.specs.Buffer.{Puts, room, written};
-ghost use Rattle.report.specs.Report.{printed, PrintedSteps, reportBytes};
+ghost use Rattle.report.specs.Report.{printed, StepsPrinted, reportBytes};
 ghost use Rattle.report.specs.Rows.{processRow, messageRow, recoveryRows};
 ghost use Rattle.printing.specs.Rows.{messageKey};
 use recovery::Recovered;
@@ -102,7 +102,7 @@ fn put_recovery(out: &mut [u8], r: Recovered, run: &[u32]) -> usize
 pub fn report(text: &[u8], out: &mut [u8]) -> usize
     ensures length { λ r. ⌜ r ≡ length (room (printed (now (text .entry))) (now (out .entry))) ⌝ }
     ensures bytes { λ _. ⌜ now (out .exit) ≡ written (printed (now (text .entry))) (now (out .entry)) ⌝ }
-    ensures exact { λ _. ⌜ PrintedSteps (now (text .entry)) ⌝ }
+    ensures exact { λ _. ⌜ StepsPrinted (now (text .entry)) ⌝ }
     ensures few { λ _. ⌜ length (printed (now (text .entry))) ≤ reportBytes ⌝ }
 {
     if text.len() > TEXT_MOST {

@@ -4,7 +4,7 @@
 use Prim.Native.Nat.{ℕ, zero, suc, _+_, _<_, _≤_}
 use mathlib.Core.Path.{_≡_, refl, sym, ap, subst, _∙_, fun-ext}
 use mathlib.Core.Bool.{Bool, true, false}
-use mathlib.Core.List.{List, [], _∷_, _++_, map, append-nil}
+use mathlib.Core.List.{List, [], _++_, map, append-nil}
 use mathlib.Core.Option.{some}
 use native.Mathlib.Omega.{arith}
 use lib.ListN.{length, getD, take, drop, replicate, length-replicate, getD-replicate, List·getD-eq-default}
@@ -24,10 +24,9 @@ use Rattle.theory.specs.Epochs.{past}
 use Rattle.theory.specs.Laws.{Laws}
 use Rattle.theory.specs.Line.{Run, recorded, LossFree}
 use Rattle.theory.specs.Order.{Outcome, carriedOut, run, complete, lowestOrder}
-use Rattle.theory.specs.Answers.{lineOf, Listed, names, orphans, keptOnes, lostOnes, exactSteps, sameRecord}
+use Rattle.theory.specs.Answers.{lineOf, Listed, orphans, keptOnes, lostOnes, exactSteps, sameRecord}
 use Rattle.theory.specs.Refusals.{failureFault, lineFault}
-use Rattle.theory.proofs.Base.{clash, eqb-self}
-use Rattle.theory.proofs.Answers.{lost-name}
+use Rattle.theory.proofs.Answers.{lost-none}
 use Rattle.theory.proofs.Claims.{record-iff, record-test, complete-test}
 use Rattle.theory.proofs.Epochs.{laws}
 use Rattle.theory.proofs.Refusals.{failure-fit, line-fit}
@@ -50,10 +49,10 @@ use Rattle.restart.proofs.Restarting.{Answered as Restart, Ready}
 use Rattle.recovery.proofs.Taking.{not-refused}
 use Rattle.report.specs.Report.{Answer, refused, given, unless, then, Failure, runOf, Recovery, recoveryBy, engineLine, recoveryOf, recovery, failureOf}
 use Rattle.report.proofs.Found.{tabled-length, run-same, steps-are, epochs-at, phases-at, numbers-are, back-is}
-use Rattle.report.proofs.Steps.{not-given, unless-given}
+use Rattle.report.proofs.Answers.{not-given, unless-given}
 use Rattle.report.proofs.Messages.{blank, At, front-row, later-row, word-in, number-in, phase-in, orphan-row, kept-row}
 use Rattle.runs.proofs.Table.{completed}
-use Rattle.runs.specs.Answers.{losses, Replayed as Told, fault, replayOf, replay, formula}
+use Rattle.runs.specs.Answers.{losses, Replayed as Told, fault, replayOf, replay, exactStepsOf}
 
 -- ---- What the rows say. `Restart`, `Messages` and `Replay` are the contracts of those calls: what they promise of the
 -- answer, and of the run area that they leave.
@@ -132,18 +131,19 @@ Loses step set l ms t a run =
     (c : Counted) (w : List ℕ) → Messages a run step set (lineFrom l) c w → Lists (orphans R) (keptOnes R) ms c w
 
 -- `replay` with a line: every complete order, whatever its choices, has so many steps
-abbrev pub Takes : ℕ → ℕ → List ℕ → ℕ → Claim
-Takes step set l n t a run =
+abbrev pub AllHaveSteps : ℕ → ℕ → List ℕ → ℕ → Claim
+AllHaveSteps step set l n t a run =
     (order : List ℕ) (y : Replayed) (v : List ℕ) → Replay a run step set (lineFrom l) order y v → y .number ≡ 0 → y .complete ≡ true → y .steps ≡ n
 
--- `replay` with a line and an order: complete after so many steps, whatever the record, or with that of the run without
--- failure; or 11 at a place
-abbrev pub Ends : ℕ → ℕ → List ℕ → List ℕ → ℕ → Claim
-Ends step set l order n t a run = (y : Replayed) (v : List ℕ) → Replay a run step set (lineFrom l) order y v → Finished n y
+-- `replay` with a line and an order: complete after so many steps
+abbrev pub Finishes : ℕ → ℕ → List ℕ → List ℕ → ℕ → Claim
+Finishes step set l order n t a run = (y : Replayed) (v : List ℕ) → Replay a run step set (lineFrom l) order y v → Finished n y
 
+-- and with the record of the run without failure
 abbrev pub Completes : ℕ → ℕ → List ℕ → List ℕ → ℕ → Claim
 Completes step set l order n t a run = (y : Replayed) (v : List ℕ) → Replay a run step set (lineFrom l) order y v → Done t n y v
 
+-- or 11 at a place
 abbrev pub Stops : ℕ → ℕ → List ℕ → List ℕ → ℕ → Claim
 Stops step set l order i t a run =
     (y : Replayed) (v : List ℕ) → Replay a run step set (lineFrom l) order y v
@@ -165,12 +165,6 @@ unless-placed zero y m i h = (refl, h)
 unless-placed (suc n) y m i h = absurd (let z : _≡_ {A = ℕ} 0 (suc i) = cc in let w : ⊥ = omega arith in w)
 
 -- ---- The messages of a line that is not refused
-
--- a list that names no message is empty
-none-named : (ms : List Listed) → ((p q k : ℕ) → names p q k ms ≡ false) → ms ≡ []
-unfolding names
-none-named [] h = refl
-none-named (m ∷ ms) h = clash {b = true} refl (rw (eqb-self (m .from), eqb-self (m .to), eqb-self (m .number)) at (h (m .from) (m .to) (m .number)))
 
 module _ (a run : List ℕ) (step set : ℕ) (l : Line) (R : Run) (same : codeRun a step l ≡ R) (few : R .trace .procs ≤ 64)
     (ok : faultOf a (length run) step set l ≡ 0) (c : Counted) (w : List ℕ) (M : Messages a run step set l c w) where
@@ -290,7 +284,7 @@ module _ (text a : List ℕ) (step set : ℕ) (holds : holdsTrace a ≡ true) (e
     none-lost : lostOnes R ≡ []
     none-lost =
         let L : Laws R = laws t past (held-valid a holds) step (lineOf (engineLine f)) (failure-fit t step set .0 (taken .0) .step-most) in
-        none-named (lostOnes R) (λ p q k. lost-name R L p q k ∙ loss-free p q k)
+        lost-none R L .1 loss-free
 
     restarts : Restored t x r
     unfolding recoveryBy
@@ -360,22 +354,20 @@ module _ (text a : List ℕ) (step set : ℕ) (holds : holdsTrace a ≡ true) (e
 
     -- a line that loses no message, and the steps of its complete orders
     lost-nothing : losses text l ≡ given [] → LossFree (runOf f l)
-    unfolding names
-    lost-nothing h p q k =
+    lost-nothing h =
         let (z, _, n) = told-lost [] h in
-        let L : Laws (runOf f l) = laws t past (held-valid a holds) step (lineOf l) (failure-fit t step set .0 z .step-most) in
-        sym (lost-name (runOf f l) L p q k) ∙ ap (names p q k) n
+        lost-none (runOf f l) (laws t past (held-valid a holds) step (lineOf l) (failure-fit t step set .0 z .step-most)) .0 n
 
-    formula-is : (n : ℕ) → formula text l ≡ given n → exactSteps (runOf f l) ≡ n
-    unfolding formula failureOf
-    formula-is n h =
+    exact-is : (n : ℕ) → exactStepsOf text l ≡ given n → exactSteps (runOf f l) ≡ n
+    unfolding exactStepsOf failureOf
+    exact-is n h =
         let u = then-given (failureFault t step set) f (λ g. unless (fault g l) (given (exactSteps (runOf g l)))) n (rw e at h) in
         let v = unless-given (fault f l) (given (exactSteps (runOf f l))) n (u .1) in
         let p = v .1 in cc
 
-    steps-so-many : (n : ℕ) → losses text l ≡ given [] → formula text l ≡ given n → Takes step set l n t a run₀
+    steps-so-many : (n : ℕ) → losses text l ≡ given [] → exactStepsOf text l ≡ given n → AllHaveSteps step set l n t a run₀
     steps-so-many n h k order y v P z c =
-        P .1 .1 .1 .0 z c (subst LossFree (sym run-is) (lost-nothing h)) ∙ ap exactSteps run-is ∙ formula-is n k
+        P .1 .1 .1 .0 z c (subst LossFree (sym run-is) (lost-nothing h)) ∙ ap exactSteps run-is ∙ exact-is n k
 
     module _ (order : List ℕ) (y : Replayed) (v : List ℕ) (P : Replay a run₀ step set (lineFrom l) order y v) where
       abbrev S : Run
@@ -479,13 +471,13 @@ module _ (text : List ℕ) where
       pub loses : (ms : List Listed) → losses text l ≡ given ms → OnTable t (Loses step set l ms)
       loses ms h = by-area (Loses step set l ms) (λ a run₀ o q n. lost-are text a step set o q l short run₀ n ms h)
 
-      pub takes : (n : ℕ) → losses text l ≡ given [] → formula text l ≡ given n → OnTable t (Takes step set l n)
-      takes n h k = by-area (Takes step set l n) (λ a run₀ o q m. steps-so-many text a step set o q l short run₀ m n h k)
+      pub all-have-steps : (n : ℕ) → losses text l ≡ given [] → exactStepsOf text l ≡ given n → OnTable t (AllHaveSteps step set l n)
+      all-have-steps n h k = by-area (AllHaveSteps step set l n) (λ a run₀ o q m. steps-so-many text a step set o q l short run₀ m n h k)
 
-      pub ends : (order : List ℕ) (n : ℕ) (b : Bool) → replay text l order ≡ given (record { complete = true; equal = b; steps = n })
-          → OnTable t (Ends step set l order n)
-      ends order n b h =
-          by-area (Ends step set l order n) (λ a run₀ o q m y v P. replayed text a step set o q l short run₀ m order y v P _ h .0)
+      pub finishes : (order : List ℕ) (n : ℕ) (b : Bool) → replay text l order ≡ given (record { complete = true; equal = b; steps = n })
+          → OnTable t (Finishes step set l order n)
+      finishes order n b h =
+          by-area (Finishes step set l order n) (λ a run₀ o q m y v P. replayed text a step set o q l short run₀ m order y v P _ h .0)
 
       pub completes : (order : List ℕ) (n : ℕ) → replay text l order ≡ completed n → OnTable t (Completes step set l order n)
       completes order n h =

@@ -1,5 +1,6 @@
 -- The runs R1 to R12 of document 01, now of the code: what its public functions answer and leave, by their contracts.
--- The same rows as in Table, from which they follow by the laws of Calls. A table area and a run area are any that the
+-- The same rows as in Table, from which they follow by the laws of Calls; that every complete order has the steps of
+-- document 02's formula, by the contract of `replay` alone. A table area and a run area are any that the
 -- caller lends, of 16,384 words or more.
 use Prim.Native.Nat.{ℕ, _≤_}
 use Prim.Native.String.{String}
@@ -20,7 +21,7 @@ use Rattle.printing.specs.Bytes.{linesOf}
 use Rattle.report.specs.Report.{printed}
 use Rattle.runs.specs.Texts.{linesH, linesL, linesS, linesT, linesFirst, failing, textH}
 use Rattle.runs.proofs.Table.{reads, message, traceH, traceL, traceS, traceT, printed1, recovery1, recovery4, recovery5, recovery7, recovery8, recovery9, recovery10, table}
-use Rattle.runs.proofs.Calls.{cleared, Accepts, Reads, OnTable, Recovers, Refuses, Loses, Takes, Ends, Completes, Stops, accepts, read-refused, failure-refused, recovers, refuses, loses, takes, ends, completes, stops, reads as reads-failure}
+use Rattle.runs.proofs.Calls.{cleared, Accepts, Reads, OnTable, Recovers, Refuses, Loses, AllHaveSteps, Finishes, Completes, Stops, accepts, read-refused, failure-refused, recovers, refuses, loses, all-have-steps, finishes, completes, stops, reads as reads-failure}
 
 -- `report` writes these lines: into a buffer `out`, which it leaves as `after`, and it answers n
 abbrev pub Prints : List ℕ → List String → Type 0
@@ -82,27 +83,45 @@ C1 =
     × Accepts (linesOf linesH) traceH
     × Reads textH traceH 9 2
     × OnTable traceH (Recovers 9 2 recovery1)
+    × OnTable traceH (AllHaveSteps 9 2 (2 ∷ 2 ∷ 32 ∷ []) 4)
 
 c1 : C1
 c1 =
-    let (p, v, f, x) = table .0 in
-    (prints textH printed1 p, accepts (linesOf linesH) traceH v, reads-failure textH traceH 9 2 fails1, recovers textH traceH 9 2 fails1 recovery1 x)
+    let (p, v, f, x, s) = table .0 in (
+      prints textH printed1 p,
+      accepts (linesOf linesH) traceH v,
+      reads-failure textH traceH 9 2 fails1,
+      recovers textH traceH 9 2 fails1 recovery1 x,
+      all-have-steps textH traceH 9 2 fails1 (2 ∷ 2 ∷ 32 ∷ []) (omega arith) 4 (s .0) (s .1),
+    )
 
--- "R2: H with line 32,2,32 loses message 2 from 0 to 1."
+-- "R2: H with line 32,2,32 loses message 2 from 0 to 1."; order 1 is complete with 1 step
 abbrev pub C2 : Type 0
-C2 = OnTable traceH (Loses 9 2 (32 ∷ 2 ∷ 32 ∷ []) (message 0 1 2 2 ∷ []))
+C2 =
+    OnTable traceH (Loses 9 2 (32 ∷ 2 ∷ 32 ∷ []) (message 0 1 2 2 ∷ []))
+    × OnTable traceH (Finishes 9 2 (32 ∷ 2 ∷ 32 ∷ []) (1 ∷ []) 1)
 
 c2 : C2
-c2 = loses textH traceH 9 2 fails1 (32 ∷ 2 ∷ 32 ∷ []) (omega arith) (message 0 1 2 2 ∷ []) (table .1)
+c2 =
+    let (x, _, y) = table .1 in
+    (loses textH traceH 9 2 fails1 (32 ∷ 2 ∷ 32 ∷ []) (omega arith) (message 0 1 2 2 ∷ []) x, finishes textH traceH 9 2 fails1 (32 ∷ 2 ∷ 32 ∷ []) (omega arith) (1 ∷ []) 1 false y)
 
 -- "R3: H with 1,1,32 loses none, and isn't the greatest.": `restart`, whose line is the greatest, gives another
 abbrev pub C3 : Type 0
 C3 =
     OnTable traceH (Loses 9 2 (1 ∷ 1 ∷ 32 ∷ []) [])
     × OnTable traceH (λ t a run. (r : Restarted) → Restart a 9 2 r → numbersOf (r .line) ≡ 1 ∷ 1 ∷ 32 ∷ [] → ⊥)
+    × OnTable traceH (AllHaveSteps 9 2 (1 ∷ 1 ∷ 32 ∷ []) 8)
+    × OnTable traceH (Completes 9 2 (1 ∷ 1 ∷ 32 ∷ []) (0 ∷ 0 ∷ 0 ∷ 1 ∷ 1 ∷ 1 ∷ 1 ∷ 1 ∷ []) 8)
 
 c3 : C3
-c3 = (loses textH traceH 9 2 fails1 (1 ∷ 1 ∷ 32 ∷ []) (omega arith) [] (table .2 .0), another)
+c3 =
+    let (s, _, y) = table .2 in (
+      loses textH traceH 9 2 fails1 (1 ∷ 1 ∷ 32 ∷ []) (omega arith) [] (s .0),
+      another,
+      all-have-steps textH traceH 9 2 fails1 (1 ∷ 1 ∷ 32 ∷ []) (omega arith) 8 (s .0) (s .1),
+      completes textH traceH 9 2 fails1 (1 ∷ 1 ∷ 32 ∷ []) (omega arith) (0 ∷ 0 ∷ 0 ∷ 1 ∷ 1 ∷ 1 ∷ 1 ∷ 1 ∷ []) 8 y,
+    )
   where
     another : OnTable traceH (λ t a run. (r : Restarted) → Restart a 9 2 r → numbersOf (r .line) ≡ 1 ∷ 1 ∷ 32 ∷ [] → ⊥)
     another a run h n r A e =
@@ -112,10 +131,16 @@ c3 = (loses textH traceH 9 2 fails1 (1 ∷ 1 ∷ 32 ∷ []) (omega arith) [] (ta
 
 -- "R4: H, step 0, set 1: line 1,32,32, 9 steps."
 abbrev pub C4 : Type 0
-C4 = Reads (failing linesH "fail=0 set=1") traceH 0 1 × OnTable traceH (Recovers 0 1 recovery4)
+C4 =
+    Reads (failing linesH "fail=0 set=1") traceH 0 1
+    × OnTable traceH (Recovers 0 1 recovery4)
+    × OnTable traceH (AllHaveSteps 0 1 (1 ∷ 32 ∷ 32 ∷ []) 9)
 
 c4 : C4
-c4 = let text = failing linesH "fail=0 set=1" in (reads-failure text traceH 0 1 fails4, recovers text traceH 0 1 fails4 recovery4 (table .3))
+c4 =
+    let text = failing linesH "fail=0 set=1" in
+    let (x, s) = table .3 in
+    (reads-failure text traceH 0 1 fails4, recovers text traceH 0 1 fails4 recovery4 x, all-have-steps text traceH 0 1 fails4 (1 ∷ 32 ∷ 32 ∷ []) (omega arith) 9 (s .0) (s .1))
 
 -- "Trace L: two zones; send 0 to 1, save 1, receive. R5: step 3, set 2: line 32,2, the message kept in phase 1, order
 -- 65,1 complete."
@@ -125,15 +150,17 @@ C5 =
     × Reads (failing linesL "fail=3 set=2") traceL 3 2
     × OnTable traceL (Recovers 3 2 recovery5)
     × OnTable traceL (Completes 3 2 (32 ∷ 2 ∷ []) (65 ∷ 1 ∷ []) 2)
+    × OnTable traceL (AllHaveSteps 3 2 (32 ∷ 2 ∷ []) 2)
 
 c5 : C5
 c5 =
     let text = failing linesL "fail=3 set=2" in
-    let (v, x, y) = table .4 in (
+    let (v, x, y, s) = table .4 in (
       accepts (linesOf linesL) traceL v,
       reads-failure text traceL 3 2 fails5,
       recovers text traceL 3 2 fails5 recovery5 x,
       completes text traceL 3 2 fails5 (32 ∷ 2 ∷ []) (omega arith) (65 ∷ 1 ∷ []) 2 y,
+      all-have-steps text traceL 3 2 fails5 (32 ∷ 2 ∷ []) (omega arith) 2 (s .0) (s .1),
     )
 
 -- "R6: order 1 alone is 11 at place 1."
@@ -149,19 +176,30 @@ C7 =
     Accepts (linesOf linesS) traceS
     × Reads (failing linesS "fail=3 set=2") traceS 3 2
     × OnTable traceS (Recovers 3 2 recovery7)
+    × OnTable traceS (AllHaveSteps 3 2 (2 ∷ 1 ∷ []) 2)
 
 c7 : C7
 c7 =
     let text = failing linesS "fail=3 set=2" in
-    let (v, x) = table .6 in
-    (accepts (linesOf linesS) traceS v, reads-failure text traceS 3 2 fails7, recovers text traceS 3 2 fails7 recovery7 x)
+    let (v, x, s) = table .6 in (
+      accepts (linesOf linesS) traceS v,
+      reads-failure text traceS 3 2 fails7,
+      recovers text traceS 3 2 fails7 recovery7 x,
+      all-have-steps text traceS 3 2 fails7 (2 ∷ 1 ∷ []) (omega arith) 2 (s .0) (s .1),
+    )
 
 -- "R8: step 3, set 1: line 2,32, one orphan of phase 2, 1 step."
 abbrev pub C8 : Type 0
-C8 = Reads (failing linesS "fail=3 set=1") traceS 3 1 × OnTable traceS (Recovers 3 1 recovery8)
+C8 =
+    Reads (failing linesS "fail=3 set=1") traceS 3 1
+    × OnTable traceS (Recovers 3 1 recovery8)
+    × OnTable traceS (AllHaveSteps 3 1 (2 ∷ 32 ∷ []) 1)
 
 c8 : C8
-c8 = let text = failing linesS "fail=3 set=1" in (reads-failure text traceS 3 1 fails8, recovers text traceS 3 1 fails8 recovery8 (table .7))
+c8 =
+    let text = failing linesS "fail=3 set=1" in
+    let (x, s) = table .7 in
+    (reads-failure text traceS 3 1 fails8, recovers text traceS 3 1 fails8 recovery8 x, all-have-steps text traceS 3 1 fails8 (2 ∷ 32 ∷ []) (omega arith) 1 (s .0) (s .1))
 
 -- "Trace T: two zones; send 0 to 1, receive. R9: step 1, set 2: line 32,1, one kept, order 65,1."
 abbrev pub C9 : Type 0
@@ -170,15 +208,17 @@ C9 =
     × Reads (failing linesT "fail=1 set=2") traceT 1 2
     × OnTable traceT (Recovers 1 2 recovery9)
     × OnTable traceT (Completes 1 2 (32 ∷ 1 ∷ []) (65 ∷ 1 ∷ []) 2)
+    × OnTable traceT (AllHaveSteps 1 2 (32 ∷ 1 ∷ []) 2)
 
 c9 : C9
 c9 =
     let text = failing linesT "fail=1 set=2" in
-    let (v, x, y) = table .8 in (
+    let (v, x, y, s) = table .8 in (
       accepts (linesOf linesT) traceT v,
       reads-failure text traceT 1 2 fails9,
       recovers text traceT 1 2 fails9 recovery9 x,
       completes text traceT 1 2 fails9 (32 ∷ 1 ∷ []) (omega arith) (65 ∷ 1 ∷ []) 2 y,
+      all-have-steps text traceT 1 2 fails9 (32 ∷ 1 ∷ []) (omega arith) 2 (s .0) (s .1),
     )
 
 -- "R10: step 1, set 1: line 1,32, none kept, order 0,1."
@@ -187,12 +227,17 @@ C10 =
     Reads (failing linesT "fail=1 set=1") traceT 1 1
     × OnTable traceT (Recovers 1 1 recovery10)
     × OnTable traceT (Completes 1 1 (1 ∷ 32 ∷ []) (0 ∷ 1 ∷ []) 2)
+    × OnTable traceT (AllHaveSteps 1 1 (1 ∷ 32 ∷ []) 2)
 
 c10 : C10
 c10 =
     let text = failing linesT "fail=1 set=1" in
-    let (x, y) = table .9 in
-    (reads-failure text traceT 1 1 fails10, recovers text traceT 1 1 fails10 recovery10 x, completes text traceT 1 1 fails10 (1 ∷ 32 ∷ []) (omega arith) (0 ∷ 1 ∷ []) 2 y)
+    let (x, y, s) = table .9 in (
+      reads-failure text traceT 1 1 fails10,
+      recovers text traceT 1 1 fails10 recovery10 x,
+      completes text traceT 1 1 fails10 (1 ∷ 32 ∷ []) (omega arith) (0 ∷ 1 ∷ []) 2 y,
+      all-have-steps text traceT 1 1 fails10 (1 ∷ 32 ∷ []) (omega arith) 2 (s .0) (s .1),
+    )
 
 -- "R11: H with set 0 or 8 is 9."
 abbrev pub C11 : Type 0
@@ -226,39 +271,7 @@ c12 =
     let (v, p) = table .11 in
     (read-refused (linesOf linesFirst) 5 2 v, failure-refused text 5 2 refused12, prints text ("refused=5 place=2" ∷ []) p)
 
--- Document 02, item 2: every complete order from the lines of R1, R3 to R5 and R7 to R10, whatever its choices, has the
--- formula's steps; order 1 from that of R2, which loses a message, is complete with fewer
-abbrev pub CodeByFormula : Type 0
-CodeByFormula =
-    OnTable traceH (Takes 9 2 (2 ∷ 2 ∷ 32 ∷ []) 4)
-    × OnTable traceH (Ends 9 2 (32 ∷ 2 ∷ 32 ∷ []) (1 ∷ []) 1)
-    × (OnTable traceH (Takes 9 2 (1 ∷ 1 ∷ 32 ∷ []) 8)
-    × OnTable traceH (Completes 9 2 (1 ∷ 1 ∷ 32 ∷ []) (0 ∷ 0 ∷ 0 ∷ 1 ∷ 1 ∷ 1 ∷ 1 ∷ 1 ∷ []) 8))
-    × OnTable traceH (Takes 0 1 (1 ∷ 32 ∷ 32 ∷ []) 9)
-    × OnTable traceL (Takes 3 2 (32 ∷ 2 ∷ []) 2)
-    × OnTable traceS (Takes 3 2 (2 ∷ 1 ∷ []) 2)
-    × OnTable traceS (Takes 3 1 (2 ∷ 32 ∷ []) 1)
-    × OnTable traceT (Takes 1 2 (32 ∷ 1 ∷ []) 2)
-    × OnTable traceT (Takes 1 1 (1 ∷ 32 ∷ []) 2)
-
-code-by-formula : CodeByFormula
-code-by-formula =
-    let (f1, f2, f3, f4, f5, f7, f8, f9, f10) = table .12 in (
-      takes textH traceH 9 2 fails1 (2 ∷ 2 ∷ 32 ∷ []) (omega arith) 4 (f1 .0) (f1 .1),
-      ends textH traceH 9 2 fails1 (32 ∷ 2 ∷ 32 ∷ []) (omega arith) (1 ∷ []) 1 false (f2 .1),
-      (
-        takes textH traceH 9 2 fails1 (1 ∷ 1 ∷ 32 ∷ []) (omega arith) 8 (f3 .0 .0) (f3 .0 .1),
-        completes textH traceH 9 2 fails1 (1 ∷ 1 ∷ 32 ∷ []) (omega arith) (0 ∷ 0 ∷ 0 ∷ 1 ∷ 1 ∷ 1 ∷ 1 ∷ 1 ∷ []) 8 (f3 .1),
-      ),
-      takes (failing linesH "fail=0 set=1") traceH 0 1 fails4 (1 ∷ 32 ∷ 32 ∷ []) (omega arith) 9 (f4 .0) (f4 .1),
-      takes (failing linesL "fail=3 set=2") traceL 3 2 fails5 (32 ∷ 2 ∷ []) (omega arith) 2 (f5 .0) (f5 .1),
-      takes (failing linesS "fail=3 set=2") traceS 3 2 fails7 (2 ∷ 1 ∷ []) (omega arith) 2 (f7 .0) (f7 .1),
-      takes (failing linesS "fail=3 set=1") traceS 3 1 fails8 (2 ∷ 32 ∷ []) (omega arith) 1 (f8 .0) (f8 .1),
-      takes (failing linesT "fail=1 set=2") traceT 1 2 fails9 (32 ∷ 1 ∷ []) (omega arith) 2 (f9 .0) (f9 .1),
-      takes (failing linesT "fail=1 set=1") traceT 1 1 fails10 (1 ∷ 32 ∷ []) (omega arith) 2 (f10 .0) (f10 .1),
-    )
-
 -- ---- "Marked R1 to R12, to be proved together in one table"
 
-pub code-table : C1 × C2 × C3 × C4 × C5 × C6 × C7 × C8 × C9 × C10 × C11 × C12 × CodeByFormula
-code-table = (c1, c2, c3, c4, c5, c6, c7, c8, c9, c10, c11, c12, code-by-formula)
+pub code-table : C1 × C2 × C3 × C4 × C5 × C6 × C7 × C8 × C9 × C10 × C11 × C12
+code-table = (c1, c2, c3, c4, c5, c6, c7, c8, c9, c10, c11, c12)

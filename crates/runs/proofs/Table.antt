@@ -1,4 +1,5 @@
--- The runs R1 to R12 of document 01 ("Runs to check"), each computed from its text, and all of them together.
+-- The runs R1 to R12 of document 01 ("Runs to check"), each computed from its text, with its steps by the formula of
+-- document 02, item 2, and all of them together.
 use mathlib.Core.Path.{_≡_, refl}
 use mathlib.Core.Bool.{true, false}
 use mathlib.Core.List.{List, [], _∷_, _++_}
@@ -25,11 +26,11 @@ use Rattle.printing.specs.Bytes.{bytesOf, linesOf}
 use Rattle.runs.specs.Texts.{linesH, linesL, linesS, linesT, linesFirst, failing, textH}
 use Rattle.report.specs.Report.{Answer, refused, given, Failure, failureOf, Recovery, engineLine, recoveryBy, recovery, messageLines, printedOf, printed}
 use Rattle.printing.specs.Lines.{processLine, messageLine, totalLine, refusalLine}
-use Rattle.runs.specs.Answers.{losses, Replayed, replay, formula}
+use Rattle.runs.specs.Answers.{losses, Replayed, replay, exactStepsOf}
 
 -- all that a row computes with, beside what the theory's rows do: `opens`
 unfoldable pub reads : ℕ
-unfolding bytesOf linesOf failing startsWith fieldAt isDigit pushed digitsFrom numberAt lastDigits procsOf sendOf recvOf saveOf failOf lineIn pieces faultHere judgeEvent judge linesFrom scanPieces scan verdict lastFailure failureFault permits lineFault failureOf losses replay formula engineLine recoveryBy recovery processLine messageLine messageLines totalLine refusalLine printedOf printed
+unfolding bytesOf linesOf failing startsWith fieldAt isDigit pushed digitsFrom numberAt lastDigits procsOf sendOf recvOf saveOf failOf lineIn pieces faultHere judgeEvent judge linesFrom scanPieces scan verdict lastFailure failureFault permits lineFault failureOf losses replay exactStepsOf engineLine recoveryBy recovery processLine messageLine messageLines totalLine refusalLine printedOf printed
 reads = 0
 
 -- a trace of two processes
@@ -52,6 +53,10 @@ GreatestOf l f = Greatest (f .trace) past (f .step) (reached (f .trace) past (f 
 -- an order of so many steps that is complete and leaves the record of the run without failure
 abbrev pub completed : ℕ → Answer Replayed
 completed n = given (record { complete = true; equal = true; steps = n })
+
+-- a line loses no message, and the formula gives so many steps
+abbrev pub StepsFrom : List ℕ → List ℕ → ℕ → Type 0
+StepsFrom text l n = (losses text l ≡ given []) × (exactStepsOf text l ≡ given n)
 
 -- ---- The rows
 
@@ -81,22 +86,30 @@ R1 =
     × (verdict (linesOf linesH) ≡ accepted traceH)
     × (failureOf textH ≡ given (record { trace = traceH; step = 9; failed = 2 }))
     × (recovery textH ≡ given recovery1)
+    × StepsFrom textH (recovery1 .line) (recovery1 .steps)
 
 r1 : R1
 unfolding opens reads
-r1 = (refl, refl, refl, refl)
+r1 = (refl, refl, refl, refl, (refl, refl))
 
--- "R2: H with line 32,2,32 loses message 2 from 0 to 1."
+-- "R2: H with line 32,2,32 loses message 2 from 0 to 1." So the formula does not hold: order 1 is complete with 1 step,
+-- where it gives 3
 abbrev pub R2 : Type 0
-R2 = losses textH (32 ∷ 2 ∷ 32 ∷ []) ≡ given (message 0 1 2 2 ∷ [])
+R2 =
+    (losses textH (32 ∷ 2 ∷ 32 ∷ []) ≡ given (message 0 1 2 2 ∷ []))
+    × (exactStepsOf textH (32 ∷ 2 ∷ 32 ∷ []) ≡ given 3)
+    × (replay textH (32 ∷ 2 ∷ 32 ∷ []) (1 ∷ []) ≡ given (record { complete = true; equal = false; steps = 1 }))
 
 r2 : R2
 unfolding opens reads
-r2 = refl
+r2 = (refl, refl, refl)
 
--- "R3: H with 1,1,32 loses none, and isn't the greatest."
+-- "R3: H with 1,1,32 loses none, and isn't the greatest." An order of 8 steps is complete
 abbrev pub R3 : Type 0
-R3 = (losses textH (1 ∷ 1 ∷ 32 ∷ []) ≡ given []) × Of (failureOf textH) (λ f. GreatestOf (1 ∷ 1 ∷ 32 ∷ []) f → ⊥)
+R3 =
+    StepsFrom textH (1 ∷ 1 ∷ 32 ∷ []) 8
+    × Of (failureOf textH) (λ f. GreatestOf (1 ∷ 1 ∷ 32 ∷ []) f → ⊥)
+    × (replay textH (1 ∷ 1 ∷ 32 ∷ []) (0 ∷ 0 ∷ 0 ∷ 1 ∷ 1 ∷ 1 ∷ 1 ∷ 1 ∷ []) ≡ completed 8)
 
 -- the greatest has 2 for process 0, and there is one only
 not-greatest : GreatestOf (1 ∷ 1 ∷ 32 ∷ []) (record { trace = traceH; step = 9; failed = 2 }) → ⊥
@@ -113,18 +126,20 @@ not-greatest g =
 
 r3 : R3
 unfolding opens reads
-r3 = (refl, not-greatest)
+r3 = ((refl, refl), not-greatest, refl)
 
 -- "R4: H, step 0, set 1: line 1,32,32, 9 steps."
 abbrev pub recovery4 : Recovery
 recovery4 = record { epochs = 1 ∷ 1 ∷ 1 ∷ []; line = 1 ∷ 32 ∷ 32 ∷ []; phases = 1 ∷ 1 ∷ 1 ∷ []; orphans = []; kept = []; back = 1; steps = 9 }
 
 abbrev pub R4 : Type 0
-R4 = recovery (failing linesH "fail=0 set=1") ≡ given recovery4
+R4 =
+    let text = failing linesH "fail=0 set=1" in
+    (recovery text ≡ given recovery4) × StepsFrom text (recovery4 .line) (recovery4 .steps)
 
 r4 : R4
 unfolding opens reads
-r4 = refl
+r4 = (refl, (refl, refl))
 
 -- "Trace L: two zones; send 0 to 1, save 1, receive. R5: step 3, set 2: line 32,2, the message kept in phase 1, order
 -- 65,1 complete."
@@ -139,10 +154,11 @@ R5 =
     (verdict (linesOf linesL) ≡ accepted traceL)
     × (recovery (failing linesL "fail=3 set=2") ≡ given recovery5)
     × (replay (failing linesL "fail=3 set=2") (32 ∷ 2 ∷ []) (65 ∷ 1 ∷ []) ≡ completed 2)
+    × StepsFrom (failing linesL "fail=3 set=2") (recovery5 .line) (recovery5 .steps)
 
 r5 : R5
 unfolding opens reads
-r5 = (refl, refl, refl)
+r5 = (refl, refl, refl, (refl, refl))
 
 -- "R6: order 1 alone is 11 at place 1."
 abbrev pub R6 : Type 0
@@ -163,21 +179,24 @@ abbrev pub R7 : Type 0
 R7 =
     (verdict (linesOf linesS) ≡ accepted traceS)
     × (recovery (failing linesS "fail=3 set=2") ≡ given recovery7)
+    × StepsFrom (failing linesS "fail=3 set=2") (recovery7 .line) (recovery7 .steps)
 
 r7 : R7
 unfolding opens reads
-r7 = (refl, refl)
+r7 = (refl, refl, (refl, refl))
 
 -- "R8: step 3, set 1: line 2,32, one orphan of phase 2, 1 step."
 abbrev pub recovery8 : Recovery
 recovery8 = record { epochs = 2 ∷ 1 ∷ []; line = 2 ∷ 32 ∷ []; phases = 2 ∷ 2 ∷ []; orphans = message 0 1 1 2 ∷ []; kept = []; back = 1; steps = 1 }
 
 abbrev pub R8 : Type 0
-R8 = recovery (failing linesS "fail=3 set=1") ≡ given recovery8
+R8 =
+    let text = failing linesS "fail=3 set=1" in
+    (recovery text ≡ given recovery8) × StepsFrom text (recovery8 .line) (recovery8 .steps)
 
 r8 : R8
 unfolding opens reads
-r8 = refl
+r8 = (refl, (refl, refl))
 
 -- "Trace T: two zones; send 0 to 1, receive. R9: step 1, set 2: line 32,1, one kept, order 65,1."
 abbrev pub traceT : Trace
@@ -191,10 +210,11 @@ R9 =
     (verdict (linesOf linesT) ≡ accepted traceT)
     × (recovery (failing linesT "fail=1 set=2") ≡ given recovery9)
     × (replay (failing linesT "fail=1 set=2") (32 ∷ 1 ∷ []) (65 ∷ 1 ∷ []) ≡ completed 2)
+    × StepsFrom (failing linesT "fail=1 set=2") (recovery9 .line) (recovery9 .steps)
 
 r9 : R9
 unfolding opens reads
-r9 = (refl, refl, refl)
+r9 = (refl, refl, refl, (refl, refl))
 
 -- "R10: step 1, set 1: line 1,32, none kept, order 0,1."
 abbrev pub recovery10 : Recovery
@@ -204,10 +224,11 @@ abbrev pub R10 : Type 0
 R10 =
     (recovery (failing linesT "fail=1 set=1") ≡ given recovery10)
     × (replay (failing linesT "fail=1 set=1") (1 ∷ 32 ∷ []) (0 ∷ 1 ∷ []) ≡ completed 2)
+    × StepsFrom (failing linesT "fail=1 set=1") (recovery10 .line) (recovery10 .steps)
 
 r10 : R10
 unfolding opens reads
-r10 = (refl, refl)
+r10 = (refl, refl, (refl, refl))
 
 -- "R11: H with set 0 or 8 is 9."
 abbrev pub R11 : Type 0
@@ -230,35 +251,10 @@ r12 : R12
 unfolding opens reads
 r12 = (refl, refl)
 
--- Document 02, item 2, of these runs. A line loses no message, and the formula gives so many steps:
-abbrev pub Exactly : List ℕ → List ℕ → ℕ → Type 0
-Exactly text l n = (losses text l ≡ given []) × (formula text l ≡ given n)
-
--- R1, R3 to R5 and R7 to R10 (R6 is refused, and its line is that of R5): the steps of the recovery, and of an order
--- from the line of R3. The line of R2 loses a message: its only order has 1 step, where the formula gives 3.
-abbrev pub ByFormula : Type 0
-ByFormula =
-    Exactly textH (recovery1 .line) (recovery1 .steps)
-    × ((formula textH (32 ∷ 2 ∷ 32 ∷ []) ≡ given 3)
-    × (replay textH (32 ∷ 2 ∷ 32 ∷ []) (1 ∷ []) ≡ given (record { complete = true; equal = false; steps = 1 })))
-    × (Exactly textH (1 ∷ 1 ∷ 32 ∷ []) 8
-    × (replay textH (1 ∷ 1 ∷ 32 ∷ []) (0 ∷ 0 ∷ 0 ∷ 1 ∷ 1 ∷ 1 ∷ 1 ∷ 1 ∷ []) ≡ completed 8))
-    × Exactly (failing linesH "fail=0 set=1") (recovery4 .line) (recovery4 .steps)
-    × Exactly (failing linesL "fail=3 set=2") (recovery5 .line) (recovery5 .steps)
-    × Exactly (failing linesS "fail=3 set=2") (recovery7 .line) (recovery7 .steps)
-    × Exactly (failing linesS "fail=3 set=1") (recovery8 .line) (recovery8 .steps)
-    × Exactly (failing linesT "fail=1 set=2") (recovery9 .line) (recovery9 .steps)
-    × Exactly (failing linesT "fail=1 set=1") (recovery10 .line) (recovery10 .steps)
-
-by-formula : ByFormula
-unfolding opens reads
-by-formula =
-    ((refl, refl), (refl, refl), ((refl, refl), refl), (refl, refl), (refl, refl), (refl, refl), (refl, refl), (refl, refl), (refl, refl))
-
 -- ---- "Marked R1 to R12, to be proved together in one table"
 
-pub table : R1 × R2 × R3 × R4 × R5 × R6 × R7 × R8 × R9 × R10 × R11 × R12 × ByFormula
-table = (r1, r2, r3, r4, r5, r6, r7, r8, r9, r10, r11, r12, by-formula)
+pub table : R1 × R2 × R3 × R4 × R5 × R6 × R7 × R8 × R9 × R10 × R11 × R12
+table = (r1, r2, r3, r4, r5, r6, r7, r8, r9, r10, r11, r12)
 
 -- ---- Not among them, but of the same texts: the numbers 1, 8 and 10, and which comes first
 

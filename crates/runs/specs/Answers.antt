@@ -36,5 +36,5 @@ replay text l order = then (failureOf text) (λ f. unless (fault f l) (replayOf 
 
 -- ---- Document 02, item 2: how many steps every complete order from a line has, if it loses no message
 
-unfoldable pub formula : List ℕ → List ℕ → Answer ℕ
-formula text l = then (failureOf text) (λ f. unless (fault f l) (given (exactSteps (runOf f l))))
+unfoldable pub exactStepsOf : List ℕ → List ℕ → Answer ℕ
+exactStepsOf text l = then (failureOf text) (λ f. unless (fault f l) (given (exactSteps (runOf f l))))

@@ -65,6 +65,12 @@ names-map ph p q k a b (x ∷ xs) = by (eqb p a)
     (λ u. by (eqb q b) (λ v. rw (u, v, names-map ph p q k a b xs, u, v)) (λ v. rw (u, v, names-map ph p q k a b xs, u, v)))
     (λ u. rw (u, names-map ph p q k a b xs, u))
 
+-- a list that names no message is empty
+none-named : (ms : List Listed) → ((p q k : ℕ) → names p q k ms ≡ false) → ms ≡ []
+unfolding names
+none-named [] h = refl
+none-named (m ∷ ms) h = clash {b = true} refl (rw (eqb-self (m .from), eqb-self (m .to), eqb-self (m .number)) at (h (m .from) (m .to) (m .number)))
+
 -- ---- Records
 
 pairs-same : (xs ys : List (ℕ × ℕ)) → samePairs xs ys ≡ true → xs ≡ ys
@@ -137,6 +143,13 @@ module _ (R : Run) where
 
     pub lost-name : (p q k : ℕ) → names p q k (lostOnes R) ≡ lost R p q k
     lost-name = messages-name (lost R) (R .carries) (lost-within R L)
+
+    pub lost-none : (lostOnes R ≡ []) ↔ LossFree R
+    unfolding names
+    lost-none = (
+      λ h p q k. sym (lost-name p q k) ∙ ap (names p q k) h,
+      λ f. none-named (lostOnes R) (λ p q k. lost-name p q k ∙ f p q k),
+    )
 
     -- ---- Loss
 

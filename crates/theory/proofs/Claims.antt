@@ -1,13 +1,13 @@
--- What document 01 promises of recovery, each claim under its sentence. Read this file first, with the definitions of
--- specs/; the other files of proofs/ say why. `demand-3` is demand 3 whole. All claims hold for every well-formed trace
--- (crate trace), every cut, and, where `rule` and `usable` are named, for every rule of logging and every set of usable
--- checkpoints; document 01's own are `past` and `reached`.
+-- What document 01 promises of recovery, and document 02 of its steps (item 2), each claim under its sentence. Read this
+-- file first, with the definitions of specs/; the other files of proofs/ say why. `demand-3` is demand 3 whole. All
+-- claims hold for every well-formed trace (crate trace), every cut, and, where `rule` and `usable` are named, for every
+-- rule of logging and every set of usable checkpoints; document 01's own are `past` and `reached`.
 use mathlib.Core.Path.{_≡_, sym, _∙_}
 use mathlib.Core.Logic.{_⊎_, inl, inr, _↔_, _≢_}
 use mathlib.Core.Bool.{Bool, true, false, _&&_, _||_, not}
 use mathlib.Core.List.{List, [], _∷_}
 use mathlib.Core.Option.{none, some}
-use Prim.Native.Nat.{ℕ, suc, _+_, _≤_, _<_}
+use Prim.Native.Nat.{ℕ, suc, _≤_, _<_}
 use native.Mathlib.Omega.{arith}
 use lib.ListN.{length, getD, take}
 use lib.Dec.{leb, ltb}
@@ -19,7 +19,7 @@ use Rattle.theory.specs.Events.{size, sends, recvs, checkpoints, sent, r
 use Rattle.theory.specs.Epochs.{Rule, past, joined, epochAt, phaseAt, epochOf, phaseOf, loggedBy}
 use Rattle.theory.specs.Line.{inSet, Run, undone, lost, orphan, kept, orphanPhase, LossFree, restartIn, recorded, current, reached, Usable, Permitted, Greatest, Above, lower, highest, greatestLine}
 use Rattle.theory.specs.Replay.{State, sentAgain, ready, delivered, faultless, SameRecord}
-use Rattle.theory.specs.Order.{carriedOut, refused, choose, Allowed, run, steps, Complete, complete, lowest, lowestOrder}
+use Rattle.theory.specs.Order.{carriedOut, refused, choose, Allowed, run, steps, mostSteps, Complete, complete, lowest, lowestOrder}
 use Rattle.theory.specs.Answers.{names, orphans, keptOnes, lostOnes, exactSteps, lossFree, sameRecord}
 use Rattle.theory.specs.Refusals.{failureFault, lineFault, FitFailure, FitLine}
 use Rattle.theory.specs.Laws.{Laws}
@@ -34,8 +34,8 @@ use Rattle.theory.proofs.Lines.{now-is, now-few, usable-reached, stays-
 use Rattle.theory.proofs.Greatest.{highest-above, below-above, greatest-is, greatest-unique, floor-below}
 use Rattle.theory.proofs.Orders.{run-reaches, run-refused, complete-iff, order-iff, order-differs, order-progress, order-done, order-bound}
 use Rattle.theory.proofs.Lowest.{lowest-some, lowest-iff, lowest-order}
-use Rattle.theory.proofs.Answers.{orphans-name, kept-name, lost-name, lossFree-iff, sameRecord-iff, ready-iff}
-use Rattle.theory.proofs.Exact.{exact-steps}
+use Rattle.theory.proofs.Answers.{orphans-name, kept-name, lost-name, lost-none, lossFree-iff, sameRecord-iff, ready-iff}
+use Rattle.theory.proofs.Exact.{steps-within, exact-steps}
 use Rattle.theory.proofs.Refusals.{failure-fit, failure-8, failure-9, line-fit, line-8, line-9, line-10}
 
 -- Demand 3. "Take any accepted trace, any step for the failure, any set of zones it takes together, any line that puts
@@ -137,6 +137,9 @@ module _ (t : Trace) (w : wellFormed t ≡ true) (rule : Rule) where
       pub lost-listed : (p q k : ℕ) → names p q k (lostOnes R) ≡ lost R p q k
       lost-listed = lost-name R the-laws
 
+      pub none-listed : (lostOnes R ≡ []) ↔ LossFree R
+      none-listed = lost-none R the-laws
+
       pub loss-test : (lossFree R ≡ true) ↔ LossFree R
       loss-test = lossFree-iff R the-laws
 
@@ -229,13 +232,17 @@ module _ (t : Trace) (w : wellFormed t ≡ true) (rule : Rule) where
         does-all = order-done S L order s h
 
         -- "Steps is the length of the order carried out, and is at most twice the number of events."
-        pub steps-at-most : steps order ≤ size t + size t
+        pub steps-at-most : steps order ≤ mostSteps t
         steps-at-most = order-bound S L order s h
 
         -- Document 02, item 2: "For a line without loss, every complete order has exactly as many steps as there are
         -- listed events after the restarts (after the cut for staying zones) plus kept messages."
         pub steps-exactly : LossFree S → Complete S s → steps order ≡ exactSteps S
         steps-exactly = exact-steps S L order s h
+
+        -- and no order has more, from whatever line, complete or not
+        pub steps-no-more : steps order ≤ exactSteps S
+        steps-no-more = steps-within S L order s h
 
         -- "Phase r is ready when every orphan of phase r or less has been sent again."
         pub ready-means : (r : ℕ) → (ready S s r ≡ true) ↔ ((p q k : ℕ) → orphan S p q k ≡ true → orphanPhase S p q k ≤ r → sentAgain S s p q k ≡ true)

@@ -1,10 +1,10 @@
--- The exact number of steps (document 02, item 2): the work at the start is the listed events and the kept messages,
--- and a complete order from a line without loss leaves none of it. From Orders and Steps.
+-- The exact number of steps (document 02, item 2): the work at the start is the listed events and the kept messages, no
+-- order does more than it, and a complete order from a line without loss leaves none of it. From Orders and Steps.
 use mathlib.Core.Path.{_≡_, refl, sym, _∙_}
 use mathlib.Core.Bool.{true}
 use mathlib.Core.List.{List, [], _∷_}
 use mathlib.Core.Option.{some, Option·none-ne-some}
-use Prim.Native.Nat.{ℕ, _+_}
+use Prim.Native.Nat.{ℕ, _≤_}
 use native.Mathlib.Omega.{arith}
 use lib.ListN.{length, length-map}
 use Rattle.theory.specs.Lists.{sum, iv, keep, no-one}
@@ -31,6 +31,10 @@ module _ (R : Run) where
   start-work : work R (start R) ≡ exactSteps R
   unfolding work exactSteps
   start-work = omega (arith, kept-count)
+
+  module _ (L : Laws R) (order : List ℕ) (s : State) (h : run R order ≡ carriedOut s) where
+    pub steps-within : steps order ≤ exactSteps R
+    steps-within = omega (arith, order-work R L order s h, start-work)
 
   module _ (L : Laws R) (order : List ℕ) (s : State) (h : run R order ≡ carriedOut s) (f : LossFree R) (c : Complete R s) where
     done : (z : ℕ) → s .todo z ≡ []

@@ -16,7 +16,7 @@ use Rattle.theory.specs.Lists.{keep, ifSome}
 use Rattle.theory.specs.Events.{size, sent, rcvd}
 use Rattle.theory.specs.Line.{Run, lost, LossFree}
 use Rattle.theory.specs.Replay.{Choice, process, hand, State, takenBy, start, step, entry, delivered, faultless, SameRecord}
-use Rattle.theory.specs.Order.{choiceOf, carriedOut, refused, isNone, choose, Allowed, carry, run, steps, Complete, complete}
+use Rattle.theory.specs.Order.{choiceOf, carriedOut, refused, isNone, choose, Allowed, carry, run, steps, Complete, complete, mostSteps}
 use Rattle.theory.specs.Laws.{Laws}
 use Rattle.theory.proofs.Base.{by, on, clash, le?, iv-prefix, all-true, all-at}
 use Rattle.theory.proofs.Classes.{NoLoss, no-loss, loss-free, lost-is}
@@ -200,5 +200,5 @@ module _ (R : Run) where
       pub order-work : work R (start R) ≡ steps order + work R s
       order-work = reach-work R L s (length order) (run-reaches order s h)
 
-      pub order-bound : steps order ≤ size (R .trace) + size (R .trace)
+      pub order-bound : steps order ≤ mostSteps (R .trace)
       order-bound = reach-bound R L s (length order) (run-reaches order s h)

@@ -15,7 +15,7 @@ use Rattle.theory.specs.Events.{eventAt, at, kind, sends, recvs, checkpo
 use Rattle.theory.specs.Epochs.{past, note, notes, loggedBy}
 use Rattle.theory.specs.Line.{inSet, Run, sentBefore, sentAfter, received, receivedBefore, undone, lost, orphan, kept, orphanPhase, restartIn, recorded, reached, highest, lowered, lowering, greatestLine}
 use Rattle.theory.specs.Replay.{listed, keptOn, takenBy, resends, ready, gate, sendStep, recvStep, eventStep, processStep, handStep, step, delivered, faultless}
-use Rattle.theory.specs.Order.{choiceOf, choose, carry, run, steps, isNone, lowest, lowestFrom, complete}
+use Rattle.theory.specs.Order.{choiceOf, choose, carry, run, steps, mostSteps, isNone, lowest, lowestFrom, complete}
 use Rattle.theory.specs.Answers.{lineOf, Listed, gather, messages, orphans, exactSteps, samePairs, sameRecord, placeOf, leaves}
 
 -- all that a row computes with
@@ -50,7 +50,7 @@ abbrev pub differs : Run → List ℕ → Bool
 differs R order =
     leaves (λ s. isNone (lowest R s) && (all-below (R .trace .procs) (λ z. no-one (λ e. true) (s .todo z)) && not (sameRecord R s))) (run R order)
 
--- the order is complete with as many steps as document 02's formula says; it is complete with other
+-- the order is complete with as many steps as document 02's formula says; it is complete with another number of them
 abbrev exact : Run → List ℕ → Bool
 exact R order = leaves (λ s. isNone (lowest R s) && eqb (steps order) (exactSteps R)) (run R order)
 
@@ -198,9 +198,11 @@ unfolding opens d13 every
 d13-holds = refl
 
 -- from a line that loses a message a complete order may have fewer steps; that it has as many does not show that none
--- is lost (row 9)
+-- is lost (row 9); the limit for such lines is twice the events
 unfoldable d14 : Bool
-d14 = inexact (at-cut t10 4 (32 ∷ 1 ∷ [])) [] && exact (at-cut t8 3 (32 ∷ 1 ∷ [])) (65 ∷ 1 ∷ [])
+d14 =
+    inexact (at-cut t10 4 (32 ∷ 1 ∷ [])) []
+    && (exact (at-cut t8 3 (32 ∷ 1 ∷ [])) (65 ∷ 1 ∷ []) && eqb (mostSteps (two t10)) 8)
 
 d14-holds : d14 ≡ true
 unfolding opens d14 every

@@ -7,6 +7,7 @@ use mathlib.Core.Option.{Option, none, some, bind}
 use Prim.Native.Nat.{ℕ, zero, suc, _+_, _-_, _*_, _/_, _%_}
 use lib.ListN.{length}
 use lib.Dec.{ltb}
+use Rattle.trace.specs.Trace.{Trace}
 use Rattle.theory.specs.Lists.{pick, all-below, ifSome, or-else, first}
 use Rattle.theory.specs.Events.{size}
 use Rattle.theory.specs.Line.{Run}
@@ -26,9 +27,12 @@ abbrev pub isNone : {A : Type 0} → Option A → Bool
 isNone none = true
 isNone (some a) = false
 
--- "Steps is the length of the order carried out"
+-- "Steps is the length of the order carried out, and is at most twice the number of events."
 abbrev pub steps : List ℕ → ℕ
 steps order = length order
+
+abbrev pub mostSteps : Trace → ℕ
+mostSteps t = size t + size t
 
 module _ (R : Run) where
   -- the state that a choice number leaves, or none
@@ -69,6 +73,6 @@ module _ (R : Run) where
   lowestFrom zero s = []
   lowestFrom (suc n) s = ifSome (lowest s) [] (λ r. r .0 ∷ lowestFrom n (r .1))
 
-  -- no order is longer than twice the number of events
+  -- no order is longer than that
   abbrev pub lowestOrder : List ℕ
-  lowestOrder = lowestFrom (size (R .trace) + size (R .trace)) (start R)
+  lowestOrder = lowestFrom (mostSteps (R .trace)) (start R)
