@@ -1,16 +1,19 @@
-/* Recovery of a recorded parallel run: reading, writing back, restart line, messages, replay. Link target/staticlib/libcapi.a (rt staticlib capi).
+/* Recovery of a recorded parallel run: reading, writing back, restart line, messages, replay. Link
+   target/staticlib/libcapi.a (rt staticlib capi).
 
-   Every function may be called with any numbers and any slices. It returns the number of the refusal, or 0 if the call was accepted (README.md has a
-   table of the numbers), and writes the rest of its answer as numbers into `answer`, one after another from its first place on: as many as
-   `answer_len` has room for; numbers past them stay. In a refused answer every other number is 0.
+   Every function may be called with any numbers and any slices. It returns the number of the refusal, or 0 if the call
+   was accepted (README.md has a table of the numbers), and writes the rest of its answer as numbers into `answer`, one
+   after another from its first place on: as many as `answer_len` has room for; numbers past them stay. In a refused
+   answer every other number is 0.
 
-   A table area holds a trace that was read, a run area what a call leaves of a replay or a list; both have at least 16,384 words
-   (HALLBACK_WORDS), laid out as docs/LAYOUT.md says. Words past 16,384 are never touched. A line is given by its numbers: an epoch for each
-   process, or 32 (HALLBACK_STAYS) for one that stays as it was at the cut. A slice is passed as its pointer and its length; a pointer
-   must not be null, not even where the length is 0. No two slices of a call may overlap, except two that are only read.
+   A table area holds a trace that was read, a run area what a call leaves of a replay or a list; both have at least
+   16,384 words (HALLBACK_WORDS), laid out as docs/LAYOUT.md says. Words past 16,384 are never touched. A line is given
+   by its numbers: an epoch for each process, or 32 (HALLBACK_STAYS) for one that stays as it was at the cut, the moment
+   of the failure. A slice is passed as its pointer and its length; a pointer must not be null, not even where the
+   length is 0. No two slices of a call may overlap, except two that are only read.
 
-   Calls keep their tables on the stack, up to 170 KB (hallback_report; hallback_write 140 KB, whatever `out` is): give a
-   thread 256 KB. */
+   Calls keep their tables on the stack, up to 170 KB (hallback_report; hallback_write 140 KB, whatever `out` is): give
+   a thread 256 KB. */
 #ifndef HALLBACK_H
 #define HALLBACK_H
 
@@ -34,13 +37,15 @@ enum {
     HALLBACK_TEXT_BYTES = 131072    /* a buffer of so many bytes holds every text that hallback_write writes */
 };
 
-/* Reads a trace text without a failure line into the table area. Answer: place. Refusals: 12, then 1 to 7; after 1 to 7 the first 16,384
-   words of the table area are zero. */
-uint32_t hallback_read(const uint8_t *text, size_t text_len, uint32_t *table, size_t table_len, uint64_t *answer, size_t answer_len);
+/* Reads a trace text without a failure line into the table area. Answer: place. Refusals: 12, then 1 to 7; after 1 to 7
+   the first 16,384 words of the table area are zero. */
+uint32_t hallback_read(const uint8_t *text, size_t text_len, uint32_t *table, size_t table_len, uint64_t *answer,
+                       size_t answer_len);
 
-/* Reads a trace text whose last line is a failure line `fail=K set=M`. Answer: place, K, M. Refusals as above; whether the failure fits the
-   trace (8, 9) is for the calls below to say. */
-uint32_t hallback_read_failure(const uint8_t *text, size_t text_len, uint32_t *table, size_t table_len, uint64_t *answer, size_t answer_len);
+/* Reads a trace text whose last line is a failure line `fail=K set=M`. Answer: place, K, M. Refusals as above; whether
+   the failure fits the trace (8, 9) is for the calls below to say. */
+uint32_t hallback_read_failure(const uint8_t *text, size_t text_len, uint32_t *table, size_t table_len,
+                               uint64_t *answer, size_t answer_len);
 
 /* Writes the text of the trace that a table area holds into `out`, without a failure line. Answer: place, length in
    bytes. Bytes of `out` past the text stay. Refusals: 12, 13, and 14 if `out` is shorter than the text; none changes
@@ -61,26 +66,33 @@ uint32_t hallback_read_failure(const uint8_t *text, size_t text_len, uint32_t *t
 uint32_t hallback_write(const uint32_t *table, size_t table_len, uint8_t *out, size_t out_len, uint64_t *answer,
                         size_t answer_len);
 
-/* The greatest restart line that loses no message, for a failure right after event `step` of the processes in `set` (bit z is process z).
-   Answer: place, count of processes, how many go back, the set of those; then 64 numbers each: the line, the epochs at the cut, the phases
-   at the restart or, for a process that stays, at the cut; 0 past the last process. Refusals: 12, 13, 8, 9. Changes only `answer`. */
-uint32_t hallback_restart(const uint32_t *table, size_t table_len, uint64_t step, uint64_t set, uint64_t *answer, size_t answer_len);
+/* The greatest restart line that loses no message: in no other such line does any process keep more of its work. For a
+   failure right after event `step` (the cut) of the processes in `set` (bit z is process z). Answer: place, count of
+   processes, how many go back, the set of those; then 64 numbers each: the line, the epochs at the cut, the phases at
+   the restart or, for a process that stays, at the cut; 0 past the last process. Refusals: 12, 13, 8, 9. Changes only
+   `answer`. */
+uint32_t hallback_restart(const uint32_t *table, size_t table_len, uint64_t step, uint64_t set, uint64_t *answer,
+                          size_t answer_len);
 
-/* The messages of a line: orphans, kept, lost, listed in the run area. Answer: place, how many of each. Refusals: 12, 13, 8, 9, 10; none
-   changes the run area. */
-uint32_t hallback_messages(const uint32_t *table, size_t table_len, uint64_t step, uint64_t set, const uint32_t *line, size_t line_len,
-                           uint32_t *run, size_t run_len, uint64_t *answer, size_t answer_len);
+/* The messages of a line, listed in the run area: orphans (received before their receiver's restart, sent after their
+   sender's), kept (sent before their sender's restart, and handed over in a replay), lost (sent before it too and to be
+   received again, but not logged). Answer: place, how many of each. Refusals: 12, 13, 8, 9, 10; none changes the run
+   area. */
+uint32_t hallback_messages(const uint32_t *table, size_t table_len, uint64_t step, uint64_t set, const uint32_t *line,
+                           size_t line_len, uint32_t *run, size_t run_len, uint64_t *answer, size_t answer_len);
 
 /* Carries out an order of choices from a line: 0 to 63 is the next event of that process, 64 + 64 P + Q hands over the
    oldest kept message from P to Q. Leaves the delivery record in the run area. Answer: place, steps, 1 if the order is
    complete (no choice is left). Refusals: 12, 13, 8, 9, 10, and 11 with the place of the choice in the order, from 1;
    after 11 the first 16,384 words of the run area are zero, the others change nothing.
 
-   Steps are the choices carried out. From a line that loses no message (of hallback_restart, or one of which
-   hallback_messages counts none lost) every complete order has exactly the same number of steps: the events of each
-   process after its restart (of one that stays, after the cut), to the end of the trace, and the kept messages, also
-   those that nobody receives. From a line that loses a message an order has at most twice as many steps as the trace
-   has events. That a complete order has the number above does not show that its line loses nothing. */
+   Steps are the choices carried out. From a line that loses no message (that of hallback_restart, or any of which
+   hallback_messages counts none lost) every complete order has exactly the same number: one for each event (send,
+   receive or save) of each process after its restart, that is after the save that began its epoch, or from its start
+   for epoch 1, or after the cut if it stays, to the end of the trace; and one for each kept message, as many as
+   hallback_messages counts, also those that nobody receives. From a line that loses a message an order has at most that
+   number, and at most twice as many steps as the trace has events. That a complete order has that number does not show
+   that its line loses nothing. */
 uint32_t hallback_replay(const uint32_t *table, size_t table_len, uint64_t step, uint64_t set, const uint32_t *line,
                          size_t line_len, const uint16_t *order, size_t order_len, uint32_t *run, size_t run_len,
                          uint64_t *answer, size_t answer_len);

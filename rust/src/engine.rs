@@ -167,10 +167,11 @@ fn replayed(number: u32, answer: [u64; 3]) -> Result<Replayed, Refusal> {
 ///
 /// After a refusal 11 the run area is zero; other refusals leave it as it was.
 ///
-/// From a line that loses no message every complete order has the same number of steps: the events
-/// after the restarts (of a process that stays, after the cut), to the end of the trace, and the
-/// kept messages, also those that nobody receives. From any other line an order has at most twice as
-/// many steps as the trace has events.
+/// From a line that loses no message (that of [`restart`], or one of which [`messages`] counts none
+/// lost) every complete order has the same number of steps: the events after the restarts (of a
+/// process that stays, after the cut), to the end of the trace, and the kept messages, also those
+/// that nobody receives. From any other line an order has at most that number, and at most twice as
+/// many steps as the trace has events; that it has that number does not show that nothing is lost.
 ///
 /// ```
 /// use hallback::{Cause, Failure, AREA_WORDS};

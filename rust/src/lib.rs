@@ -3,7 +3,8 @@
 //! The functions at the root of this crate call the proved engine, a static archive
 //! (`../target/staticlib/libcapi.a`); they are there only if that archive was there when the crate
 //! was built. [`mod@reference`] has the same functions written anew in Rust, to compare with, and
-//! [`shapes`] makes traces to try both on.
+//! [`exact_steps`](reference::exact_steps), the steps of a replay counted without one; [`shapes`]
+//! makes traces to try both on.
 //!
 //! What is lent: a table area, which reading a trace fills and every other call takes, and a run
 //! area, in which [`messages`](reference::messages) leaves its list and
@@ -201,7 +202,7 @@ impl Restart {
 pub struct Counts {
     /// Received messages whose sender goes back behind the send.
     pub orphans: u64,
-    /// Messages to be handed over again.
+    /// Messages to be handed over: those that a replay receives again, and those in transit.
     pub kept: u64,
     /// Messages that a replay from this line would not have.
     pub lost: u64,

@@ -176,14 +176,14 @@ pub fn lowest(
     })
 }
 
-/// How many steps every complete order from a line has, found without carrying one out: the events
-/// listed after the restarts and the kept messages. Nothing is said of a line that loses a message.
-pub fn exact_steps(table: &[u32], failure: Failure, line: &[u32]) -> Result<Option<u64>, Refusal> {
+/// How many steps every complete order from a line has, if the line loses no message, found without
+/// carrying one out: the events after the restarts and the kept messages. No order from any line has
+/// more.
+pub fn exact_steps(table: &[u32], failure: Failure, line: &[u32]) -> Result<u64, Refusal> {
     let recorded = Recorded::load(area(table)?, failure)?;
     let restarts = recorded.restarts(line, failure.set)?;
     let (_, counts) = recorded.messages(&restarts);
-    let steps = recorded.listed(&restarts) as u64 + counts.kept;
-    Ok((counts.lost == 0).then_some(steps))
+    Ok(recorded.listed(&restarts) as u64 + counts.kept)
 }
 
 /// Gives `visit` a machine at the restarts of a line, to try choices on.

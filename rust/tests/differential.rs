@@ -427,32 +427,37 @@ mod compare {
             );
         }
 
-        /// The engine's steps for a complete order: as the formula says, if the line loses no
-        /// message; else at most twice the events.
+        /// The engine's steps for a complete order: as many as the formula says, if the line loses no
+        /// message; else no more than that, and than twice the events.
         fn steps(&mut self, input: Input) {
             let Input {
                 table,
                 failure: Failure { step, set },
                 line,
                 order,
-                ..
+                run,
             } = input;
-            let Ok(exact) = reference::exact_steps(table, input.failure, line) else {
+            let mut run = run.to_vec();
+            let Ok(counts) = reference::messages(table, input.failure, line, &mut run) else {
                 return;
             };
-            let mut run = input.run.to_vec();
+            let exact =
+                reference::exact_steps(table, input.failure, line).expect("the line is fit");
             let mut answer = [0; REPLAY];
             raw::replay(table, step, set, line, order, &mut run, &mut answer);
             let [_, steps, complete] = answer;
-            let most = 2 * u64::from(table[1]);
-            let (call, as_promised) = match exact {
-                Some(exact) => ("steps_exact", steps == exact),
-                None => ("steps_most", steps <= most),
+            let (call, as_promised) = match counts.lost {
+                0 => ("steps_exact", steps == exact),
+                _ => (
+                    "steps_most",
+                    steps <= exact && steps <= 2 * u64::from(table[1]),
+                ),
             };
             let mut differences = Vec::new();
             if complete != 1 || !as_promised {
                 differences.push(format!(
-                    "{steps} steps, complete {complete}; the formula says {exact:?}, the limit is {most}"
+                    "{steps} steps, complete {complete}, {} lost; the formula says {exact}",
+                    counts.lost
                 ));
             }
             self.note(call, &Ok(vec![]), differences, &|| describe(input));

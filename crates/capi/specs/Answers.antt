@@ -49,8 +49,9 @@ lowestAnswer a area step set l = replayAnswer a area step set l (lowestOrder (ru
 abbrev pub lowestArea : List ℕ → List ℕ → ℕ → ℕ → Line → List ℕ
 lowestArea a area step set l = replayArea a area step set l (lowestOrder (runOf a step l))
 
--- ---- What is promised of the steps (crate recovery: `StepsExact`, `StepsAtMost`, `Completed`), of what a caller gets: the
--- number r that is returned, and a slice that begins with place, steps and, if it has room for it, 1 or 0 for complete
+-- ---- What is promised of the steps (crate recovery: `StepsExact`, `StepsAtMost`, `Completed`), of what a caller gets:
+-- the number r that is returned, and a slice that begins with place, steps and, if it has room for it, 1 or 0 for
+-- complete
 
 -- a complete order from a line that loses no message has exactly so many steps
 abbrev pub ExactIn : Run → ℕ → List ℕ → Type 0

@@ -1,5 +1,5 @@
--- How many steps are printed: exactly as the formula says, since the engine's line loses no message and the lowest order
--- is complete.
+-- How many steps are printed: exactly as the formula says, since the engine's line loses no message and the lowest
+-- order is complete.
 use Prim.Native.Nat.{ℕ, _≤_}
 use mathlib.Core.Path.{_≡_, refl, sym, subst}
 use mathlib.Core.Bool.{true}

@@ -123,11 +123,11 @@ fn r2_r3_other_lines_of_h() {
 #[test]
 fn steps_of_lines_of_h() {
     let exact = |line: &[u32]| exact_steps(&table_of(H), failure(9, 2), line).unwrap();
-    assert_eq!(exact(&[2, 2, 32]), Some(4));
-    assert_eq!(exact(&[1, 1, 32]), Some(8));
+    assert_eq!(exact(&[2, 2, 32]), 4);
+    assert_eq!(exact(&[1, 1, 32]), 8);
     assert_eq!(steps_of(H, failure(9, 2), &[1, 1, 32]), 8);
-    // 3 events are listed, but the second of them waits for the lost message
-    assert_eq!(exact(&[32, 2, 32]), None);
+    // the second of the 3 events waits for the lost message
+    assert_eq!(exact(&[32, 2, 32]), 3);
     assert_eq!(steps_of(H, failure(9, 2), &[32, 2, 32]), 1);
 }
 
@@ -854,11 +854,10 @@ fn compare(trace: &Trace, failure: Failure, orders: bool, random: &mut Random) {
         assert_eq!(replayed.steps, order.len() as u64, "{line:?} {}", name());
         assert_eq!(run, wanted.run, "{line:?} {}", name());
         let exact = exact_steps(&table, failure, &line).unwrap();
+        assert!(replayed.steps <= exact, "{line:?} {}", name());
         if slow.listed(&line, 3).is_empty() {
             assert!(wanted.next.iter().all(|&i| i == trace.events.len() + 1));
-            assert_eq!(exact, Some(replayed.steps), "{line:?} {}", name());
-        } else {
-            assert_eq!(exact, None, "{line:?} {}", name());
+            assert_eq!(replayed.steps, exact, "{line:?} {}", name());
         }
         run.fill(3);
         let replayed = replay(&table, failure, &line, &order, &mut run).unwrap();
