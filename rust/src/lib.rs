@@ -211,8 +211,8 @@ pub struct Counts {
 /// A replay carried out.
 #[derive(Clone, Copy, Debug, PartialEq, Eq)]
 pub struct Replayed {
-    /// The length of the order carried out; from a line that loses no message the same for every
-    /// complete order, else at most twice the number of events.
+    /// The length of the order carried out, at most twice the number of events; from a line that
+    /// loses no message the same for every complete order.
     pub steps: u64,
     /// Whether no choice is allowed after it.
     pub complete: bool,

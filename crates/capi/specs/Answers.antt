@@ -2,6 +2,7 @@
 -- was (`written`, crate writer).
 use Prim.Native.Nat.{ℕ, _≤_}
 use mathlib.Core.Path.{_≡_}
+use mathlib.Core.Logic.{_↔_}
 use mathlib.Core.List.{List, [], _∷_, _++_}
 use lib.ListN.{length, getD}
 use Rattle.words.specs.Area.{wordsFrom}
@@ -12,9 +13,10 @@ use Rattle.rendering.specs.declared.WriteAnswer.{WriteAnswer}
 use Rattle.recovery_line.specs.declared.Line.{Line}
 use Rattle.orders.specs.declared.Replayed.{Replayed}
 use Rattle.theory.specs.Line.{Run, LossFree}
-use Rattle.theory.specs.Order.{mostSteps, lowestOrder}
+use Rattle.theory.specs.Replay.{State}
+use Rattle.theory.specs.Order.{carriedOut, run, mostSteps, Complete, lowestOrder}
 use Rattle.theory.specs.Answers.{exactSteps}
-use Rattle.preparing.specs.Faults.{runOf}
+use Rattle.preparing.specs.Faults.{runOf, faultOf}
 use Rattle.recovery.specs.Answers.{replayAnswer, replayArea}
 use Rattle.restart.specs.declared.Restarted.{Restarted}
 use Rattle.messages.specs.declared.Counted.{Counted}
@@ -49,19 +51,30 @@ lowestAnswer a area step set l = replayAnswer a area step set l (lowestOrder (ru
 abbrev pub lowestArea : List ℕ → List ℕ → ℕ → ℕ → Line → List ℕ
 lowestArea a area step set l = replayArea a area step set l (lowestOrder (runOf a step l))
 
--- ---- What is promised of the steps (crate recovery: `StepsExact`, `StepsAtMost`, `Completed`), of what a caller gets:
--- the number r that is returned, and a slice that begins with place, steps and, if it has room for it, 1 or 0 for
--- complete
+-- ---- What is promised of the steps (crate recovery: `StepsExact`, `StepsAtMost`, `CarriesOut`, `Completed`), of what a
+-- caller gets: the number r that is returned, and a slice that begins with place, steps and, if it has room for it, 1 or
+-- 0 for complete
 
--- a complete order from a line that loses no message has exactly so many steps
+-- a complete order from a line that loses no message has exactly so many steps; the lowest order always does
 abbrev pub ExactIn : Run → ℕ → List ℕ → Type 0
-ExactIn R r answer = (n : ℕ) (rest : List ℕ) → r ≡ 0 → answer ≡ 0 ∷ n ∷ 1 ∷ rest → LossFree R → n ≡ exactSteps R
+ExactIn R r answer = (place n : ℕ) (rest : List ℕ) → r ≡ 0 → answer ≡ place ∷ n ∷ 1 ∷ rest → LossFree R → n ≡ exactSteps R
+
+abbrev pub LowestExactIn : Run → ℕ → List ℕ → Type 0
+LowestExactIn R r answer = (place n : ℕ) (rest : List ℕ) → r ≡ 0 → answer ≡ place ∷ n ∷ rest → LossFree R → n ≡ exactSteps R
 
 -- no order has more than these
 abbrev pub AtMostIn : Run → List ℕ → Type 0
 AtMostIn R answer =
     (place n : ℕ) (rest : List ℕ) → answer ≡ place ∷ n ∷ rest → (n ≤ mostSteps (R .trace)) × (n ≤ exactSteps R)
 
--- the lowest order is always complete
-abbrev pub CompletedIn : ℕ → List ℕ → Type 0
-CompletedIn r answer = (place n c : ℕ) (rest : List ℕ) → r ≡ 0 → answer ≡ place ∷ n ∷ c ∷ rest → c ≡ 1
+-- an order that is not refused was carried out, and 1 says that it is complete
+abbrev pub CarriesOutIn : Run → List ℕ → ℕ → List ℕ → Type 0
+CarriesOutIn R order r answer =
+    (place n c : ℕ) (rest : List ℕ) → r ≡ 0 → answer ≡ place ∷ n ∷ c ∷ rest
+    → (s : State) × (run R order ≡ carriedOut s) × ((c ≡ 1) ↔ Complete R s)
+
+-- the lowest order is never refused with 11, and always complete
+abbrev pub CompletedIn : List ℕ → ℕ → ℕ → ℕ → Line → ℕ → List ℕ → Type 0
+CompletedIn a room step set l r answer =
+    faultOf a room step set l ≡ 0
+    → (r ≡ 0) × ((place n c : ℕ) (rest : List ℕ) → answer ≡ place ∷ n ∷ c ∷ rest → c ≡ 1)

@@ -15,7 +15,7 @@ ghost use Rattle.recovery.specs.Answers.{replayAnswer, replayArea};
 ghost use Rattle.messages.specs.Messages.{messagesAnswer, messagesArea};
 ghost use Rattle.restart.specs.Restart.{restartAnswer};
 ghost use Rattle.report.specs.Report.{printed, StepsPrinted};
-ghost use Rattle.capi.specs.Answers.{lineGiven, readNumbers, failureNumbers, writeNumbers, restartNumbers, messagesNumbers, replayNumbers, lowestAnswer, lowestArea, ExactIn, AtMostIn, CompletedIn};
+ghost use Rattle.capi.specs.Answers.{lineGiven, readNumbers, failureNumbers, writeNumbers, restartNumbers, messagesNumbers, replayNumbers, lowestAnswer, lowestArea, ExactIn, LowestExactIn, AtMostIn, CarriesOutIn, CompletedIn};
 use orders::Replayed;
 use recovery_line::Line;
 use restart::Restarted;
@@ -207,6 +207,7 @@ pub extern "C" fn hallback_replay(
     ensures numbers { λ _. ⌜ now (answer .exit) ≡ written (replayNumbers (replayAnswer (now (table .entry)) (now (run .entry)) step set (lineGiven (now (line .entry))) (now (order .entry)))) (now (answer .entry)) ⌝ }
     ensures exact { λ r. ⌜ ExactIn (runOf (now (table .entry)) step (lineGiven (now (line .entry)))) r (now (answer .exit)) ⌝ }
     ensures at_most { λ _. ⌜ AtMostIn (runOf (now (table .entry)) step (lineGiven (now (line .entry)))) (now (answer .exit)) ⌝ }
+    ensures carried { λ r. ⌜ CarriesOutIn (runOf (now (table .entry)) step (lineGiven (now (line .entry)))) (now (order .entry)) r (now (answer .exit)) ⌝ }
 {
     let r = recovery::replay(table, step, set, line_from(line), order, run);
     put_replayed(answer, r);
@@ -226,9 +227,9 @@ pub extern "C" fn hallback_lowest(
     ensures number { λ r. ⌜ r ≡ lowestAnswer (now (table .entry)) (now (run .entry)) step set (lineGiven (now (line .entry))) .number ⌝ }
     ensures words { λ _. ⌜ now (run .exit) ≡ lowestArea (now (table .entry)) (now (run .entry)) step set (lineGiven (now (line .entry))) ⌝ }
     ensures numbers { λ _. ⌜ now (answer .exit) ≡ written (replayNumbers (lowestAnswer (now (table .entry)) (now (run .entry)) step set (lineGiven (now (line .entry))))) (now (answer .entry)) ⌝ }
-    ensures exact { λ r. ⌜ ExactIn (runOf (now (table .entry)) step (lineGiven (now (line .entry)))) r (now (answer .exit)) ⌝ }
+    ensures exact { λ r. ⌜ LowestExactIn (runOf (now (table .entry)) step (lineGiven (now (line .entry)))) r (now (answer .exit)) ⌝ }
     ensures at_most { λ _. ⌜ AtMostIn (runOf (now (table .entry)) step (lineGiven (now (line .entry)))) (now (answer .exit)) ⌝ }
-    ensures completed { λ r. ⌜ CompletedIn r (now (answer .exit)) ⌝ }
+    ensures completed { λ r. ⌜ CompletedIn (now (table .entry)) (length (now (run .entry))) step set (lineGiven (now (line .entry))) r (now (answer .exit)) ⌝ }
 {
     let r = recovery::lowest(table, step, set, line_from(line), run);
     put_replayed(answer, r);

@@ -28,13 +28,13 @@ use Rattle.orders.proofs.Records.{complete-record}
 use Rattle.orders.specs.declared.Replayed.{Replayed}
 use Rattle.orders.specs.Answer.{answerOf, wordsOf}
 use Rattle.preparing.specs.Faults.{runOf, faultOf}
-use Rattle.recovery.specs.Answers.{refusal, replayAnswer, replayArea, Equal, StepsExact, StepsAtMost, Completed}
+use Rattle.recovery.specs.Answers.{refusal, replayAnswer, replayArea, Equal, CarriesOut, StepsExact, StepsAtMost, Completed}
 
 module _ (a area : List ℕ) (step set : ℕ) (l : Line) (order : List ℕ) where
   abbrev pub Answered : Replayed → List ℕ → Type 0
   Answered r w =
       (r ≡ replayAnswer a area step set l order)
-      × ((w ≡ replayArea a area step set l order) × (Equal a step l r w × (StepsExact a step l r × StepsAtMost a step l r)))
+      × ((w ≡ replayArea a area step set l order) × (Equal a step l r w × (StepsExact a step l r × (StepsAtMost a step l r × CarriesOut a step l order r))))
 
   -- a refusal changes nothing
   pub refuses : (n : ℕ) (r : Replayed) → n ≡ faultOf a (length area) step set l → (n ≡ 0 → ⊥) → r ≡ refusal n → Answered r area
@@ -42,7 +42,7 @@ module _ (a area : List ℕ) (step set : ℕ) (l : Line) (order : List ℕ) wher
   refuses n r f z e =
       let not-0 : r .number ≡ 0 → ⊥ = λ h. z (sym (ap (λ (x : Replayed). x .number) e) ∙ h) in
       let none : r .steps ≡ 0 = ap (λ (x : Replayed). x .steps) e in
-      (e ∙ rw (← f, ne-eqb n 0 z), (rw (← f, ne-eqb n 0 z), (λ h c. absurd (not-0 h), (λ h c k. absurd (not-0 h), (omega arith, omega arith)))))
+      (e ∙ rw (← f, ne-eqb n 0 z), (rw (← f, ne-eqb n 0 z), (λ h c. absurd (not-0 h), (λ h c k. absurd (not-0 h), ((omega arith, omega arith), λ h. absurd (not-0 h))))))
 
   pub not-completed : (n : ℕ) (r : Replayed) → n ≡ faultOf a (length area) step set l → (n ≡ 0 → ⊥) → Completed a (length area) step set l r
   not-completed n r f z h = absurd (z (f ∙ h))
@@ -70,6 +70,11 @@ module _ (a area : List ℕ) (step set : ℕ) (l : Line) (order : List ℕ) wher
         (λ n c f. exact-steps R L order s e f (complete-iff R s .0 c), (order-bound R L order s e, steps-within R L order s e))
     steps-counted (refused i) e = (λ n c f. absurd (let y : ⊥ = omega arith in y), (omega arith, omega arith))
 
+    carries-out : (o : Outcome) → run R order ≡ o → CarriesOut a step l order (answerOf R o (length order))
+    unfolding answerOf
+    carries-out (carriedOut s) e n = (s, e, complete-iff R s)
+    carries-out (refused i) e n = absurd (let y : ⊥ = omega arith in y)
+
     -- the lowest order is carried out, and no choice is left
     pub completed : (r : Replayed) → r ≡ answerOf R (run R (lowestOrder R)) (length (lowestOrder R)) → Completed a (length area) step set l r
     unfolding answerOf
@@ -81,4 +86,5 @@ module _ (a area : List ℕ) (step set : ℕ) (l : Line) (order : List ℕ) wher
         → w ≡ wordsOf R (run R order) → Answered r (w ++ drop areaWords area)
     unfolding replayAnswer replayArea
     carried n r w f z e q =
-        (e ∙ rw (← f, z), (ap (λ (x : List ℕ). x ++ drop 16384 area) q ∙ rw (← f, z), rw e (equal (run R order) refl w q, steps-counted (run R order) refl)))
+        let steps = steps-counted (run R order) refl in
+        (e ∙ rw (← f, z), (ap (λ (x : List ℕ). x ++ drop 16384 area) q ∙ rw (← f, z), rw e (equal (run R order) refl w q, (steps .0, (steps .1, carries-out (run R order) refl)))))

@@ -12,7 +12,8 @@ use Rattle.words.specs.Area.{areaWords, wordsFrom}
 use Rattle.table.specs.Held.{held}
 use Rattle.theory.specs.Lists.{pick}
 use Rattle.theory.specs.Line.{LossFree}
-use Rattle.theory.specs.Order.{run, steps, mostSteps, lowestOrder}
+use Rattle.theory.specs.Replay.{State}
+use Rattle.theory.specs.Order.{carriedOut, run, steps, mostSteps, Complete, lowestOrder}
 use Rattle.theory.specs.Answers.{exactSteps}
 use Rattle.recovery_line.specs.declared.Line.{Line}
 use Rattle.orders.specs.Record.{faultlessAt}
@@ -38,6 +39,13 @@ replayArea a area step set l order =
 abbrev pub Equal : List ℕ → ℕ → Line → Replayed → List ℕ → Type 0
 Equal a step l r w =
     r .number ≡ 0 → r .complete ≡ true → (take areaWords w ≡ wordsFrom (faultlessAt (held a)) 0 areaWords) ↔ LossFree (runOf a step l)
+
+-- An order that is not refused was carried out, and the answer says whether it is complete: "An order is complete when
+-- no choice is allowed".
+abbrev pub CarriesOut : List ℕ → ℕ → Line → List ℕ → Replayed → Type 0
+CarriesOut a step l order r =
+    let R = runOf a step l in
+    r .number ≡ 0 → (s : State) × (run R order ≡ carriedOut s) × ((r .complete ≡ true) ↔ Complete R s)
 
 -- Document 02, item 2: "For a line without loss, every complete order has exactly as many steps as there are listed
 -- events after the restarts (after the cut for staying zones) plus kept messages."

@@ -10,7 +10,7 @@ ghost use Rattle.theory.specs.Events.{size};
 ghost use Rattle.theory.specs.Order.{lowestOrder};
 ghost use Rattle.recovery_line.specs.Given.{Tabled};
 ghost use Rattle.preparing.specs.Faults.{runOf};
-ghost use Rattle.recovery.specs.Answers.{refusal, replayAnswer, replayArea, Equal, StepsExact, StepsAtMost, Completed};
+ghost use Rattle.recovery.specs.Answers.{refusal, replayAnswer, replayArea, Equal, CarriesOut, StepsExact, StepsAtMost, Completed};
 ghost use Rattle.recovery.specs.Recovering.{Recovering};
 ghost use Rattle.messages.specs.Messages.{messagesAnswer, messagesArea};
 ghost use Rattle.recovery.specs.Recover.{recoverRefusal, Succeeds};
@@ -47,6 +47,7 @@ pub fn replay(
     ensures equal { λ r. ⌜ Equal (now (table .entry)) step line r (now (area .exit)) ⌝ }
     ensures exact { λ r. ⌜ StepsExact (now (table .entry)) step line r ⌝ }
     ensures at_most { λ r. ⌜ StepsAtMost (now (table .entry)) step line r ⌝ }
+    ensures carried { λ r. ⌜ CarriesOut (now (table .entry)) step line (now (order .entry)) r ⌝ }
 {
     let mut full = [0u32; AREA_WORDS];
     let mut gates = [0u32; gates::GATE_WORDS];
@@ -64,6 +65,7 @@ pub fn lowest(table: &[u32], step: u64, set: u64, line: Line, area: &mut [u32]) 
     ensures equal { λ r. ⌜ Equal (now (table .entry)) step line r (now (area .exit)) ⌝ }
     ensures exact { λ r. ⌜ StepsExact (now (table .entry)) step line r ⌝ }
     ensures at_most { λ r. ⌜ StepsAtMost (now (table .entry)) step line r ⌝ }
+    ensures carried { λ r. ⌜ CarriesOut (now (table .entry)) step line (lowestOrder (runOf (now (table .entry)) step line)) r ⌝ }
     ensures completed { λ r. ⌜ Completed (now (table .entry)) (length (now (area .entry))) step set line r ⌝ }
 {
     let mut full = [0u32; AREA_WORDS];

@@ -1,9 +1,9 @@
 -- How many steps are printed: exactly as the formula says, since the engine's line loses no message and the lowest
 -- order is complete.
 use Prim.Native.Nat.{ℕ, _≤_}
-use mathlib.Core.Path.{_≡_, refl, sym, subst}
+use mathlib.Core.Path.{_≡_, refl, sym, subst, _∙_}
 use mathlib.Core.Bool.{true}
-use mathlib.Core.List.{List, _++_}
+use mathlib.Core.List.{List, [], _∷_, _++_, append-assoc}
 use lib.ListN.{length}
 use borrow.Author.Tests.{le-ltb}
 use Rattle.trace.specs.Trace.{Trace}
@@ -20,7 +20,9 @@ use Rattle.theory.proofs.WellFormed.{valid}
 use Rattle.theory.proofs.Lines.{loss-same}
 use Rattle.theory.proofs.Refusals.{failure-fit}
 use Rattle.theory.proofs.Claims.{reached-usable, greatest-line, lowest-completes, steps-exactly, steps-at-most}
-use Rattle.printing.specs.Lines.{keyOrphan, keyKept}
+use Rattle.text.specs.Number.{decimal}
+use Rattle.printing.specs.Bytes.{bytesOf}
+use Rattle.printing.specs.Lines.{keyOrphan, keyKept, totalLine}
 use Rattle.report.specs.Report.{given, checked, Failure, failureIn, failureOf, runOf, engineLine, recoveryBy, recoveryOf, recovery, processLineOf, messageLines, printedOf, printed, EndsExactly, StepsPrinted}
 use Rattle.report.proofs.Answers.{not-given, unless-given}
 use Rattle.report.proofs.Found.{tabled-at}
@@ -47,12 +49,17 @@ module _ (f : Failure) (w : wellFormed (f .trace) ≡ true) (cl : f .step ≤ si
       (steps-exactly t w past (f .step) cl l (lowestOrder R) s h none-lost c, steps-at-most t w past (f .step) cl l (lowestOrder R) s h)
 
   ends-exactly : EndsExactly f (printedOf (given (recoveryOf f)))
-  unfolding printedOf
+  unfolding printedOf totalLine
   ends-exactly =
       let r = recoveryOf f in
       let front = gather (processLineOf r) (length (r .line)) ++ messageLines keyOrphan (r .orphans) ++ messageLines keyKept (r .kept) in
       let (e, b) = exactly in
-      ((front, rw e), rw (← e) b)
+      let A = bytesOf "out=total back=" ++ decimal (r .back) in
+      let B = bytesOf " orphans=" ++ decimal (length (r .orphans)) in
+      let C = bytesOf " kept=" ++ decimal (length (r .kept)) in
+      let D = bytesOf " steps=" ++ decimal (exactSteps R) ++ 10 ∷ [] in
+      let q = sym (append-assoc (front ++ A ++ B) C D ∙ append-assoc (front ++ A) B (C ++ D) ∙ append-assoc front A (B ++ (C ++ D))) in
+      ((front ++ A ++ B ++ C, rw e q), rw (← e) b)
 
 pub steps-printed : (text : List ℕ) → StepsPrinted text
 unfolding failureOf printed recovery

@@ -15,6 +15,8 @@ use Rattle.theory.specs.Line.{inSet, Run, recorded, current, reached, greatestL
 use Rattle.theory.specs.Order.{steps, mostSteps, lowestOrder}
 use Rattle.theory.specs.Answers.{lineOf, Listed, gather, orphans, keptOnes, exactSteps}
 use Rattle.theory.specs.Refusals.{failureFault}
+use Rattle.text.specs.Number.{decimal}
+use Rattle.printing.specs.Bytes.{bytesOf}
 use Rattle.printing.specs.Lines.{processLine, messageLine, totalLine, refusalLine, keyOrphan, keyKept}
 
 -- an answer, or a refusal: its number and its place
@@ -120,9 +122,8 @@ printed text = printedOf (pick (ltb 65536 (length text)) (refused 1 0) (recovery
 -- `steps=` in the last line is exact; and at most twice the number of events
 abbrev pub EndsExactly : Failure → List ℕ → Type 0
 EndsExactly f bytes =
-    let r = recoveryOf f in
     let n = exactSteps (runOf f (engineLine f)) in
-    ((front : List ℕ) × (bytes ≡ front ++ totalLine (r .back) (length (r .orphans)) (length (r .kept)) n)) × (n ≤ mostSteps (f .trace))
+    ((front : List ℕ) × (bytes ≡ front ++ (bytesOf " steps=" ++ decimal n ++ 10 ∷ []))) × (n ≤ mostSteps (f .trace))
 
 abbrev pub StepsPrinted : List ℕ → Type 0
 StepsPrinted text = (f : Failure) → length text ≤ 65536 → failureOf text ≡ given f → EndsExactly f (printed text)

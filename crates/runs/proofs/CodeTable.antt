@@ -1,7 +1,7 @@
 -- The runs R1 to R12 of document 01, now of the code: what its public functions answer and leave, by their contracts.
 -- The same rows as in Table, from which they follow by the laws of Calls; that every complete order has the steps of
--- document 02's formula, by the contract of `replay` alone. A table area and a run area are any that the
--- caller lends, of 16,384 words or more.
+-- document 02's formula, by the contract of `replay` alone. A table area and a run area are any that the caller lends,
+-- of 16,384 words or more.
 use Prim.Native.Nat.{ℕ, _≤_}
 use Prim.Native.String.{String}
 use mathlib.Core.Path.{_≡_, refl, sym, ap, _∙_}

@@ -1,7 +1,7 @@
 -- What document 01 promises of recovery, and document 02 of its steps (item 2), each claim under its sentence. Read
--- this file first, with the definitions of specs/; the other files of proofs/ say why. `demand-3` is demand 3 whole. All
--- claims hold for every well-formed trace (crate trace), every cut, and, where `rule` and `usable` are named, for every
--- rule of logging and every set of usable checkpoints; document 01's own are `past` and `reached`.
+-- this file first, with the definitions of specs/; the other files of proofs/ say why. `demand-3` is demand 3 whole.
+-- All claims hold for every well-formed trace (crate trace), every cut, and, where `rule` and `usable` are named, for
+-- every rule of logging and every set of usable checkpoints; document 01's own are `past` and `reached`.
 use mathlib.Core.Path.{_≡_, sym, _∙_}
 use mathlib.Core.Logic.{_⊎_, inl, inr, _↔_, _≢_}
 use mathlib.Core.Bool.{Bool, true, false, _&&_, _||_, not}

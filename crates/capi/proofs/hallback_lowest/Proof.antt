@@ -2,7 +2,7 @@
 use mathlib.Core.Path.{refl, ap, _∙_}
 use Rattle.orders.specs.declared.Replayed.{Replayed}
 use Rattle.capi.specs.Answers.{lowestAnswer, lowestArea, replayNumbers}
-use Rattle.capi.proofs.Giving.{answer-is, steps-in, completed-in}
+use Rattle.capi.proofs.Giving.{answer-is, lowest-given}
 use borrow.Author.Needs.{needs}
 use Rattle.capi.proofs.hallback_lowest.Statement.{statement}
 use Rattle.capi.proofs.hallback_lowest.Tie as tie
@@ -16,9 +16,9 @@ returns c =
     let e = (lowest .ensures .0) ∙ ap (lowestAnswer (args .table .now) ((args .run) .now) (args .step) (args .set)) (line-from .ensures) in
     let w = (lowest .ensures .1 .0) ∙ ap (lowestArea (args .table .now) ((args .run) .now) (args .step) (args .set)) (line-from .ensures) in
     let n = answer-is _ _ _ _ _ refl (put-replayed .ensures) in
-    let x = steps-in (args .table .now) (args .step) _ (lowest .result) _ _ n _ (line-from .ensures) (lowest .ensures .1 .1 .1 .0, lowest .ensures .1 .1 .1 .1 .0) in
-    let d = completed-in (args .table .now) (args .step) _ (lowest .result) _ _ n (args .run .now) (args .set) (lowest .ensures .0) (lowest .ensures .1 .1 .1 .1 .1) in
-    (ap (λ (y : Replayed). y .number) e, (w, (answer-is _ _ _ _ _ (ap replayNumbers e) (put-replayed .ensures), (x .0, (x .1, d)))))
+    let x = lowest-given (args .table .now) (args .step) _ (lowest .result) _ _ n _ (line-from .ensures) (args .run .now) (args .set) (lowest .ensures .0)
+    (lowest .ensures .1 .1 .1 .0) (lowest .ensures .1 .1 .1 .1 .0) (lowest .ensures .1 .1 .1 .1 .1 .1) in
+    (ap (λ (y : Replayed). y .number) e, (w, (answer-is _ _ _ _ _ (ap replayNumbers e) (put-replayed .ensures), x)))
 
 pub hallback-lowest-spec : {M : Type 1} → statement M
 hallback-lowest-spec =

@@ -19,7 +19,7 @@ returns c =
     let refused = c .refused in
     let order = lowestOrder (runOf (args .table .now) (args .step) (args .line)) in
     let x = refuses (args .table .now) (args .area .now) (args .step) (args .set) (args .line) order _ _ (prepare .ensures .0) (if1 .taken) (refused .ensures) in
-    (x .0, (x .1 .0, (x .1 .1 .0, (x .1 .1 .1 .0, (x .1 .1 .1 .1, not-completed (args .table .now) (args .area .now) (args .step) (args .set) (args .line) order _ (refused .result) (prepare .ensures .0) (if1 .taken))))))
+    (x .0, (x .1 .0, (x .1 .1 .0, (x .1 .1 .1 .0, (x .1 .1 .1 .1 .0, (x .1 .1 .1 .1 .1, not-completed (args .table .now) (args .area .now) (args .step) (args .set) (args .line) order _ (refused .result) (prepare .ensures .0) (if1 .taken)))))))
 
 slice-relend-prefix-lowest : tie.Need-slice-relend-prefix-lowest
 slice-relend-prefix-lowest c =
@@ -53,7 +53,7 @@ returns-2 c =
     let answer = (lowest .ensures .0) (held (args .table .now)) (lineIn (args .line)) (P .given) in
     let words = (lowest .ensures .1) (held (args .table .now)) (lineIn (args .line)) (P .given) in
     let x = carried (args .table .now) (args .area .now) (args .step) (args .set) (args .line) order (P .holds) (P .given .cut-le) _ _ _ (prepare .ensures .0) (if1 .left) answer words in
-    (x .0, (x .1 .0, (x .1 .1 .0, (x .1 .1 .1 .0, (x .1 .1 .1 .1, completed (args .table .now) (args .area .now) (args .step) (args .set) (args .line) order (P .holds) (P .given .cut-le) _ answer)))))
+    (x .0, (x .1 .0, (x .1 .1 .0, (x .1 .1 .1 .0, (x .1 .1 .1 .1 .0, (x .1 .1 .1 .1 .1, completed (args .table .now) (args .area .now) (args .step) (args .set) (args .line) order (P .holds) (P .given .cut-le) _ answer))))))
 
 pub lowest-spec : {M : Type 1} → statement M
 lowest-spec =
