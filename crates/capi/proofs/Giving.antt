@@ -11,6 +11,7 @@ use Rattle.words.proofs.Cases.{by-eq, clash}
 use Rattle.theory.specs.Lists.{pick}
 use Rattle.recovery_line.specs.declared.Line.{Line}
 use Rattle.orders.specs.declared.Replayed.{Replayed}
+use Rattle.theory.specs.Order.{lowestOrder}
 use Rattle.preparing.specs.Faults.{runOf, faultOf}
 use Rattle.recovery.specs.Answers.{refusal, replayAnswer, CarriesOut, StepsExact, StepsAtMost, Completed}
 use Rattle.restart.specs.declared.Restarted.{Restarted}
@@ -78,10 +79,15 @@ module _ (a : List ℕ) (step : ℕ) (l : Line) (r : Replayed) (before answer : 
   at-most-in x place n rest h = let e = steps-at place n rest h in (omega (arith, x .0), omega (arith, x .1))
 
   carries-out-in : (order : List ℕ) → CarriesOut a step l order r → CarriesOutIn (runOf a step l) order (r .number) answer
-  carries-out-in order x place n c rest z h =
-      let (s, e, k) = x z in
-      let f = flag-at place n c rest h in
-      (s, e, (λ u. k .0 (yes-is (r .complete) .0 (sym f ∙ u)), λ u. f ∙ yes-is (r .complete) .1 (k .1 u)))
+  carries-out-in order x place n rest z h =
+      let (s, e, m, k) = x z in (
+        s,
+        e,
+        steps-at place n rest h ∙ m,
+        λ c more q.
+            let f = flag-at place n c more (h ∙ ap (λ (y : List ℕ). place ∷ n ∷ y) q) in
+            (λ u. k .0 (yes-is (r .complete) .0 (sym f ∙ u)), λ u. f ∙ yes-is (r .complete) .1 (k .1 u)),
+      )
 
   -- an answer of `lowest` that is no refusal is complete
   all-complete : (area : List ℕ) (set : ℕ) → r ≡ lowestAnswer a area step set l → Completed a (length area) step set l r → r .number ≡ 0 → r .complete ≡ true
@@ -103,8 +109,8 @@ module _ (a : List ℕ) (step : ℕ) (l : Line) (r : Replayed) (before answer : 
       (exact-in (x .0), (at-most-in (x .1 .0), carries-out-in order (x .1 .1)))
 
   pub lowest-given : (m : Line) → l ≡ m → (area : List ℕ) (set : ℕ) → r ≡ lowestAnswer a area step set l → StepsExact a step l r → StepsAtMost a step l r
-      → Completed a (length area) step set l r
-      → LowestExactIn (runOf a step m) (r .number) answer × (AtMostIn (runOf a step m) answer × CompletedIn a (length area) step set m (r .number) answer)
-  lowest-given m e area set q x y c =
-      subst (λ (k : Line). LowestExactIn (runOf a step k) (r .number) answer × (AtMostIn (runOf a step k) answer × CompletedIn a (length area) step set k (r .number) answer)) e
-      (lowest-exact-in x (all-complete area set q c), (at-most-in y, completed-in (length area) set c))
+      → CarriesOut a step l (lowestOrder (runOf a step l)) r → Completed a (length area) step set l r
+      → LowestExactIn (runOf a step m) (r .number) answer × (AtMostIn (runOf a step m) answer × (CarriesOutIn (runOf a step m) (lowestOrder (runOf a step m)) (r .number) answer × CompletedIn a (length area) step set m (r .number) answer))
+  lowest-given m e area set q x y d c =
+      subst (λ (k : Line). LowestExactIn (runOf a step k) (r .number) answer × (AtMostIn (runOf a step k) answer × (CarriesOutIn (runOf a step k) (lowestOrder (runOf a step k)) (r .number) answer × CompletedIn a (length area) step set k (r .number) answer))) e
+      (lowest-exact-in x (all-complete area set q c), (at-most-in y, (carries-out-in (lowestOrder (runOf a step l)) d, completed-in (length area) set c)))

@@ -14,7 +14,7 @@ use Rattle.recovery_line.specs.declared.Line.{Line}
 use Rattle.orders.specs.declared.Replayed.{Replayed}
 use Rattle.theory.specs.Line.{Run, LossFree}
 use Rattle.theory.specs.Replay.{State}
-use Rattle.theory.specs.Order.{carriedOut, run, mostSteps, Complete, lowestOrder}
+use Rattle.theory.specs.Order.{carriedOut, run, steps, mostSteps, Complete, lowestOrder}
 use Rattle.theory.specs.Answers.{exactSteps}
 use Rattle.preparing.specs.Faults.{runOf, faultOf}
 use Rattle.recovery.specs.Answers.{replayAnswer, replayArea}
@@ -51,9 +51,9 @@ lowestAnswer a area step set l = replayAnswer a area step set l (lowestOrder (ru
 abbrev pub lowestArea : List ℕ → List ℕ → ℕ → ℕ → Line → List ℕ
 lowestArea a area step set l = replayArea a area step set l (lowestOrder (runOf a step l))
 
--- ---- What is promised of the steps (crate recovery: `StepsExact`, `StepsAtMost`, `CarriesOut`, `Completed`), of what a
--- caller gets: the number r that is returned, and a slice that begins with place, steps and, if it has room for it, 1 or
--- 0 for complete
+-- ---- What is promised of the steps (crate recovery: `StepsExact`, `StepsAtMost`, `CarriesOut`, `Completed`), of what
+-- a caller gets: the number r that is returned, and a slice that begins with place, steps and, if it has room for it, 1
+-- or 0 for complete
 
 -- a complete order from a line that loses no message has exactly so many steps; the lowest order always does
 abbrev pub ExactIn : Run → ℕ → List ℕ → Type 0
@@ -67,11 +67,11 @@ abbrev pub AtMostIn : Run → List ℕ → Type 0
 AtMostIn R answer =
     (place n : ℕ) (rest : List ℕ) → answer ≡ place ∷ n ∷ rest → (n ≤ mostSteps (R .trace)) × (n ≤ exactSteps R)
 
--- an order that is not refused was carried out, and 1 says that it is complete
+-- an order that is not refused was carried out; the steps are its length, and 1 says that it is complete
 abbrev pub CarriesOutIn : Run → List ℕ → ℕ → List ℕ → Type 0
 CarriesOutIn R order r answer =
-    (place n c : ℕ) (rest : List ℕ) → r ≡ 0 → answer ≡ place ∷ n ∷ c ∷ rest
-    → (s : State) × (run R order ≡ carriedOut s) × ((c ≡ 1) ↔ Complete R s)
+    (place n : ℕ) (rest : List ℕ) → r ≡ 0 → answer ≡ place ∷ n ∷ rest
+    → (s : State) × (run R order ≡ carriedOut s) × (n ≡ steps order) × ((c : ℕ) (more : List ℕ) → rest ≡ c ∷ more → (c ≡ 1) ↔ Complete R s)
 
 -- the lowest order is never refused with 11, and always complete
 abbrev pub CompletedIn : List ℕ → ℕ → ℕ → ℕ → Line → ℕ → List ℕ → Type 0

@@ -2,6 +2,7 @@
 // Each returns the number of the refusal, or 0, and writes the rest of its answer into a lent slice, as far as that has
 // room (specs/Answers). No function has a `requires`. Assumes nothing.
 ghost use mathlib.Core.Path.{_≡_};
+ghost use Prim.Native.Nat.{_≤_};
 ghost use mathlib.Core.List.{[], _∷_};
 ghost use lib.ListN.{length, getD};
 ghost use Rattle.theory.specs.Lists.{pick};
@@ -10,11 +11,12 @@ ghost use Rattle.reader.specs.Answer.{readAnswer, readArea};
 ghost use Rattle.reader.specs.Failure.{failureAnswer, failureArea};
 ghost use Rattle.rendering.specs.Write.{writeAnswer, writeBuffer};
 ghost use Rattle.rendering.specs.Meaning.{RoundTrip};
+ghost use Rattle.theory.specs.Order.{lowestOrder};
 ghost use Rattle.preparing.specs.Faults.{runOf};
 ghost use Rattle.recovery.specs.Answers.{replayAnswer, replayArea};
 ghost use Rattle.messages.specs.Messages.{messagesAnswer, messagesArea};
 ghost use Rattle.restart.specs.Restart.{restartAnswer};
-ghost use Rattle.report.specs.Report.{printed, StepsPrinted};
+ghost use Rattle.report.specs.Report.{printed, StepsPrinted, reportBytes};
 ghost use Rattle.capi.specs.Answers.{lineGiven, readNumbers, failureNumbers, writeNumbers, restartNumbers, messagesNumbers, replayNumbers, lowestAnswer, lowestArea, ExactIn, LowestExactIn, AtMostIn, CarriesOutIn, CompletedIn};
 use orders::Replayed;
 use recovery_line::Line;
@@ -229,6 +231,7 @@ pub extern "C" fn hallback_lowest(
     ensures numbers { λ _. ⌜ now (answer .exit) ≡ written (replayNumbers (lowestAnswer (now (table .entry)) (now (run .entry)) step set (lineGiven (now (line .entry))))) (now (answer .entry)) ⌝ }
     ensures exact { λ r. ⌜ LowestExactIn (runOf (now (table .entry)) step (lineGiven (now (line .entry)))) r (now (answer .exit)) ⌝ }
     ensures at_most { λ _. ⌜ AtMostIn (runOf (now (table .entry)) step (lineGiven (now (line .entry)))) (now (answer .exit)) ⌝ }
+    ensures carried { λ r. ⌜ CarriesOutIn (runOf (now (table .entry)) step (lineGiven (now (line .entry)))) (lowestOrder (runOf (now (table .entry)) step (lineGiven (now (line .entry))))) r (now (answer .exit)) ⌝ }
     ensures completed { λ r. ⌜ CompletedIn (now (table .entry)) (length (now (run .entry))) step set (lineGiven (now (line .entry))) r (now (answer .exit)) ⌝ }
 {
     let r = recovery::lowest(table, step, set, line_from(line), run);
@@ -242,6 +245,7 @@ pub extern "C" fn hallback_report(text: &[u8], out: &mut [u8]) -> usize
     ensures length { λ r. ⌜ r ≡ length (room (printed (now (text .entry))) (now (out .entry))) ⌝ }
     ensures bytes { λ _. ⌜ now (out .exit) ≡ written (printed (now (text .entry))) (now (out .entry)) ⌝ }
     ensures exact { λ _. ⌜ StepsPrinted (now (text .entry)) ⌝ }
+    ensures few { λ _. ⌜ length (printed (now (text .entry))) ≤ reportBytes ⌝ }
 {
     report::report(text, out)
 }

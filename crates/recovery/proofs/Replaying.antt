@@ -72,7 +72,7 @@ module _ (a area : List ℕ) (step set : ℕ) (l : Line) (order : List ℕ) wher
 
     carries-out : (o : Outcome) → run R order ≡ o → CarriesOut a step l order (answerOf R o (length order))
     unfolding answerOf
-    carries-out (carriedOut s) e n = (s, e, complete-iff R s)
+    carries-out (carriedOut s) e n = (s, e, refl, complete-iff R s)
     carries-out (refused i) e n = absurd (let y : ⊥ = omega arith in y)
 
     -- the lowest order is carried out, and no choice is left

@@ -40,12 +40,12 @@ abbrev pub Equal : List ℕ → ℕ → Line → Replayed → List ℕ → Type 
 Equal a step l r w =
     r .number ≡ 0 → r .complete ≡ true → (take areaWords w ≡ wordsFrom (faultlessAt (held a)) 0 areaWords) ↔ LossFree (runOf a step l)
 
--- An order that is not refused was carried out, and the answer says whether it is complete: "An order is complete when
--- no choice is allowed".
+-- An order that is not refused was carried out: "Steps is the length of the order carried out", and the answer says
+-- whether it is complete, "when no choice is allowed".
 abbrev pub CarriesOut : List ℕ → ℕ → Line → List ℕ → Replayed → Type 0
 CarriesOut a step l order r =
     let R = runOf a step l in
-    r .number ≡ 0 → (s : State) × (run R order ≡ carriedOut s) × ((r .complete ≡ true) ↔ Complete R s)
+    r .number ≡ 0 → (s : State) × (run R order ≡ carriedOut s) × (r .steps ≡ steps order) × ((r .complete ≡ true) ↔ Complete R s)
 
 -- Document 02, item 2: "For a line without loss, every complete order has exactly as many steps as there are listed
 -- events after the restarts (after the cut for staying zones) plus kept messages."

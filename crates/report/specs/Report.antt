@@ -115,8 +115,11 @@ printedOf (given r) =
     ++ totalLine (r .back) (length (r .orphans)) (length (r .kept)) (r .steps)
 
 -- "The program takes at most 65,536 bytes; more is 1 at place 0, before anything else."
+abbrev pub textMost : ℕ
+textMost = 65536
+
 unfoldable pub printed : List ℕ → List ℕ
-printed text = printedOf (pick (ltb 65536 (length text)) (refused 1 0) (recovery text))
+printed text = printedOf (pick (ltb textMost (length text)) (refused 1 0) (recovery text))
 
 -- Document 02, item 2, of what is printed: the engine's line loses no message and the lowest order is complete, so that
 -- `steps=` in the last line is exact; and at most twice the number of events
@@ -126,7 +129,7 @@ EndsExactly f bytes =
     ((front : List ℕ) × (bytes ≡ front ++ (bytesOf " steps=" ++ decimal n ++ 10 ∷ []))) × (n ≤ mostSteps (f .trace))
 
 abbrev pub StepsPrinted : List ℕ → Type 0
-StepsPrinted text = (f : Failure) → length text ≤ 65536 → failureOf text ≡ given f → EndsExactly f (printed text)
+StepsPrinted text = (f : Failure) → length text ≤ textMost → failureOf text ≡ given f → EndsExactly f (printed text)
 
 -- a buffer of so many bytes holds every report
 abbrev pub reportBytes : ℕ
