@@ -177,6 +177,11 @@ fn malformed_lines() {
         sign:ev=save at=-1\n;\
         number-then-letter:ev=save at=0x\n;\
         high-byte:ev=save at=\xb0\n;\
+        8a-for-lf:ev=save at=0\x8aev=save at=0\n;\
+        0b-for-lf:ev=save at=0\x0bev=save at=0\n;\
+        09-for-lf:ev=save at=0\x09ev=save at=0\n;\
+        00-for-lf:ev=save at=0\x00ev=save at=0\n;\
+        ff-for-lf:ev=save at=0\xffev=save at=0\n;\
         unknown-kind:ev=stop at=0\n;\
         capital:EV=save at=0\n;\
         count-again:procs=2\n;\

@@ -11,6 +11,7 @@ use lib.Count.{trailingZeros}
 use lib.Pow.{shr-shr, pow-pos, pow-lt}
 use borrow.Author.Tests.{eq-eqb, ne-eqb}
 use Rattle.words.proofs.Cases.{by-eq, clash}
+use Rattle.words.proofs.Zeros.{even-zeros, odd-zeros}
 use Rattle.theory.specs.Line.{inSet}
 use Rattle.sets.specs.Sets.{everyone, firstIn, restOf, withIn, Outside}
 
@@ -39,23 +40,13 @@ bit-and m x z =
     let e : bitAnd a b % 2 ≡ min (a % 2) (b % 2) = (let s = and-step a b in omega (arith, s)) in
     rw (and-shr m x z) e
 
--- an even number's bits are those of its half; an odd one has its first member at 0
-module _ (k m : ℕ) where
-  even-first : m % 2 ≡ 0 → trailingZeros (suc k) m ≡ suc (trailingZeros k (m / 2))
-  unfolding trailingZeros
-  even-first h = rw h
-
-  odd-first : m % 2 ≡ 1 → trailingZeros (suc k) m ≡ 0
-  unfolding trailingZeros
-  odd-first h = rw h
-
 -- no member comes before the first
 before-first : (k m z : ℕ) → z < trailingZeros k m → bit m z ≡ 0
 unfolding trailingZeros
 before-first zero m z h = absurd (omega arith)
-before-first (suc k) m zero h = by-eq (m % 2) 0 (λ e. bit-zero m ∙ e) (λ o. absurd (omega (arith, odd-first k m (omega arith))))
+before-first (suc k) m zero h = by-eq (m % 2) 0 (λ e. bit-zero m ∙ e) (λ o. absurd (omega (arith, odd-zeros k m (omega arith))))
 before-first (suc k) m (suc y) h =
-    by-eq (m % 2) 0 (λ e. bit-suc m y ∙ before-first k (m / 2) y (omega (arith, even-first k m e))) (λ o. absurd (omega (arith, odd-first k m (omega arith))))
+    by-eq (m % 2) 0 (λ e. bit-suc m y ∙ before-first k (m / 2) y (omega (arith, even-zeros k m e))) (λ o. absurd (omega (arith, odd-zeros k m (omega arith))))
 
 -- a number of k + 1 bits that is even and not 0: its half
 module _ (k m : ℕ) (p : 0 < m) (l : m < 2 ^ suc k) where
@@ -69,18 +60,18 @@ first-bit : (k m : ℕ) → 0 < m → m < 2 ^ k → (trailingZeros k m < k) × (
 first-bit zero m p l = absurd (omega (arith, pow-zero 2))
 first-bit (suc k) m p l = by-eq (m % 2) 0
     (λ e. let i = first-bit k (m / 2) (half-pos k m p l e) (half-lt k m p l) in
-    rw (even-first k m e) (omega (arith, i .0), bit-suc m (trailingZeros k (m / 2)) ∙ i .1))
-    (λ o. let e : m % 2 ≡ 1 = omega arith in rw (odd-first k m e) (omega arith, bit-zero m ∙ e))
+    rw (even-zeros k m e) (omega (arith, i .0), bit-suc m (trailingZeros k (m / 2)) ∙ i .1))
+    (λ o. let e : m % 2 ≡ 1 = omega arith in rw (odd-zeros k m e) (omega arith, bit-zero m ∙ e))
 
 -- one less has every member but the first
 less-one : (k m z : ℕ) → 0 < m → m < 2 ^ k → (z ≡ trailingZeros k m → ⊥) → bit m z ≤ bit (m - 1) z
 less-one zero m z p l h = absurd (omega (arith, pow-zero 2))
 less-one (suc k) m zero p l h = by-eq (m % 2) 0
     (λ e. omega (arith, bit-zero m, e))
-    (λ o. absurd (h (sym (odd-first k m (omega arith)))))
+    (λ o. absurd (h (sym (odd-zeros k m (omega arith)))))
 less-one (suc k) m (suc y) p l h = by-eq (m % 2) 0
     (λ e. let q : (m - 1) / 2 ≡ m / 2 - 1 = omega arith in
-    let i = less-one k (m / 2) y (half-pos k m p l e) (half-lt k m p l) (λ x. h (ap suc x ∙ sym (even-first k m e))) in
+    let i = less-one k (m / 2) y (half-pos k m p l e) (half-lt k m p l) (λ x. h (ap suc x ∙ sym (even-zeros k m e))) in
     rw (bit-suc m y, bit-suc (m - 1) y, q) i)
     (λ o. let q : (m - 1) / 2 ≡ m / 2 = omega arith in rw (bit-suc m y, bit-suc (m - 1) y, q) (omega arith))
 

@@ -1,49 +1,16 @@
--- Laws of several bytes looked at together: the first LF of eight, and keys by numbers that stand for four bytes.
-use Prim.Native.Nat.{ℕ, suc, zero, _+_, _*_, _<_, _≤_}
+-- Laws of numbers that stand for several bytes: which bytes they are, and keys compared by fours.
+use Prim.Native.Nat.{ℕ, suc, zero, _+_, _*_, _/_, _%_, _^_, _<_, _≤_}
 use mathlib.Core.Path.{_≡_, refl, sym, _∙_, ap}
 use mathlib.Core.List.{List, [], _∷_}
 use mathlib.Core.Bool.{false}
 use native.Mathlib.Omega.{arith}
-use native.Mathlib.Nat.{add-zero}
+use native.Mathlib.Nat.{pow-zero, pow-suc, div-one, zero-div, mul-comm, div-div-eq-div-mul}
 use lib.ListN.{length, getD, drop, length-drop}
 use lib.Seq.{drop-cons, drop-drop, getD-drop}
 use borrow.Author.Tests.{eq-eqb, ne-eqb}
 use Rattle.words.proofs.Cases.{by-eq}
-use Rattle.text.specs.declared.LineEnd.the-variants.{At}
-use Rattle.text.specs.Line.{lineEnd}
 use Rattle.text.specs.Key.{startsWith}
-use Rattle.text.specs.Blocks.{FirstOfEight, packed}
-use Rattle.text.proofs.Lines.{lf-here, lf-next}
-
--- the search comes from a place past k bytes that are no LF
-abbrev pub Passed : List ℕ → ℕ → ℕ → Type 0
-Passed text at k = lineEnd text at ≡ lineEnd text (at + k)
-
-module _ (text : List ℕ) (at : ℕ) where
-  pub passed-first : at < length text → (getD text at 0 ≡ 10 → ⊥) → Passed text at 1
-  passed-first h n = lf-next text at h n
-
-  pub passed-more : (k : ℕ) → at + k < length text → Passed text at k → (getD text (at + k) 0 ≡ 10 → ⊥) → Passed text at (k + 1)
-  passed-more k h p n = p ∙ lf-next text (at + k) h n ∙ ap (λ (i : ℕ). lineEnd text i) (omega arith)
-
-  pub eight-found : (k : ℕ) → k < 8 → at + 8 ≤ length text → Passed text at k → getD text (at + k) 0 ≡ 10 → FirstOfEight text at k
-  eight-found k l h p e =
-      record {
-        within = omega arith;
-        found = λ _. p ∙ lf-here text (at + k) (omega arith) e;
-        passed = λ q. absurd (let z : ⊥ = omega arith in z);
-      }
-
-  pub eight-first : at + 8 ≤ length text → getD text at 0 ≡ 10 → FirstOfEight text at 0
-  eight-first h e = eight-found 0 (omega arith) h (rw (add-zero at)) (rw (add-zero at) e)
-
-  pub eight-none : Passed text at 8 → FirstOfEight text at 8
-  eight-none p =
-      record {
-        within = omega arith;
-        found = λ l. absurd (let z : ⊥ = omega arith in z);
-        passed = λ _. p;
-      }
+use Rattle.text.specs.Blocks.{packed, byteOf}
 
 -- the words of a list are bytes
 abbrev pub Bytes : List ℕ → Type 0
@@ -62,6 +29,39 @@ module _ (text : List ℕ) (at : ℕ) where
       → getD text at 0 + 256 * getD text (at + 1) 0 + 65536 * getD text (at + 2) 0 + 16777216 * getD text (at + 3) 0 ≡ packed 4 (drop at text)
   unfolding packed
   four-packed h = rw (from-here (omega arith), from-past 1 (omega arith), from-past 2 (omega arith), from-past 3 (omega arith)) (omega arith)
+
+-- eight bytes are four and four
+pub two-fours : (l : List ℕ) → packed 4 l + 4294967296 * packed 4 (drop 4 l) ≡ packed 8 l
+unfolding packed
+two-fours [] = refl
+two-fours (a ∷ []) = omega arith
+two-fours (a ∷ b ∷ []) = omega arith
+two-fours (a ∷ b ∷ c ∷ []) = omega arith
+two-fours (a ∷ b ∷ c ∷ d ∷ l) = omega arith
+
+-- a number's first byte, and those behind it
+module _ (w : ℕ) where
+  pub byte-first : byteOf w 0 ≡ w % 256
+  unfolding byteOf
+  byte-first = rw (pow-zero 256, div-one w)
+
+  pub byte-next : (i : ℕ) → byteOf w (suc i) ≡ byteOf (w / 256) i
+  unfolding byteOf
+  byte-next i = rw (pow-suc 256 i, mul-comm (256 ^ i) 256, div-div-eq-div-mul w 256 (256 ^ i))
+
+zero-byte : (i : ℕ) → byteOf 0 i ≡ 0
+unfolding byteOf
+zero-byte i = rw (zero-div (256 ^ i))
+
+-- the bytes of the number are those of the list
+pub byte-packed : (k : ℕ) (l : List ℕ) (i : ℕ) → i < k → Bytes l → byteOf (packed k l) i ≡ getD l i 0
+unfolding packed
+byte-packed zero l i h p = absurd (let z : ⊥ = omega arith in z)
+byte-packed (suc k) [] i h p = zero-byte i
+byte-packed (suc k) (b ∷ l) zero h p = byte-first (b + 256 * packed k l) ∙ omega (arith, p 0)
+byte-packed (suc k) (b ∷ l) (suc i) h p =
+    let e : (b + 256 * packed k l) / 256 ≡ packed k l = omega (arith, p 0) in
+    byte-next (b + 256 * packed k l) i ∙ rw e (byte-packed k l i (omega arith) (λ j. p (suc j)))
 
 -- lists that begin with the same number of k bytes agree there, and others do not
 pub starts-packed : (k : ℕ) (l m : List ℕ) → k ≤ length l → k ≤ length m → Bytes l → Bytes m
@@ -85,7 +85,7 @@ starts-unpacked (suc k) (b ∷ l) (c ∷ m) h g n =
     (λ e. rw (eq-eqb b c e) (starts-unpacked k l m (omega arith) (omega arith) (λ s. n (rw (e, s)))))
     (λ d. rw (ne-eqb b c d))
 
-bytes-from : (n : ℕ) (l : List ℕ) → Bytes l → Bytes (drop n l)
+pub bytes-from : (n : ℕ) (l : List ℕ) → Bytes l → Bytes (drop n l)
 bytes-from n l b i = rw (getD-drop n l i 0) (b (n + i))
 
 -- a turn of the key's loop by fours, where the key has room in the text

@@ -1,4 +1,5 @@
 pub mod Lines
 pub mod Blocks
+pub mod Marks
 pub mod Numbers
 pub mod Keys

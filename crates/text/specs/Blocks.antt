@@ -1,19 +1,31 @@
--- Several bytes looked at together. No public contract cites these.
-use Prim.Native.Nat.{ℕ, suc, zero, _+_, _*_, _<_, _≤_}
+-- Several bytes looked at together, as one number. No public contract cites these.
+use Prim.Native.Nat.{ℕ, suc, zero, _+_, _*_, _/_, _%_, _^_, _<_, _≤_}
 use mathlib.Core.Path.{_≡_}
 use mathlib.Core.List.{List, [], _∷_}
-use Rattle.text.specs.declared.LineEnd.the-variants.{At}
-use Rattle.text.specs.Line.{lineEnd}
-
--- the first LF of a text from a place on is byte k of the eight there; or k is 8, and it is the first from the next
--- eight on
-pub record FirstOfEight (text : List ℕ) (at k : ℕ) : Type 0 where
-  pub within : k ≤ 8
-  pub found : k < 8 → lineEnd text at ≡ At (at + k)
-  pub passed : k ≡ 8 → lineEnd text at ≡ lineEnd text (at + 8)
+use mathlib.Core.Bool.{cond}
+use lib.Dec.{eqb}
 
 -- the first k bytes as one number, the first of them lowest
 unfoldable pub packed : ℕ → List ℕ → ℕ
 packed zero bs = 0
 packed (suc k) [] = 0
 packed (suc k) (b ∷ bs) = b + 256 * packed k bs
+
+-- byte i of a number, the lowest being byte 0
+unfoldable pub byteOf : ℕ → ℕ → ℕ
+byteOf w i = w / 256 ^ i % 256
+
+-- one of the k lowest bytes of a number is LF
+abbrev pub AnyLf : ℕ → ℕ → Type 0
+AnyLf k w = (i : ℕ) × (i < k) × (byteOf w i ≡ 10)
+
+-- byte i is the first LF of the k lowest bytes of a number; or i is k, and none is
+pub record FirstLf (k w i : ℕ) : Type 0 where
+  pub within : i ≤ k
+  pub here : i < k → byteOf w i ≡ 10
+  pub before : (j : ℕ) → j < i → byteOf w j ≡ 10 → ⊥
+
+-- of the k lowest bytes of a number, 128 for each that is LF and 0 for each other, in its place
+unfoldable pub marks : ℕ → ℕ → ℕ
+marks zero w = 0
+marks (suc k) w = cond (eqb (w % 256) 10) 128 0 + 256 * marks k (w / 256)

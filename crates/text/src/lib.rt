@@ -2,10 +2,11 @@
 // specs/, for every text and place; no public function has a `requires`. Assumes nothing.
 ghost use mathlib.Core.Bool.{true};
 ghost use mathlib.Core.Path.{_≡_};
+ghost use mathlib.Core.Logic.{_↔_};
 ghost use Prim.Native.Nat.{_+_, _-_, _≤_, _<_};
 ghost use lib.ListN.{length, drop, getD};
 ghost use Rattle.text.specs.Line.{lineEnd};
-ghost use Rattle.text.specs.Blocks.{FirstOfEight, packed};
+ghost use Rattle.text.specs.Blocks.{packed, marks, AnyLf, FirstLf};
 ghost use Rattle.text.specs.Number.{isDigit, pushed, digitsFrom, numberAt};
 ghost use Rattle.text.specs.Key.{startsWith, keyAt};
 
@@ -34,36 +35,53 @@ fn less(n: usize, k: usize) -> usize
     if n < k { 0 } else { n - k }
 }
 
-// Which of the eight bytes from a place on is the first LF, counted from 0; 8 where none is.
-fn lf_of_eight(text: &[u8], at: usize) -> usize
-    requires { ⌜ at + 8 ≤ length (now text) ⌝ }
-    ensures { λ r. ⌜ FirstOfEight (now (text .entry)) at r ⌝ }
+// Four bytes from a place on as one number, the first of them lowest: the machine takes them at once.
+fn four(text: &[u8], at: usize) -> u32
+    requires { ⌜ at + 4 ≤ length (now text) ⌝ }
+    ensures { λ r. ⌜ r ≡ packed 4 (drop at (now (text .entry))) ⌝ }
 {
-    if text[at] == 10 {
-        return 0;
-    }
-    if text[at + 1] == 10 {
-        return 1;
-    }
-    if text[at + 2] == 10 {
-        return 2;
-    }
-    if text[at + 3] == 10 {
-        return 3;
-    }
-    if text[at + 4] == 10 {
-        return 4;
-    }
-    if text[at + 5] == 10 {
-        return 5;
-    }
-    if text[at + 6] == 10 {
-        return 6;
-    }
-    if text[at + 7] == 10 {
-        return 7;
-    }
-    8
+    text[at] as u32
+        + 256 * (text[at + 1] as u32)
+        + 65536 * (text[at + 2] as u32)
+        + 16777216 * (text[at + 3] as u32)
+}
+
+// Eight bytes likewise.
+fn eight(text: &[u8], at: usize) -> u64
+    requires { ⌜ at + 8 ≤ length (now text) ⌝ }
+    ensures { λ r. ⌜ r ≡ packed 8 (drop at (now (text .entry))) ⌝ }
+{
+    four(text, at) as u64 + 4294967296 * (four(text, at + 4) as u64)
+}
+
+// LF in each of eight bytes.
+const LFS: u64 = 0x0a0a0a0a0a0a0a0a;
+
+// The low seven bits of each of eight bytes.
+const LOWS: u64 = 0x7f7f7f7f7f7f7f7f;
+
+// The highest bit of each byte of a number that is LF, and no other bit. A byte that is not LF differs from it in its
+// highest bit, or in one of the low seven, and then 0x7f and these carry into the highest, but never out of the byte.
+fn lf_marks(w: u64) -> u64
+    ensures { λ r. ⌜ r ≡ marks 8 w ⌝ }
+{
+    let differs = w ^ LFS;
+    let carried = (differs & LOWS) + LOWS;
+    !(carried | differs | LOWS)
+}
+
+// Whether one of the eight bytes of a number is LF.
+fn has_lf(w: u64) -> bool
+    ensures { λ r. ⌜ (r ≡ true) ↔ AnyLf 8 w ⌝ }
+{
+    lf_marks(w) != 0
+}
+
+// Which of the eight bytes of a number is the first LF, counted from 0; 8 where none is.
+fn first_lf(w: u64) -> usize
+    ensures { λ r. ⌜ FirstLf 8 w r ⌝ }
+{
+    u64::trailing_zeros(lf_marks(w)) as usize / 8
 }
 
 // The first LF at or after a place, byte by byte.
@@ -80,16 +98,16 @@ fn lf_singly(text: &[u8], from: usize) -> LineEnd
     LineEnd::Missing
 }
 
-// The first LF at or after a place: eight bytes to a turn, and the last few singly.
+// The first LF at or after a place: eight bytes together, and the last few singly.
 pub fn line_end(text: &[u8], from: usize) -> LineEnd
     ensures { λ r. ⌜ r ≡ lineEnd (now (text .entry)) from ⌝ }
 {
     let eights = less(text.len(), 7);
     let mut at = from;
     while at < eights {
-        let k = lf_of_eight(text, at);
-        if k < 8 {
-            return LineEnd::At(at + k);
+        let w = eight(text, at);
+        if has_lf(w) {
+            return LineEnd::At(at + first_lf(w));
         }
         at += 8;
     }
@@ -183,17 +201,6 @@ pub fn number(text: &[u8], at: usize, bound: u64) -> Num
         return Num::Refused;
     }
     Num::Value(0, at + 1)
-}
-
-// Four bytes from a place on as one number: the machine takes them at once.
-fn four(text: &[u8], at: usize) -> u32
-    requires { ⌜ at + 4 ≤ length (now text) ⌝ }
-    ensures { λ r. ⌜ r ≡ packed 4 (drop at (now (text .entry))) ⌝ }
-{
-    text[at] as u32
-        + 256 * (text[at + 1] as u32)
-        + 65536 * (text[at + 2] as u32)
-        + 16777216 * (text[at + 3] as u32)
 }
 
 // Whether the rest of a key, from its byte `from` on, stands in the text where the whole key would stand at a place;

@@ -1,2 +1,3 @@
 pub mod Cases
 pub mod Area
+pub mod Zeros

@@ -5,6 +5,8 @@ use lib.ListN.{length}
 use Rattle.text.specs.Line.{lineEnd}
 use native.Mathlib.Omega.{arith}
 use borrow.Author.Needs.{needs}
+use Rattle.words.proofs.Cases.{clash}
+use Rattle.text.proofs.Marks.{none-of-eight, first-of-eight}
 use Rattle.text.proofs.line_end.Statement.{statement}
 use Rattle.text.proofs.line_end.Tie as tie
 
@@ -17,40 +19,33 @@ abbrev μ-loop : tie.MeasureT-loop
 loop-holds : tie.Need-loop-holds Inv-loop μ-loop
 loop-holds c = refl
 
-lf-of-eight-requires : tie.Need-lf-of-eight-requires Inv-loop μ-loop
-lf-of-eight-requires c κs =
-    let less = c .before .before .less in
-    omega (arith, (less .ensures))
-
-add-t8 : tie.Need-add-t8 Inv-loop μ-loop
-add-t8 c =
-    let less = c .before .before .before .before .less in
-    let good = c .before .before .before .before .before .before .good in
-    omega (arith, (less .ensures), good)
-
 returns : tie.Need-returns Inv-loop μ-loop
 returns c =
-    let lf-of-eight = c .before .lf-of-eight in
-    let if1 = c .if1 in
-    let loop = c .before .before .before .loop in
-    sym ((lf-of-eight .ensures) .found (if1 .taken)) ∙ (loop .inv)
-
-add-at : tie.Need-add-at Inv-loop μ-loop
-add-at c =
-    let less = c .before .before .before .before .less in
-    let good = c .before .before .before .before .before .before .good in
-    omega (arith, (less .ensures), good)
+    let first-lf = c .first-lf in
+    let if1 = c .before .if1 in
+    let has-lf = c .before .before .has-lf in
+    let eight = c .before .before .before .eight in
+    let loop = c .before .before .before .before .before .loop in
+    let less = c .before .before .before .before .before .before .less in
+    let shared-slice-known = c .before .before .before .before .before .before .before .shared-slice-known in
+    sym (first-of-eight _ (loop .at) _ (omega (arith, less .ensures)) (λ i. omega (arith, (shared-slice-known .given) i)) (eight .ensures) _ ((has-lf .ensures) .0 (if1 .taken)) (first-lf .ensures))
+    ∙ (loop .inv)
 
 loop-less : tie.Need-loop-less Inv-loop μ-loop
 loop-less c =
-    let less = c .before .before .before .before .less in
-    omega (arith, (less .ensures))
+    let less = c .before .before .before .before .before .less in
+    omega (arith, less .ensures)
 
 loop-again : tie.Need-loop-again Inv-loop μ-loop
 loop-again c =
-    let lf-of-eight = c .before .lf-of-eight in
-    let loop = c .before .before .before .loop in
-    sym ((lf-of-eight .ensures) .passed (omega (arith, (lf-of-eight .ensures) .within))) ∙ (loop .inv)
+    let if1 = c .if1 in
+    let has-lf = c .before .has-lf in
+    let eight = c .before .before .eight in
+    let loop = c .before .before .before .before .loop in
+    let less = c .before .before .before .before .before .less in
+    let shared-slice-known = c .before .before .before .before .before .before .shared-slice-known in
+    sym (none-of-eight _ (loop .at) _ (omega (arith, less .ensures)) (λ i. omega (arith, (shared-slice-known .given) i)) (eight .ensures) (λ a. clash ((has-lf .ensures) .1 a) (if1 .left)))
+    ∙ (loop .inv)
 
 returns-2 : tie.Need-returns-2 Inv-loop μ-loop
 returns-2 c =
@@ -61,4 +56,4 @@ returns-2 c =
 pub line-end-spec : {M : Type 1} → statement M
 line-end-spec =
     tie.close
-    (tie.spec Inv-loop μ-loop (λ c κs. search needs) loop-holds lf-of-eight-requires add-t8 returns add-at loop-less loop-again (λ c κs. search needs) returns-2)
+    (tie.spec Inv-loop μ-loop (λ c κs. search needs) loop-holds (λ c κs. search needs) (λ c κs. search needs) (λ c κs. search needs) (λ c. search needs) returns (λ c. search needs) loop-less loop-again (λ c κs. search needs) returns-2)
