@@ -11,7 +11,7 @@ use borrow.Author.Tests.{eq-eqb, ne-eqb}
 use Rattle.words.proofs.Cases.{by-lt, by-eq}
 use Rattle.text.specs.declared.LineEnd.{LineEnd}
 use Rattle.text.specs.declared.LineEnd.the-variants.{At, Missing}
-use Rattle.text.specs.Line.{lfFrom, lineEnd}
+use Rattle.text.specs.Line.{lfFrom, lineEnd, Ends}
 
 module _ (text : List ℕ) (at : ℕ) where
   pub lf-none : length text ≤ at → lfFrom at (drop at text) ≡ Missing
@@ -36,12 +36,7 @@ lf-past text at (suc k) h n =
     ∙ lf-next text (at + k) (omega arith) (n k (omega arith))
     ∙ ap (λ (i : ℕ). lineEnd text i) e
 
--- ---- What `lineEnd` says, for every text and place: the first LF there, or that there is none
-
--- from a place on: LF stands at the end and nowhere before it, or nowhere at all
-abbrev pub Ends : List ℕ → ℕ → LineEnd → Type 0
-Ends text from (At k) = (from ≤ k) × (k < length text) × (getD text k 0 ≡ 10) × ((i : ℕ) → from ≤ i → i < k → getD text i 0 ≡ 10 → ⊥)
-Ends text from Missing = (i : ℕ) → from ≤ i → i < length text → getD text i 0 ≡ 10 → ⊥
+-- ---- What `lineEnd` says, for every text and place
 
 module _ (text : List ℕ) where
   ends-next : (from : ℕ) (e : LineEnd) → (getD text from 0 ≡ 10 → ⊥) → Ends text (from + 1) e → Ends text from e

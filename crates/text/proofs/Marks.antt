@@ -1,7 +1,7 @@
 -- Laws of the joint test for LF: what it computes are marks in the places of the bytes that are LF, its lowest mark is
 -- that of the first of them, and there is no mark exactly if there is no LF.
 use Prim.Native.Nat.{ℕ, suc, zero, _+_, _-_, _*_, _/_, _%_, _^_, _<_, _≤_}
-use mathlib.Core.Path.{_≡_, refl, sym, _∙_, ap}
+use mathlib.Core.Path.{_≡_, refl, sym, _∙_}
 use mathlib.Core.List.{List}
 use mathlib.Core.Bool.{Bool, true, _&&_, cond}
 use native.Mathlib.Omega.{arith}
@@ -22,33 +22,46 @@ use Rattle.text.proofs.Blocks.{Bytes, bytes-from, byte-first, byte-next
 
 -- ---- What is computed
 
--- the same byte in each of k places
+-- the byte that is looked for, and the same byte in each of k places
+abbrev lf : ℕ
+lf = 10
+
 abbrev repeated : ℕ → ℕ → ℕ
 repeated b zero = 0
 repeated b (suc k) = repeated b k * 256 + b
 
--- the highest bit of each of k bytes that is not LF, and every other bit
+-- as `lf_marks` has them, of k bytes
+abbrev differs : ℕ → ℕ → ℕ
+differs k w = bitXor w (repeated lf k)
+
+abbrev carried : ℕ → ℕ → ℕ
+carried k w = bitAnd (differs k w) (repeated 127 k) + repeated 127 k
+
+-- the highest bit of each byte that is not LF, and the low seven of each
 abbrev unmarked : ℕ → ℕ → ℕ
-unmarked k w = bitOr (bitOr (bitAnd (bitXor w (repeated 10 k)) (repeated 127 k) + repeated 127 k) (bitXor w (repeated 10 k))) (repeated 127 k)
+unmarked k w = bitOr (bitOr (carried k w) (differs k w)) (repeated 127 k)
 
 -- the lowest byte and those above it apart: no sum leaves its byte
 module _ (k a r : ℕ) (h : r < 256) where
-  x-low : bitXor r 10 < 256
-  x-low = xor-lt 8 r 10 h (omega arith)
+  low-differs : bitXor r lf < 256
+  low-differs = xor-lt 8 r lf h (omega arith)
+
+  low-carried : bitAnd (bitXor r lf) 127 + 127 < 256
+  low-carried = omega (arith, and-le-r (bitXor r lf) 127)
 
   unmarked-next : unmarked (suc k) (a * 256 + r) ≡ unmarked k a * 256 + unmarked 1 r
   unmarked-next =
-      let x = bitXor a (repeated 10 k) in
-      let y = bitXor r 10 in
+      let x = differs k a in
+      let y = bitXor r lf in
       let l = repeated 127 k in
-      let s : bitAnd y 127 + 127 < 256 = omega (arith, and-le-r y 127) in
-      let c : bitAnd x l * 256 + bitAnd y 127 + (l * 256 + 127) ≡ (bitAnd x l + l) * 256 + (bitAnd y 127 + 127) = omega arith in
+      let apart : bitAnd x l * 256 + bitAnd y 127 + (l * 256 + 127) ≡ carried k a * 256 + (bitAnd y 127 + 127) = omega arith in
+      let u = bitOr (bitAnd y 127 + 127) y in
       rw (
-        xor-block 8 a (repeated 10 k) r 10 h (omega arith),
-        and-block 8 x l y 127 x-low (omega arith),
-        c,
-        or-block 8 (bitAnd x l + l) x (bitAnd y 127 + 127) y s x-low,
-        or-block 8 (bitOr (bitAnd x l + l) x) l (bitOr (bitAnd y 127 + 127) y) 127 (or-lt 8 (bitAnd y 127 + 127) y s x-low) (omega arith),
+        xor-block 8 a (repeated lf k) r lf h (omega arith),
+        and-block 8 x l y 127 low-differs (omega arith),
+        apart,
+        or-block 8 (carried k a) x (bitAnd y 127 + 127) y low-carried low-differs,
+        or-block 8 (bitOr (carried k a) x) l u 127 (or-lt 8 (bitAnd y 127 + 127) y low-carried low-differs) (omega arith),
       )
 
 -- what holds of each number below n, by trying them all
@@ -64,12 +77,12 @@ every-below p (suc n) i e l =
     (λ q. every-below p n i (and-right (p n) (every p n) e) (omega arith))
 
 -- one byte, by trying all 256
-abbrev right : ℕ → Bool
-right r = ltb (unmarked 1 r) 256 && eqb (255 - unmarked 1 r) (cond (eqb r 10) 128 0)
+abbrev byte-right : ℕ → Bool
+byte-right r = ltb (unmarked 1 r) 256 && eqb (255 - unmarked 1 r) (cond (eqb r 10) 128 0)
 
 module _ (r : ℕ) (h : r < 256) where
-  is-right : right r ≡ true
-  is-right = every-below right 256 r refl h
+  is-right : byte-right r ≡ true
+  is-right = every-below byte-right 256 r refl h
 
   byte-lt : unmarked 1 r < 256
   byte-lt = ltb-true (unmarked 1 r) 256 (and-left (ltb (unmarked 1 r) 256) _ is-right)
@@ -140,45 +153,40 @@ module _ (k w : ℕ) where
       let j : 8 * suc k ≡ 8 + 8 * k = omega arith in
       rw (marks-no k w d, j, zeros-past 8 (8 * k) (marks k (w / 256)))
 
--- the first LF is not the first byte
-first-later : (k w i : ℕ) → (w % 256 ≡ 10 → ⊥) → FirstLf k (w / 256) i → FirstLf (suc k) w (suc i)
-first-later k w i d f =
-    record {
-      within = omega (arith, f .within);
-      here = λ l. byte-next w i ∙ f .here (omega arith);
-      before = before;
-    }
-  where
-    before : (j : ℕ) → j < suc i → byteOf w j ≡ 10 → ⊥
-    before zero l e = d (sym (byte-first w) ∙ e)
-    before (suc j) l e = f .before j (omega arith) (sym (byte-next w j) ∙ e)
+-- where the first byte is not LF, what there is lies behind it
+module _ (k w : ℕ) (d : w % 256 ≡ 10 → ⊥) where
+  any-later : AnyLf (suc k) w → AnyLf k (w / 256)
+  any-later (zero, l, e) = absurd (d (sym (byte-first w) ∙ e))
+  any-later (suc i, l, e) = (i, omega arith, sym (byte-next w i) ∙ e)
 
-zeros-at-0 : (w : ℕ) → trailingZeros (8 * 0) (marks 0 w) / 8 ≡ 0
-unfolding trailingZeros
-zeros-at-0 w = refl
+  first-later : (i : ℕ) → FirstLf k (w / 256) i → FirstLf (suc k) w (suc i)
+  first-later i f =
+      record {
+        within = omega (arith, f .within);
+        here = byte-next w i ∙ f .here;
+        before = before;
+      }
+    where
+      before : (j : ℕ) → j < suc i → byteOf w j ≡ 10 → ⊥
+      before zero l e = d (sym (byte-first w) ∙ e)
+      before (suc j) l e = f .before j (omega arith) (sym (byte-next w j) ∙ e)
 
 -- the lowest mark is that of the first LF
-pub first-mark : (k w : ℕ) → FirstLf k w (trailingZeros (8 * k) (marks k w) / 8)
-first-mark zero w =
-    rw (zeros-at-0 w)
-    (record {
-      within = omega arith;
-      here = λ l. absurd (let z : ⊥ = omega arith in z);
-      before = λ j l. absurd (let z : ⊥ = omega arith in z);
-    })
-first-mark (suc k) w =
+pub first-mark : (k w : ℕ) → AnyLf k w → FirstLf k w (trailingZeros (8 * k) (marks k w) / 8)
+first-mark zero w a = absurd (let z : ⊥ = omega (arith, a .1) in z)
+first-mark (suc k) w a =
     by-eq (w % 256) 10
     (λ e.
     rw (zeros-yes k w e)
     (record {
       within = omega arith;
-      here = λ l. byte-first w ∙ e;
+      here = byte-first w ∙ e;
       before = λ j l. absurd (let z : ⊥ = omega arith in z);
     }))
     (λ d.
     let zeros = trailingZeros (8 * k) (marks k (w / 256)) in
     let q : (8 + zeros) / 8 ≡ suc (zeros / 8) = omega arith in
-    rw (zeros-no k w d, q) (first-later k w (zeros / 8) d (first-mark k (w / 256))))
+    rw (zeros-no k w d, q) (first-later k w d (zeros / 8) (first-mark k (w / 256) (any-later k w d a))))
 
 -- there is a mark exactly if there is an LF
 pub any-mark : (k w : ℕ) → (marks k w ≡ 0 → ⊥) → AnyLf k w
@@ -193,8 +201,9 @@ any-mark (suc k) w n =
 
 pub no-mark : (k w : ℕ) → marks k w ≡ 0 → AnyLf k w → ⊥
 no-mark k w e a =
-    let z : trailingZeros (8 * k) (marks k w) / 8 ≡ k = rw (e, trailing-of-zero (8 * k)) (omega arith) in
-    first-mark k w .before (a .0) (omega (arith, z, a .1)) (a .2)
+    let all : trailingZeros (8 * k) (marks k w) / 8 ≡ k = rw (e, trailing-of-zero (8 * k)) (omega arith) in
+    let z : ⊥ = omega (arith, all, first-mark k w a .within) in
+    z
 
 -- ---- In a text
 
@@ -206,11 +215,8 @@ module _ (text : List ℕ) (at w : ℕ) (h : at + 8 ≤ length text) (p : Bytes 
   pub none-of-eight : (AnyLf 8 w → ⊥) → lineEnd text at ≡ lineEnd text (at + 8)
   none-of-eight n = lf-past text at 8 h (λ i l q. n (i, l, byte-there i l ∙ q))
 
-  any-within : (i : ℕ) → AnyLf 8 w → FirstLf 8 w i → i < 8
-  any-within i a f = by-lt i 8 (λ l. l) (λ g. absurd (f .before (a .0) (omega (arith, a .1)) (a .2)))
-
-  pub first-of-eight : (i : ℕ) → AnyLf 8 w → FirstLf 8 w i → lineEnd text at ≡ At (at + i)
-  first-of-eight i a f =
-      let l = any-within i a f in
+  pub first-of-eight : (i : ℕ) → FirstLf 8 w i → lineEnd text at ≡ At (at + i)
+  first-of-eight i f =
+      let l = f .within in
       lf-past text at i (omega arith) (λ j g q. f .before j g (byte-there j (omega arith) ∙ q))
-      ∙ lf-here text (at + i) (omega arith) (sym (byte-there i l) ∙ f .here l)
+      ∙ lf-here text (at + i) (omega arith) (sym (byte-there i l) ∙ f .here)

@@ -1,5 +1,5 @@
 -- Several bytes looked at together, as one number. No public contract cites these.
-use Prim.Native.Nat.{ℕ, suc, zero, _+_, _*_, _/_, _%_, _^_, _<_, _≤_}
+use Prim.Native.Nat.{ℕ, suc, zero, _+_, _*_, _/_, _%_, _^_, _<_}
 use mathlib.Core.Path.{_≡_}
 use mathlib.Core.List.{List, [], _∷_}
 use mathlib.Core.Bool.{cond}
@@ -19,10 +19,10 @@ byteOf w i = w / 256 ^ i % 256
 abbrev pub AnyLf : ℕ → ℕ → Type 0
 AnyLf k w = (i : ℕ) × (i < k) × (byteOf w i ≡ 10)
 
--- byte i is the first LF of the k lowest bytes of a number; or i is k, and none is
+-- byte i is the first LF of the k lowest bytes of a number
 pub record FirstLf (k w i : ℕ) : Type 0 where
-  pub within : i ≤ k
-  pub here : i < k → byteOf w i ≡ 10
+  pub within : i < k
+  pub here : byteOf w i ≡ 10
   pub before : (j : ℕ) → j < i → byteOf w j ≡ 10 → ⊥
 
 -- of the k lowest bytes of a number, 128 for each that is LF and 0 for each other, in its place

@@ -1,8 +1,9 @@
 -- Where a line ends (document 01: "Lines end with LF (byte 10)").
-use Prim.Native.Nat.{ℕ, _+_}
+use Prim.Native.Nat.{ℕ, _+_, _<_, _≤_}
+use mathlib.Core.Path.{_≡_}
 use mathlib.Core.List.{List, [], _∷_}
 use mathlib.Core.Bool.{Bool, true, false}
-use lib.ListN.{drop}
+use lib.ListN.{length, getD, drop}
 use lib.Dec.{eqb}
 use Rattle.text.specs.declared.LineEnd.{LineEnd}
 use Rattle.text.specs.declared.LineEnd.the-variants.{At, Missing}
@@ -19,3 +20,9 @@ lfFrom at (b ∷ bs) = pickEnd (eqb b 10) (At at) (lfFrom (at + 1) bs)
 -- the first LF of a text at or after a place
 abbrev pub lineEnd : List ℕ → ℕ → LineEnd
 lineEnd text at = lfFrom at (drop at text)
+
+-- what `lineEnd` says of a text from a place on (claim `line-ends`): LF stands at the end and nowhere before it, or
+-- nowhere at all (document 02, item 3: "the search finds the first LF or that there is none")
+abbrev pub Ends : List ℕ → ℕ → LineEnd → Type 0
+Ends text from (At k) = (from ≤ k) × (k < length text) × (getD text k 0 ≡ 10) × ((i : ℕ) → from ≤ i → i < k → getD text i 0 ≡ 10 → ⊥)
+Ends text from Missing = (i : ℕ) → from ≤ i → i < length text → getD text i 0 ≡ 10 → ⊥

@@ -60,8 +60,8 @@ const LFS: u64 = 0x0a0a0a0a0a0a0a0a;
 // The low seven bits of each of eight bytes.
 const LOWS: u64 = 0x7f7f7f7f7f7f7f7f;
 
-// The highest bit of each byte of a number that is LF, and no other bit. A byte that is not LF differs from it in its
-// highest bit, or in one of the low seven, and then 0x7f and these carry into the highest, but never out of the byte.
+// The highest bit of each byte of a number that is LF, and no other bit. Where the low seven bits of a byte differ from
+// LF's, adding 0x7f to the difference sets the highest; the sum is at most 0xfe, so that nothing leaves the byte.
 fn lf_marks(w: u64) -> u64
     ensures { λ r. ⌜ r ≡ marks 8 w ⌝ }
 {
@@ -77,9 +77,9 @@ fn has_lf(w: u64) -> bool
     lf_marks(w) != 0
 }
 
-// Which of the eight bytes of a number is the first LF, counted from 0; 8 where none is.
+// Which byte of a number that has LF is the first LF, counted from 0.
 fn first_lf(w: u64) -> usize
-    ensures { λ r. ⌜ FirstLf 8 w r ⌝ }
+    ensures { λ r. ⌜ (AnyLf 8 w → FirstLf 8 w r) ⌝ }
 {
     u64::trailing_zeros(lf_marks(w)) as usize / 8
 }

@@ -5,10 +5,10 @@ use Rattle.checks_text.proofs.firsts.Statement.{statement}
 use Rattle.checks_text.proofs.firsts.Tie as tie
 
 abbrev Inv-loop : tie.InvT-loop
-Inv-loop first₀ first = first ≤ 17
+Inv-loop first₀ first = first ≤ 25
 
 abbrev μ-loop : tie.MeasureT-loop
-μ-loop first₀ first = 17 - first
+μ-loop first₀ first = 25 - first
 
 pub firsts-spec : {M : Type 1} → statement M
 firsts-spec =

@@ -5,10 +5,10 @@ use Rattle.checks_text.proofs.searches.Statement.{statement}
 use Rattle.checks_text.proofs.searches.Tie as tie
 
 abbrev Inv-loop : tie.InvT-loop
-Inv-loop text from₀ t3 from = from ≤ 19
+Inv-loop text from₀ t3 from = from ≤ 27
 
 abbrev μ-loop : tie.MeasureT-loop
-μ-loop text from₀ t3 from = 19 - from
+μ-loop text from₀ t3 from = 27 - from
 
 pub searches-spec : {M : Type 1} → statement M
 searches-spec =

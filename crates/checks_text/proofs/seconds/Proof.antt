@@ -8,7 +8,7 @@ abbrev Inv-loop : tie.InvT-loop
 Inv-loop first second₀ second = first ≤ second
 
 abbrev μ-loop : tie.MeasureT-loop
-μ-loop first second₀ second = 17 - second
+μ-loop first second₀ second = 25 - second
 
 pub seconds-spec : {M : Type 1} → statement M
 seconds-spec =

@@ -14,7 +14,7 @@ cast-result c =
 returns : tie.Need-returns
 returns c =
     let lf-marks = c .lf-marks in
-    rw (lf-marks .ensures) (first-mark 8 _)
+    λ a. rw (lf-marks .ensures) (first-mark 8 _ a)
 
 pub first-lf-spec : {M : Type 1} → statement M
 first-lf-spec = tie.close (tie.spec (λ c κs. search needs) cast-result returns)

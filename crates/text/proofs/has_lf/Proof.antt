@@ -10,8 +10,10 @@ use Rattle.text.proofs.has_lf.Tie as tie
 returns : tie.Need-returns
 returns c =
     let lf-marks = c .lf-marks in
-    let m = lf-marks .result in
-    (λ t. any-mark 8 _ (λ z. eqb-false m 0 (not-true (eqb m 0) t) ((lf-marks .ensures) ∙ z)), λ a. rw (ne-eqb m 0 (λ z. no-mark 8 _ (sym (lf-marks .ensures) ∙ z) a)))
+    let m = lf-marks .result in (
+      λ t. any-mark 8 _ (λ z. eqb-false m 0 (not-true (eqb m 0) t) ((lf-marks .ensures) ∙ z)),
+      λ a. rw (ne-eqb m 0 (λ z. no-mark 8 _ (sym (lf-marks .ensures) ∙ z) a)),
+    )
 
 pub has-lf-spec : {M : Type 1} → statement M
 has-lf-spec = tie.close (tie.spec (λ c κs. search needs) returns)

@@ -19,6 +19,15 @@ abbrev μ-loop : tie.MeasureT-loop
 loop-holds : tie.Need-loop-holds Inv-loop μ-loop
 loop-holds c = refl
 
+add-t10 : tie.Need-add-t10 Inv-loop μ-loop
+add-t10 c =
+    let first-lf = c .first-lf in
+    let if1 = c .before .if1 in
+    let has-lf = c .before .before .has-lf in
+    let less = c .before .before .before .before .before .before .less in
+    let good = c .before .before .before .before .before .before .before .before .good in
+    omega (arith, less .ensures, good, (first-lf .ensures) ((has-lf .ensures) .0 (if1 .taken)) .within)
+
 returns : tie.Need-returns Inv-loop μ-loop
 returns c =
     let first-lf = c .first-lf in
@@ -28,7 +37,14 @@ returns c =
     let loop = c .before .before .before .before .before .loop in
     let less = c .before .before .before .before .before .before .less in
     let shared-slice-known = c .before .before .before .before .before .before .before .shared-slice-known in
-    sym (first-of-eight _ (loop .at) _ (omega (arith, less .ensures)) (λ i. omega (arith, (shared-slice-known .given) i)) (eight .ensures) _ ((has-lf .ensures) .0 (if1 .taken)) (first-lf .ensures))
+    let first = (first-lf .ensures) ((has-lf .ensures) .0 (if1 .taken)) in
+    sym
+    (first-of-eight _ (loop .at) _
+    (omega (arith, less .ensures))
+    (λ i. omega (arith, (shared-slice-known .given) i))
+    (eight .ensures)
+    _
+    first)
     ∙ (loop .inv)
 
 loop-less : tie.Need-loop-less Inv-loop μ-loop
@@ -44,7 +60,12 @@ loop-again c =
     let loop = c .before .before .before .before .loop in
     let less = c .before .before .before .before .before .less in
     let shared-slice-known = c .before .before .before .before .before .before .shared-slice-known in
-    sym (none-of-eight _ (loop .at) _ (omega (arith, less .ensures)) (λ i. omega (arith, (shared-slice-known .given) i)) (eight .ensures) (λ a. clash ((has-lf .ensures) .1 a) (if1 .left)))
+    sym
+    (none-of-eight _ (loop .at) _
+    (omega (arith, less .ensures))
+    (λ i. omega (arith, (shared-slice-known .given) i))
+    (eight .ensures)
+    (λ a. clash ((has-lf .ensures) .1 a) (if1 .left)))
     ∙ (loop .inv)
 
 returns-2 : tie.Need-returns-2 Inv-loop μ-loop
@@ -56,4 +77,4 @@ returns-2 c =
 pub line-end-spec : {M : Type 1} → statement M
 line-end-spec =
     tie.close
-    (tie.spec Inv-loop μ-loop (λ c κs. search needs) loop-holds (λ c κs. search needs) (λ c κs. search needs) (λ c κs. search needs) (λ c. search needs) returns (λ c. search needs) loop-less loop-again (λ c κs. search needs) returns-2)
+    (tie.spec Inv-loop μ-loop (λ c κs. search needs) loop-holds (λ c κs. search needs) (λ c κs. search needs) (λ c κs. search needs) add-t10 returns (λ c. search needs) loop-less loop-again (λ c κs. search needs) returns-2)
