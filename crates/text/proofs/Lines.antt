@@ -40,8 +40,13 @@ lf-past text at (suc k) h n =
 
 module _ (text : List ℕ) where
   ends-next : (from : ℕ) (e : LineEnd) → (getD text from 0 ≡ 10 → ⊥) → Ends text (from + 1) e → Ends text from e
-  ends-next from (At k) n (l, w, h, b) =
-      (omega arith, w, h, λ i g q. by-eq i from (λ e. rw e n) (λ d. b i (omega arith) q))
+  ends-next from (At k) n f =
+      record {
+        after = omega (arith, f .after);
+        within = f .within;
+        here = f .here;
+        before = λ i g q. by-eq i from (λ e. rw e n) (λ d. f .before i (omega arith) q);
+      }
   ends-next from Missing n b = λ i g q. by-eq i from (λ e. rw e n) (λ d. b i (omega arith) q)
 
   ends-none : (from : ℕ) → length text ≤ from → Ends text from (lineEnd text from)
@@ -53,7 +58,14 @@ module _ (text : List ℕ) where
       by-lt from (length text)
       (λ l.
       by-eq (getD text from 0) 10
-      (λ e. rw (lf-here text from l e) (omega arith, l, e, λ i g q. absurd (let z : ⊥ = omega arith in z)))
+      (λ e.
+      rw (lf-here text from l e)
+      (record {
+        after = omega arith;
+        within = l;
+        here = e;
+        before = λ i g q. absurd (let z : ⊥ = omega arith in z);
+      }))
       (λ n. rw (lf-next text from l n) (ends-next from (lineEnd text (from + 1)) n (ends room (from + 1) (omega arith)))))
       (ends-none from)
 

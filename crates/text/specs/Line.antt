@@ -21,8 +21,14 @@ lfFrom at (b ∷ bs) = pickEnd (eqb b 10) (At at) (lfFrom (at + 1) bs)
 abbrev pub lineEnd : List ℕ → ℕ → LineEnd
 lineEnd text at = lfFrom at (drop at text)
 
--- what `lineEnd` says of a text from a place on (claim `line-ends`): LF stands at the end and nowhere before it, or
--- nowhere at all (document 02, item 3: "the search finds the first LF or that there is none")
+-- what `lineEnd` says of a text from a place on, by claim `line-ends` (document 02, item 3: "the search finds the first
+-- LF or that there is none"): LF stands at place k and, from the start on, nowhere before it; or nowhere at all
+pub record FirstAt (text : List ℕ) (from k : ℕ) : Type 0 where
+  pub after : from ≤ k
+  pub within : k < length text
+  pub here : getD text k 0 ≡ 10
+  pub before : (i : ℕ) → from ≤ i → i < k → getD text i 0 ≡ 10 → ⊥
+
 abbrev pub Ends : List ℕ → ℕ → LineEnd → Type 0
-Ends text from (At k) = (from ≤ k) × (k < length text) × (getD text k 0 ≡ 10) × ((i : ℕ) → from ≤ i → i < k → getD text i 0 ≡ 10 → ⊥)
+Ends text from (At k) = FirstAt text from k
 Ends text from Missing = (i : ℕ) → from ≤ i → i < length text → getD text i 0 ≡ 10 → ⊥
