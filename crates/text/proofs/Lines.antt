@@ -1,6 +1,6 @@
 -- Laws of `lfFrom`: one for each way a turn of the search goes, and for several turns that find nothing.
 use Prim.Native.Nat.{ℕ, suc, zero, _+_, _<_, _≤_}
-use mathlib.Core.Path.{_≡_, _∙_, ap}
+use mathlib.Core.Path.{_≡_, refl, _∙_, ap}
 use mathlib.Core.List.{List}
 use native.Mathlib.Omega.{arith}
 use native.Mathlib.Nat.{add-zero}
@@ -71,3 +71,19 @@ module _ (text : List ℕ) where
 
   pub line-ends : (from : ℕ) → Ends text from (lineEnd text from)
   line-ends from = ends (length text) from (omega arith)
+
+  -- and nothing else can be said so
+  ends-one : (from : ℕ) (e g : LineEnd) → Ends text from e → Ends text from g → e ≡ g
+  ends-one from (At j) (At k) f h =
+      by-lt j k
+      (λ l. absurd (h .before j (f .after) l (f .here)))
+      (λ l.
+      by-lt k j
+      (λ m. absurd (f .before k (h .after) m (h .here)))
+      (λ m. ap (λ (i : ℕ). At i) (omega arith)))
+  ends-one from (At j) Missing f h = absurd (h j (f .after) (f .within) (f .here))
+  ends-one from Missing (At k) f h = absurd (f k (h .after) (h .within) (h .here))
+  ends-one from Missing Missing f h = refl
+
+  pub ends-only : (from : ℕ) (e : LineEnd) → Ends text from e → e ≡ lineEnd text from
+  ends-only from e h = ends-one from e (lineEnd text from) h (line-ends from)

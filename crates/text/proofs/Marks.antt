@@ -12,7 +12,7 @@ use lib.Seq.{getD-drop}
 use lib.Bits.{bitAnd, bitOr, bitXor, and-block, or-block, xor-block, and-le-r, or-lt, xor-lt}
 use lib.Count.{trailingZeros, trailing-of-zero}
 use borrow.Author.Tests.{eq-eqb, ne-eqb, eqb-true, ltb-true}
-use Rattle.words.proofs.Cases.{by-eq, by-lt, and-left, and-right}
+use Rattle.words.proofs.Cases.{by-eq, and-left, and-right}
 use Rattle.words.proofs.Zeros.{even-zeros, odd-zeros}
 use Rattle.text.specs.declared.LineEnd.the-variants.{At}
 use Rattle.text.specs.Line.{lineEnd}
@@ -22,7 +22,7 @@ use Rattle.text.proofs.Blocks.{Bytes, bytes-from, byte-first, byte-next
 
 -- ---- What is computed
 
--- the byte that is looked for, and the same byte in each of k places
+-- the byte that the code looks for (which it should is in `marks`), and the same byte in each of k places
 abbrev lf : ℕ
 lf = 10
 

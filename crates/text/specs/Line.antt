@@ -21,8 +21,9 @@ lfFrom at (b ∷ bs) = pickEnd (eqb b 10) (At at) (lfFrom (at + 1) bs)
 abbrev pub lineEnd : List ℕ → ℕ → LineEnd
 lineEnd text at = lfFrom at (drop at text)
 
--- what `lineEnd` says of a text from a place on, by claim `line-ends` (document 02, item 3: "the search finds the first
--- LF or that there is none"): LF stands at place k and, from the start on, nowhere before it; or nowhere at all
+-- what `lineEnd` says of a text from a place on (document 02, item 3: "the search finds the first LF or that there is
+-- none"): LF stands at place k and, from the start on, nowhere before it; or nowhere at all. By claim `line-ends` it
+-- says so, and by `ends-only` nothing else does.
 pub record FirstAt (text : List ℕ) (from k : ℕ) : Type 0 where
   pub after : from ≤ k
   pub within : k < length text
