@@ -2,7 +2,7 @@
 ghost use mathlib.Core.Bool.{true};
 ghost use mathlib.Core.Path.{_≡_};
 ghost use Prim.Native.Nat.{_≤_};
-ghost use Rattle.bruteforce.specs.Counts.{Small};
+ghost use Rattle.bruteforce.specs.Counts.{SmallRun};
 use bestline::Best;
 use bruteforce::Failure;
 use bruteforce::STAYS;
@@ -93,7 +93,7 @@ pub fn same_answer(count: u32, b: Best, r: Restarted) -> bool
 // Is a replay of the lowest order right: accepted and complete; from a line that loses nothing the record of the run
 // without failure, after all steps; from any other line another record.
 pub fn right_replay(f: Failure, line: &[u32; 4], r: Replayed, same: bool) -> bool
-    requires { ⌜ Small f ⌝ }
+    requires { ⌜ SmallRun f ⌝ }
     ensures { λ right. ⌜ (right ≡ true → r .number ≡ 0) ⌝ }
 {
     if r.number != 0 {

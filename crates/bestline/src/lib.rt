@@ -1,9 +1,8 @@
 // Every line of two or three processes, and the best of those that lose nothing, by trying them all. It names nothing
 // of the engine. Assumes nothing.
-ghost use mathlib.Core.Bool.{true};
 ghost use mathlib.Core.Path.{_≡_};
 ghost use Prim.Native.Nat.{_+_, _*_, _≤_, _<_};
-ghost use Rattle.bruteforce.specs.Counts.{Small, spare};
+ghost use Rattle.bruteforce.specs.Counts.{SmallRun, spare};
 use bruteforce::Failure;
 use bruteforce::STAYS;
 use bruteforce::epoch;
@@ -23,7 +22,7 @@ pub struct Best {
 
 // The epochs of the processes at the cut. No process has place 3 of a line, which stays as it is here and below.
 fn epochs_at(f: Failure, epochs: &mut [u32; 4])
-    requires { ⌜ Small f ⌝ }
+    requires { ⌜ SmallRun f ⌝ }
     ensures { λ _. ⌜ spare (now (epochs .exit)) ≡ spare (now (epochs .entry)) ⌝ }
 {
     let events = f.events;
@@ -100,7 +99,7 @@ fn raise(best: &mut [u32; 4], line: &[u32; 4]) {
 
 // One line: where it is permitted it is judged, and where it loses nothing the best is raised to it.
 fn try_line(f: Failure, epochs: &[u32; 4], line: &[u32; 4], best: &mut [u32; 4]) -> u32
-    requires { ⌜ Small f ⌝ }
+    requires { ⌜ SmallRun f ⌝ }
     ensures { λ r. ⌜ r ≤ 1 ⌝ }
 {
     if !permitted(f, epochs, line) {
@@ -114,7 +113,7 @@ fn try_line(f: Failure, epochs: &[u32; 4], line: &[u32; 4], best: &mut [u32; 4])
 
 // Every line of so many processes, and how many were judged.
 fn try_lines(f: Failure, epochs: &[u32; 4], best: &mut [u32; 4]) -> u32
-    requires { ⌜ Small f ⌝ }
+    requires { ⌜ SmallRun f ⌝ }
     ensures { λ r. ⌜ r ≤ 512 ⌝ }
 {
     let mut line = [0u32; 4];
@@ -131,7 +130,7 @@ fn try_lines(f: Failure, epochs: &[u32; 4], best: &mut [u32; 4]) -> u32
 
 // Is a line permitted and does it lose nothing.
 fn holds(f: Failure, epochs: &[u32; 4], line: &[u32; 4]) -> bool
-    requires { ⌜ Small f ⌝ }
+    requires { ⌜ SmallRun f ⌝ }
 {
     if !permitted(f, epochs, line) {
         return false;
@@ -140,7 +139,7 @@ fn holds(f: Failure, epochs: &[u32; 4], line: &[u32; 4]) -> bool
 }
 
 pub fn best_line(f: Failure) -> Best
-    requires { ⌜ Small f ⌝ }
+    requires { ⌜ SmallRun f ⌝ }
     ensures { λ r. ⌜ r .judged ≤ 512 ⌝ }
 {
     let mut epochs = [0u32; 4];
@@ -161,7 +160,7 @@ pub fn best_line(f: Failure) -> Best
 
 // Spells the line with number x, and says whether it is permitted.
 pub fn may_replay(f: Failure, x: u32, line: &mut [u32; 4]) -> bool
-    requires { ⌜ Small f ⌝ }
+    requires { ⌜ SmallRun f ⌝ }
     ensures { λ _. ⌜ spare (now (line .exit)) ≡ spare (now (line .entry)) ⌝ }
 {
     let mut epochs = [0u32; 4];
@@ -177,7 +176,7 @@ fn highest_of(failed: bool, epoch: u32) -> u32 {
 
 // The highest line that is permitted: failed processes go back as little as they can, the others stay.
 pub fn highest(f: Failure, line: &mut [u32; 4])
-    requires { ⌜ Small f ⌝ }
+    requires { ⌜ SmallRun f ⌝ }
     ensures { λ _. ⌜ spare (now (line .exit)) ≡ spare (now (line .entry)) ⌝ }
 {
     epochs_at(f, line);

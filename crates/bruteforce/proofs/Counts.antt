@@ -9,7 +9,7 @@ use lib.Dec.{eqb}
 use lib.ListN.{getD, set}
 use lib.Seq.{getD-set-other}
 use borrow.Author.Tests.{le-leb, lt-leb}
-use Rattle.bruteforce.specs.Counts.{timesOf, afterFrom, afterOf, spare, first}
+use Rattle.bruteforce.specs.Counts.{timesOf, afterFrom, afterOf, spare, firstWord}
 
 pub times-next : (events : List ℕ) (w i n r : ℕ) → n ≡ timesOf events w i → r ≡ cond (eqb (getD events i 0) w) 1 0
     → n + r ≡ timesOf events w (i + 1)
@@ -43,6 +43,6 @@ pub spare-kept : (l l₀ : List ℕ) (i v : ℕ) → i < 3 → spare l ≡ spare
 unfolding spare
 spare-kept l l₀ i v n h = getD-set-other l i 3 v 0 (λ e. omega arith) ∙ h
 
-pub first-kept : (l l₀ : List ℕ) (i v : ℕ) → 0 < i → first l ≡ first l₀ → first (set l i v) ≡ first l₀
-unfolding first
+pub first-kept : (l l₀ : List ℕ) (i v : ℕ) → 0 < i → firstWord l ≡ firstWord l₀ → firstWord (set l i v) ≡ firstWord l₀
+unfolding firstWord
 first-kept l l₀ i v n h = getD-set-other l i 0 v 0 (λ e. omega arith) ∙ h

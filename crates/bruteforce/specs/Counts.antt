@@ -7,7 +7,7 @@ use lib.ListN.{getD}
 use Rattle.bruteforce.specs.declared.events.Failure.{Failure}
 
 -- at most three processes and six events: what the arrays have room for
-pub record Small (f : Failure) : Type 0 where
+pub record SmallRun (f : Failure) : Type 0 where
   pub count : f .count ≤ 3
   pub size : f .size ≤ 6
   pub cut : f .cut ≤ 6
@@ -30,5 +30,5 @@ afterOf events w number upto = afterFrom events w number 0 upto
 unfoldable pub spare : List ℕ → ℕ
 spare l = getD l 3 0
 
-unfoldable pub first : List ℕ → ℕ
-first l = getD l 0 0
+unfoldable pub firstWord : List ℕ → ℕ
+firstWord l = getD l 0 0

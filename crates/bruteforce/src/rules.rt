@@ -1,8 +1,8 @@
 // Epochs, phases, restarts, and what a line loses and keeps, in document 01's words.
-ghost use mathlib.Core.Bool.{true, false};
+ghost use mathlib.Core.Bool.{false};
 ghost use mathlib.Core.Path.{_≡_};
 ghost use Prim.Native.Nat.{_+_, _*_, _≤_, _<_};
-ghost use Rattle.bruteforce.specs.Counts.{Small, timesOf, spare, first};
+ghost use Rattle.bruteforce.specs.Counts.{SmallRun, timesOf, spare, firstWord};
 use crate::events::Failure;
 use crate::events::RECEIVE;
 use crate::events::SAVE;
@@ -111,7 +111,7 @@ fn loses_at(f: Failure, line: &[u32; 4], e: u32, w: u32) -> bool
 
 // Does a line lose a message. "Only events up to K count here": before the first there is none to lose.
 pub fn loses(f: Failure, line: &[u32; 4]) -> bool
-    requires { ⌜ Small f ⌝ }
+    requires { ⌜ SmallRun f ⌝ }
     ensures { λ r. ⌜ (f .cut ≡ 0 → r ≡ false) ⌝ }
 {
     let mut i: u32 = 0;
@@ -152,7 +152,7 @@ fn keeps_at(f: Failure, line: &[u32; 4], e: u32, w: u32) -> bool
 // The steps of a complete order from a line that loses nothing: every event after its process's restart, and every kept
 // message handed over.
 pub fn steps(f: Failure, line: &[u32; 4]) -> u32
-    requires { ⌜ Small f ⌝ }
+    requires { ⌜ SmallRun f ⌝ }
     ensures { λ r. ⌜ r ≤ 2 * f .size ⌝ }
 {
     let mut n: u32 = 0;
@@ -217,7 +217,7 @@ fn phases_of(events: &[u32; 6], size: u32, phases: &mut [u32; 6])
 
 // The phases of the processes at their restarts, or at the cut for those that stay. Other places are left as they are.
 pub fn phases_at(f: Failure, line: &[u32; 4], at: &mut [u32; 4])
-    requires { ⌜ Small f ⌝ }
+    requires { ⌜ SmallRun f ⌝ }
     ensures { λ _. ⌜ spare (now (at .exit)) ≡ spare (now (at .entry)) ⌝ }
 {
     let events = f.events;
@@ -234,7 +234,7 @@ pub fn phases_at(f: Failure, line: &[u32; 4], at: &mut [u32; 4])
 // it. The area's first word stays.
 pub fn record(events: &[u32; 6], size: u32, run: &mut [u32; 16384])
     requires { ⌜ size ≤ 6 ⌝ }
-    ensures { λ _. ⌜ first (now (run .exit)) ≡ first (now (run .entry)) ⌝ }
+    ensures { λ _. ⌜ firstWord (now (run .exit)) ≡ firstWord (now (run .entry)) ⌝ }
 {
     let mut i: u32 = 0;
     while i < size {

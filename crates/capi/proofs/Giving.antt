@@ -3,20 +3,20 @@ use Prim.Native.Nat.{ℕ}
 use native.Mathlib.Omega.{arith}
 use mathlib.Core.Path.{_≡_, refl, sym, ap, subst, _∙_}
 use mathlib.Core.Logic.{_↔_}
-use mathlib.Core.Bool.{Bool, true, false}
+use mathlib.Core.Bool.{Bool, true, false, cond}
 use mathlib.Core.List.{List, [], _∷_, _++_}
 use lib.ListN.{length}
 use borrow.Author.Tests.{ne-eqb}
 use Rattle.words.proofs.Cases.{by-eq, clash}
-use Rattle.theory.specs.Lists.{pick}
 use Rattle.recovery_line.specs.declared.Line.{Line}
 use Rattle.orders.specs.declared.Replayed.{Replayed}
 use Rattle.theory.specs.Order.{lowestOrder}
-use Rattle.preparing.specs.Faults.{runOf, faultOf}
+use Rattle.preparing.specs.Faults.{runOf, lineFaultOf}
 use Rattle.recovery.specs.Answers.{refusal, replayAnswer, CarriesOut, StepsExact, StepsAtMost, Completed}
 use Rattle.restart.specs.declared.Restarted.{Restarted}
 use Rattle.messages.specs.declared.Counted.{Counted}
-use Rattle.writer.specs.Buffer.{Puts, room, written}
+use Rattle.writer.specs.Inner.Puts.{Puts}
+use Rattle.writer.specs.Buffer.{room, written}
 use Rattle.writer.proofs.Buffers.{then, same-bytes, whole}
 use Rattle.capi.specs.Answers.{restartNumbers, messagesNumbers, replayNumbers, lowestAnswer, ExactIn, LowestExactIn, AtMostIn, CarriesOutIn, CompletedIn}
 
@@ -37,7 +37,7 @@ pub messages-are : (c d : Counted) (orphans kept lost : ℕ) → orphans ≡ c .
     → (c .place ∷ orphans ∷ kept ∷ lost ∷ []) ≡ messagesNumbers d
 messages-are c d orphans kept lost a b e h = rw (a, b, e, ← h)
 
-pub replay-is : (r : Replayed) (complete : ℕ) → complete ≡ pick (r .complete) 1 0 → (r .place ∷ r .steps ∷ complete ∷ []) ≡ replayNumbers r
+pub replay-is : (r : Replayed) (complete : ℕ) → complete ≡ cond (r .complete) 1 0 → (r .place ∷ r .steps ∷ complete ∷ []) ≡ replayNumbers r
 replay-is r complete e = rw e
 
 -- ---- Steps in a slice
@@ -56,7 +56,7 @@ first-three p s c (x ∷ []) p′ n c′ rest h = absurd (let z : _≡_ {A = ℕ
 first-three p s c (x ∷ y ∷ []) p′ n c′ rest h = absurd (let z : _≡_ {A = ℕ} 0 1 = cc in omega arith)
 first-three p s c (x ∷ y ∷ z ∷ bs) p′ n c′ rest h = cc
 
-yes-is : (b : Bool) → (_≡_ {A = ℕ} (pick b 1 0) 1) ↔ (b ≡ true)
+yes-is : (b : Bool) → (_≡_ {A = ℕ} (cond b 1 0) 1) ↔ (b ≡ true)
 yes-is true = (λ h. refl, λ h. refl)
 yes-is false = (λ h. absurd (let z : ⊥ = omega arith in z), λ h. clash {b = true} refl (sym h))
 
@@ -65,7 +65,7 @@ module _ (a : List ℕ) (step : ℕ) (l : Line) (r : Replayed) (before answer : 
   steps-at : (place n : ℕ) (rest : List ℕ) → answer ≡ place ∷ n ∷ rest → n ≡ r .steps
   steps-at place n rest h = first-two _ _ _ before place n rest (sym h ∙ w)
 
-  flag-at : (place n c : ℕ) (rest : List ℕ) → answer ≡ place ∷ n ∷ c ∷ rest → c ≡ pick (r .complete) 1 0
+  flag-at : (place n c : ℕ) (rest : List ℕ) → answer ≡ place ∷ n ∷ c ∷ rest → c ≡ cond (r .complete) 1 0
   flag-at place n c rest h = first-three _ _ _ before place n c rest (sym h ∙ w)
 
   exact-in : StepsExact a step l r → ExactIn (runOf a step l) (r .number) answer
@@ -93,7 +93,7 @@ module _ (a : List ℕ) (step : ℕ) (l : Line) (r : Replayed) (before answer : 
   all-complete : (area : List ℕ) (set : ℕ) → r ≡ lowestAnswer a area step set l → Completed a (length area) step set l r → r .number ≡ 0 → r .complete ≡ true
   unfolding replayAnswer
   all-complete area set e x z =
-      let fault = faultOf a (length area) step set l in
+      let fault = lineFaultOf a (length area) step set l in
       by-eq fault 0
       (λ ok. x ok .1)
       (λ no. let q : r ≡ refusal fault = e ∙ rw (ne-eqb fault 0 no) in absurd (no (sym (ap (λ (y : Replayed). y .number) q) ∙ z)))

@@ -6,7 +6,7 @@ use mathlib.Core.Logic.{_↔_}
 use mathlib.Core.List.{List, [], _∷_, _++_}
 use lib.ListN.{length, getD}
 use Rattle.words.specs.Area.{wordsFrom}
-use Rattle.theory.specs.Lists.{pick}
+use mathlib.Core.Bool.{cond}
 use Rattle.reader.specs.declared.Answer.{Answer}
 use Rattle.reader.specs.declared.FailureAnswer.{FailureAnswer}
 use Rattle.rendering.specs.declared.WriteAnswer.{WriteAnswer}
@@ -16,7 +16,7 @@ use Rattle.theory.specs.Line.{Run, LossFree}
 use Rattle.theory.specs.Replay.{State}
 use Rattle.theory.specs.Order.{carriedOut, run, steps, mostSteps, Complete, lowestOrder}
 use Rattle.theory.specs.Answers.{exactSteps}
-use Rattle.preparing.specs.Faults.{runOf, faultOf}
+use Rattle.preparing.specs.Faults.{runOf, lineFaultOf}
 use Rattle.recovery.specs.Answers.{replayAnswer, replayArea}
 use Rattle.restart.specs.declared.Restarted.{Restarted}
 use Rattle.messages.specs.declared.Counted.{Counted}
@@ -42,7 +42,7 @@ abbrev pub messagesNumbers : Counted → List ℕ
 messagesNumbers c = c .place ∷ c .orphans ∷ c .kept ∷ c .lost ∷ []
 
 abbrev pub replayNumbers : Replayed → List ℕ
-replayNumbers r = r .place ∷ r .steps ∷ pick (r .complete) 1 0 ∷ []
+replayNumbers r = r .place ∷ r .steps ∷ cond (r .complete) 1 0 ∷ []
 
 -- the lowest order, carried out
 abbrev pub lowestAnswer : List ℕ → List ℕ → ℕ → ℕ → Line → Replayed
@@ -76,5 +76,5 @@ CarriesOutIn R order r answer =
 -- the lowest order is never refused with 11, and always complete
 abbrev pub CompletedIn : List ℕ → ℕ → ℕ → ℕ → Line → ℕ → List ℕ → Type 0
 CompletedIn a room step set l r answer =
-    faultOf a room step set l ≡ 0
+    lineFaultOf a room step set l ≡ 0
     → (r ≡ 0) × ((place n c : ℕ) (rest : List ℕ) → answer ≡ place ∷ n ∷ c ∷ rest → c ≡ 1)

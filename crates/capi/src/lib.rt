@@ -5,8 +5,9 @@ ghost use mathlib.Core.Path.{_≡_};
 ghost use Prim.Native.Nat.{_≤_};
 ghost use mathlib.Core.List.{[], _∷_};
 ghost use lib.ListN.{length, getD};
-ghost use Rattle.theory.specs.Lists.{pick};
-ghost use Rattle.writer.specs.Buffer.{Puts, room, written};
+ghost use mathlib.Core.Bool.{cond};
+ghost use Rattle.writer.specs.Inner.Puts.{Puts};
+ghost use Rattle.writer.specs.Buffer.{room, written};
 ghost use Rattle.reader.specs.Answer.{readAnswer, readArea};
 ghost use Rattle.reader.specs.Failure.{failureAnswer, failureArea};
 ghost use Rattle.rendering.specs.Write.{writeAnswer, writeBuffer};
@@ -67,7 +68,7 @@ fn put_four(answer: &mut [u64], a: u64, b: u64, c: u64, d: u64) -> usize
 }
 
 fn one_if(yes: bool) -> u64
-    ensures { λ r. ⌜ r ≡ pick yes 1 0 ⌝ }
+    ensures { λ r. ⌜ r ≡ cond yes 1 0 ⌝ }
 {
     if yes { 1 } else { 0 }
 }

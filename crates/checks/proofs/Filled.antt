@@ -9,7 +9,8 @@ use lib.Seq.{drop-cons}
 use borrow.Author.Tests.{eq-eqb, ne-eqb, lt-ltb, le-ltb}
 use Rattle.words.proofs.Cases.{by-lt}
 use Rattle.text.specs.Number.{decimal}
-use Rattle.writer.specs.Buffer.{Laid, putOne, puts, Puts, room}
+use Rattle.writer.specs.Inner.Puts.{Laid, putOne, puts, Puts}
+use Rattle.writer.specs.Buffer.{room}
 use Rattle.writer.proofs.Buffers.{none, then, same-bytes, whole}
 use Rattle.checks.specs.Filled.{piece, takes, filled, Fills}
 

@@ -10,16 +10,16 @@ use borrow.Author.Tests.{eq-eqb, ne-eqb, lt-ltb, le-ltb}
 use Rattle.text.specs.declared.Num.{Num}
 use Rattle.text.specs.declared.Num.the-variants.{Value, Refused}
 use Rattle.text.specs.Number.{numberAt}
-use Rattle.checks.specs.Rows.{before, placeOf, Place, fieldPlace, orNone, numberOf}
+use Rattle.checks.specs.Rows.{before, rowPlace, Place, fieldPlace, orNone, numberOf}
 
 module _ (b from : ℕ) (xs : List ℕ) where
   pub place-past : length xs < from → Place b from xs (length xs)
-  unfolding placeOf
+  unfolding rowPlace
   place-past h = record { is = rw (lt-ltb (length xs) from h); within = (omega arith, sym (length-take-le (length xs) xs (omega arith))); onward = omega arith }
 
   -- the search stands at place i, and has the rest to find
   pub place-from : (i : ℕ) → from ≤ i → i ≤ length xs → i ≡ from + before b (drop from xs) → Place b from xs i
-  unfolding placeOf
+  unfolding rowPlace
   place-from i h k e = record { is = rw (le-ltb (length xs) from (let q : from ≤ length xs = omega arith in q)) e; within = (k, sym (length-take-le i xs k)); onward = omega arith }
 
 module _ (b i : ℕ) (xs : List ℕ) where
@@ -35,7 +35,7 @@ module _ (b i : ℕ) (xs : List ℕ) where
   unfolding before
   before-next h n = rw (drop-cons xs i 0 h, ne-eqb (getD xs i 0) b n, add-one i) (omega arith)
 
-pub field-next : (row : List ℕ) (k at r : ℕ) → at ≡ fieldPlace row k → r ≡ placeOf 32 at row → r + 1 ≡ fieldPlace row (k + 1)
+pub field-next : (row : List ℕ) (k at r : ℕ) → at ≡ fieldPlace row k → r ≡ rowPlace 32 at row → r + 1 ≡ fieldPlace row (k + 1)
 unfolding fieldPlace
 field-next row k at r e f = rw (add-one k, ← e, ← f)
 

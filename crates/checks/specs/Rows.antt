@@ -17,19 +17,19 @@ before b [] = 0
 before b (x ∷ xs) = cond (eqb x b) 0 (1 + before b xs)
 
 -- the first b at or after a place, or the end
-unfoldable pub placeOf : ℕ → ℕ → List ℕ → ℕ
-placeOf b from xs = cond (ltb (length xs) from) (length xs) (from + before b (drop from xs))
+unfoldable pub rowPlace : ℕ → ℕ → List ℕ → ℕ
+rowPlace b from xs = cond (ltb (length xs) from) (length xs) (from + before b (drop from xs))
 
 -- it lies within the bytes, and not before the place (the difference is 0 where the place lies within them too)
 pub record Place (b from : ℕ) (xs : List ℕ) (r : ℕ) : Type 0 where
-  pub is : r ≡ placeOf b from xs
+  pub is : r ≡ rowPlace b from xs
   pub within : Counts r xs
   pub onward : from ≤ r + (from - length xs)
 
 -- where field k begins
 unfoldable pub fieldPlace : List ℕ → ℕ → ℕ
 fieldPlace row zero = 0
-fieldPlace row (suc k) = placeOf 32 (fieldPlace row k) row + 1
+fieldPlace row (suc k) = rowPlace 32 (fieldPlace row k) row + 1
 
 abbrev pub orNone : Num → ℕ
 orNone (Value v at) = v

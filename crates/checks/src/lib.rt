@@ -6,7 +6,7 @@ ghost use mathlib.Core.Path.{_≡_};
 ghost use Prim.Native.Nat.{_≤_};
 ghost use lib.ListN.{length, getD, take};
 ghost use Rattle.io.specs.Counts.{Counts};
-ghost use Rattle.writer.specs.Buffer.{Puts};
+ghost use Rattle.writer.specs.Inner.Puts.{Puts};
 ghost use Rattle.checks.specs.Filled.{piece, takes, filled, Fills};
 ghost use Rattle.checks.specs.Rows.{Place, fieldPlace, numberOf};
 

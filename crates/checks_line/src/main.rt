@@ -7,7 +7,7 @@
 // Proved safe and ending. Assumes what `libc` assumes.
 ghost use mathlib.Core.Path.{_≡_};
 ghost use Prim.Native.Nat.{_≤_, _<_};
-ghost use Rattle.bruteforce.specs.Counts.{Small};
+ghost use Rattle.bruteforce.specs.Counts.{SmallRun};
 use answers::right_replay;
 use answers::same_answer;
 use answers::widened;
@@ -46,7 +46,7 @@ fn expect(tally: &mut [u64; 6], right: bool) {
 
 // The engine's answer beside the best line, which must itself be one that is permitted and loses nothing.
 fn compare(f: Failure, table: &[u32; 16384], tally: &mut [u64; 6]) -> Best
-    requires { ⌜ Small f ⌝ }
+    requires { ⌜ SmallRun f ⌝ }
 {
     let b = bestline::best_line(f);
     add(tally, LINES, b.judged);
@@ -67,7 +67,7 @@ fn replay(
     run: &mut [u32; 16384],
     tally: &mut [u64; 6],
 )
-    requires { ⌜ Small f ⌝ }
+    requires { ⌜ SmallRun f ⌝ }
 {
     run[0] = 7;
     let r = recovery::lowest(table, f.cut as u64, f.set, widened(f.count, line), run);
@@ -84,7 +84,7 @@ fn replay_all(
     run: &mut [u32; 16384],
     tally: &mut [u64; 6],
 )
-    requires { ⌜ Small f ⌝ }
+    requires { ⌜ SmallRun f ⌝ }
 {
     let mut line = [0u32; 4];
     let mut x = 0;
@@ -113,7 +113,7 @@ fn replay_some(
     run: &mut [u32; 16384],
     tally: &mut [u64; 6],
 )
-    requires { ⌜ Small f ⌝ }
+    requires { ⌜ SmallRun f ⌝ }
 {
     replay(f, best, table, faultless, run, tally);
     let mut line = [0u32; 4];
@@ -135,7 +135,7 @@ fn check_failure(
     run: &mut [u32; 16384],
     tally: &mut [u64; 6],
 )
-    requires { ⌜ Small f ⌝ }
+    requires { ⌜ SmallRun f ⌝ }
 {
     let b = compare(f, table, tally);
     if f.size == 6 {

@@ -1,7 +1,7 @@
 -- The class of a send, by the words of the full table, is what the theory says of its message: `class-is`.
 use Prim.Native.Nat.{ℕ, zero, suc, _+_, _*_, _/_, _%_, _<_, _≤_}
 use mathlib.Core.Path.{_≡_, refl, sym, ap, _∙_}
-use mathlib.Core.Bool.{Bool, true, false, _&&_, _||_, not}
+use mathlib.Core.Bool.{Bool, true, false, _&&_, _||_, not, cond}
 use mathlib.Core.List.{List, [], _∷_, map}
 use native.Mathlib.Omega.{arith}
 use lib.Dec.{leb, ltb, eqb}
@@ -14,23 +14,23 @@ use Rattle.trace.specs.Trace.{Trace}
 use Rattle.trace.specs.Fit.{wellFormed}
 use Rattle.trace.specs.Table.{wordOf}
 use Rattle.table.proofs.Places.{word-event}
-use Rattle.theory.specs.Lists.{pick}
 use Rattle.theory.specs.Events.{send, kindOf, processOf, size, eventAt, at, kind, sends, recvs, sent, sendOf, recvOf}
-use Rattle.theory.specs.Epochs.{past, epochAt, epochOf, loggedBy}
-use Rattle.theory.specs.Line.{Run, sentBefore, sentAfter, received, receivedBefore, undone, lost, orphan, kept, restartIn, recorded}
+use Rattle.theory.specs.Epochs.{epochAt, epochOf, loggedBy, ruleOf}
+use Rattle.theory.specs.Line.{Run, sentBefore, sentAfter, received, receivedBefore, undone, lost, orphan, kept, restartIn, runAt}
 use Rattle.theory.proofs.Base.{place-there, place-le}
 use Rattle.theory.proofs.Events.{sends-is, recvs-is, sendOf-at}
 use Rattle.theory.proofs.Epochs.{epochOf-at, restart-cut}
 use Rattle.theory.proofs.WellFormed.{valid}
-use Rattle.columns.specs.Columns.{Columns}
+use Rattle.columns.specs.Inner.Columns.{Columns}
 use Rattle.columns.proofs.Bounds.{well-few}
-use Rattle.classes.specs.Classes.{Given, Classed}
-use Rattle.classes.specs.Words.{doneBy, classW, eventW, matchW}
+use Rattle.classes.specs.Inner.Classes.{GivenRestarts, Classed}
+use Rattle.classes.specs.Inner.Words.{doneBy, classW}
+use Rattle.columns.specs.Inner.Full.{eventW, matchW}
 
 -- the tests of specs/Line over the tests of the words: a before the sender's restart, c by the cut, b the receive
 -- before the receiver's restart, d by the cut, l logged
 pub pick-class : Bool → Bool → Bool → Bool → Bool → ℕ
-pick-class a c b d l = pick a (pick b 0 (pick d (pick l 2 3) 2)) (pick c (pick b 1 0) 0)
+pick-class a c b d l = cond a (cond b 0 (cond d (cond l 2 3) 2)) (cond c (cond b 1 0) 0)
 
 orphan-pick : (a c b d l : Bool) → (a ≡ true → c ≡ true) → ((not a && c) && b) ≡ eqb (pick-class a c b d l) 1
 unfolding pick-class
@@ -128,17 +128,17 @@ module _ (t : Trace) (full : List ℕ) (fit : wellFormed t ≡ true) (C : Column
   match-at p q e s a b h = ((place-there (recvs t p q) (sent t p q e) (size t) h) .0, place-le (recvs t p q) (sent t p q e) (size t))
 
   match-epoch : (p q e : ℕ) → sends t p q e ≡ true → 0 < e → e ≤ size t → 0 < recvOf t p q (sent t p q e)
-      → getD full (8212 + recvOf t p q (sent t p q e)) 0 ≡ epochAt t past q (recvOf t p q (sent t p q e))
+      → getD full (8212 + recvOf t p q (sent t p q e)) 0 ≡ epochAt t (ruleOf t) q (recvOf t p q (sent t p q e))
   match-epoch p q e s a b h =
       let m = match-at p q e s a b h in
-      C .epoch (recvOf t p q (sent t p q e)) h (m .1) ∙ ap (λ (z : ℕ). epochAt t past z (recvOf t p q (sent t p q e))) ((recvs-is t p q (recvOf t p q (sent t p q e)) (m .0)) .0)
+      C .epoch (recvOf t p q (sent t p q e)) h (m .1) ∙ ap (λ (z : ℕ). epochAt t (ruleOf t) z (recvOf t p q (sent t p q e))) ((recvs-is t p q (recvOf t p q (sent t p q e)) (m .0)) .0)
 
-  send-epoch : (p q e : ℕ) → sends t p q e ≡ true → 0 < e → e ≤ size t → getD full (8212 + e) 0 ≡ epochOf t past p q (sent t p q e)
-  send-epoch p q e s a b = C .epoch e a b ∙ ap (λ (z : ℕ). epochAt t past z e) ((sends-is t p q e s) .0) ∙ sym (epochOf-at t past p q e s a b)
+  send-epoch : (p q e : ℕ) → sends t p q e ≡ true → 0 < e → e ≤ size t → getD full (8212 + e) 0 ≡ epochOf t (ruleOf t) p q (sent t p q e)
+  send-epoch p q e s a b = C .epoch e a b ∙ ap (λ (z : ℕ). epochAt t (ruleOf t) z e) ((sends-is t p q e s) .0) ∙ sym (epochOf-at t (ruleOf t) p q e s a b)
 
-module _ (t : Trace) (line : ℕ → ℕ) (full restarts : List ℕ) (cut : ℕ) (G : Given t line full restarts cut) where
+module _ (t : Trace) (line : ℕ → ℕ) (full restarts : List ℕ) (cut : ℕ) (G : GivenRestarts t line full restarts cut) where
   abbrev R : Run
-  R = recorded t past cut line
+  R = runAt t cut line
 
   module _ (p q e : ℕ) (s : sends t p q e ≡ true) (a : 0 < e) (b : e ≤ size t) where
     k : ℕ
@@ -160,7 +160,7 @@ module _ (t : Trace) (line : ℕ → ℕ) (full restarts : List ℕ) (cut : ℕ)
     rc = doneBy m cut
 
     lg : Bool
-    lg = loggedBy t past p q k
+    lg = loggedBy t (ruleOf t) p q k
 
     logged-same : rc ≡ true → ltb (getD full (8212 + e) 0) (getD full (8212 + m) 0) ≡ lg
     unfolding rc lg k m loggedBy
@@ -201,6 +201,6 @@ module _ (t : Trace) (line : ℕ → ℕ) (full restarts : List ℕ) (cut : ℕ)
     class-is = rw class-word (orphan-is, kept-is, lost-is)
 
 pub told : (full restarts : List ℕ) (cut e r : ℕ) → r ≡ classW full restarts cut e
-    → (r ≡ classW full restarts cut e) × ((t : Trace) (line : ℕ → ℕ) (p q : ℕ) → Given t line full restarts cut → sends t p q e ≡ true → 0 < e → e ≤ size t
-    → Classed (recorded t past cut line) p q (sent t p q e) r)
+    → (r ≡ classW full restarts cut e) × ((t : Trace) (line : ℕ → ℕ) (p q : ℕ) → GivenRestarts t line full restarts cut → sends t p q e ≡ true → 0 < e → e ≤ size t
+    → Classed (runAt t cut line) p q (sent t p q e) r)
 told full restarts cut e r h = (h, λ t line p q G s a b. rw h (class-is t line full restarts cut G p q e s a b))

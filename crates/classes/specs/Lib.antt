@@ -1,2 +1,2 @@
-pub mod Classes
-pub mod Words
+-- internal: no contract of a function that users call reaches these
+pub mod Inner

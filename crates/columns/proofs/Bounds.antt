@@ -10,7 +10,7 @@ use Rattle.trace.specs.declared.Event.{Event}
 use Rattle.trace.specs.declared.Event.the-variants.{Send, Recv, Save}
 use Rattle.trace.specs.Trace.{Trace}
 use Rattle.theory.specs.Events.{size, eventAt, sendOf}
-use Rattle.theory.specs.Epochs.{past, joined, notes, epochAt, phaseAt}
+use Rattle.theory.specs.Epochs.{joined, notes, epochAt, phaseAt, ruleOf}
 use Rattle.theory.proofs.Base.{place-le}
 use Rattle.theory.proofs.WellFormed.{Valid}
 use Rattle.theory.proofs.Events.{partner}
@@ -29,37 +29,37 @@ module _ (t : Trace) (A : Valid t) where
   unfolding sendOf
   sendOf-most p q k = place-le _ k (size t)
 
-  phase-start : (z : ℕ) → phaseAt t past z 0 ≤ 1
+  phase-start : (z : ℕ) → phaseAt t (ruleOf t) z 0 ≤ 1
   unfolding notes
   phase-start z = omega arith
 
   -- the phases after event x + 1, from those up to x
-  phase-next : (x : ℕ) → suc x ≤ size t → ((y : ℕ) → y ≤ x → (z : ℕ) → phaseAt t past z y ≤ suc y) → (z : ℕ) (v : Event) → eventAt t (suc x) ≡ v
-      → phaseAt t past z (suc x) ≤ suc (suc x)
+  phase-next : (x : ℕ) → suc x ≤ size t → ((y : ℕ) → y ≤ x → (z : ℕ) → phaseAt t (ruleOf t) z y ≤ suc y) → (z : ℕ) (v : Event) → eventAt t (suc x) ≡ v
+      → phaseAt t (ruleOf t) z (suc x) ≤ suc (suc x)
   phase-next x l ih z (Send a b v) e = omega (arith, send-phase t x a b v e z, ih x (omega arith) z)
   phase-next x l ih z (Recv a b) e =
       by-eq z a
       (λ h. let p = partner t (A .causal) b a (suc x) (recv-here t x a b e) (omega arith) l in
       rw (h, recv-phase t x a b e A l (p .0) (p .3) (p .1) (omega (arith, p .2)) (p .4))
-      (joined-most (ltb (epochAt t past b (p .0)) (epochAt t past a x)) (phaseAt t past a x) (phaseAt t past b (p .0)) (suc (suc x)) (omega (arith, ih x (omega arith) a)) (omega (arith, ih (p .0) (omega (arith, p .2)) b, p .2))))
+      (joined-most (ltb (epochAt t (ruleOf t) b (p .0)) (epochAt t (ruleOf t) a x)) (phaseAt t (ruleOf t) a x) (phaseAt t (ruleOf t) b (p .0)) (suc (suc x)) (omega (arith, ih x (omega arith) a)) (omega (arith, ih (p .0) (omega (arith, p .2)) b, p .2))))
       (λ n. omega (arith, recv-phase-other t x a b e z n, ih x (omega arith) z))
   phase-next x l ih z (Save a) e =
       by-eq z a
       (λ h. rw h (omega (arith, save-phase t x a e, ih x (omega arith) a)))
       (λ n. omega (arith, save-phase-other t x a e z n, ih x (omega arith) z))
 
-  phases-most : (x : ℕ) → x ≤ size t → (y : ℕ) → y ≤ x → (z : ℕ) → phaseAt t past z y ≤ suc y
+  phases-most : (x : ℕ) → x ≤ size t → (y : ℕ) → y ≤ x → (z : ℕ) → phaseAt t (ruleOf t) z y ≤ suc y
   phases-most zero l y h z = let e : y ≡ 0 = omega arith in rw e (phase-start z)
   phases-most (suc x) l y h z =
       by-lt y (suc x)
       (λ g. phases-most x (omega arith) y (omega arith) z)
       (λ g. let e : y ≡ suc x = omega arith in rw e (phase-next x l (λ w k v. phases-most x (omega arith) w k v) z (eventAt t (suc x)) refl))
 
-  pub phase-most : (z x : ℕ) → x ≤ size t → phaseAt t past z x ≤ suc x
+  pub phase-most : (z x : ℕ) → x ≤ size t → phaseAt t (ruleOf t) z x ≤ suc x
   phase-most z x l = phases-most x l x (omega arith) z
 
-  pub epoch-most : (z x : ℕ) → x ≤ size t → epochAt t past z x ≤ 31
-  epoch-most z x l = omega (arith, epoch-is t past x z, A .checkpoints-few z x l)
+  pub epoch-most : (z x : ℕ) → x ≤ size t → epochAt t (ruleOf t) z x ≤ 31
+  epoch-most z x l = omega (arith, epoch-is t (ruleOf t) x z, A .checkpoints-few z x l)
 
 pub well-few : (t : Trace) → wellFormed t ≡ true → size t ≤ 2048
 unfolding wellFormed

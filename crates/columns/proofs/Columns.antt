@@ -3,7 +3,7 @@
 use Prim.Native.Nat.{ℕ, suc, _+_, _*_, _<_, _≤_}
 use mathlib.Core.Path.{_≡_, sym, ap, subst, _∙_}
 use mathlib.Core.Logic.{_≢_}
-use mathlib.Core.Bool.{Bool, true, false}
+use mathlib.Core.Bool.{Bool, true, false, cond}
 use mathlib.Core.List.{List}
 use native.Mathlib.Omega.{arith}
 use lib.Dec.{leb}
@@ -13,13 +13,12 @@ use borrow.Author.Tests.{le-leb, lt-leb, lt-ltb}
 use Rattle.words.proofs.Cases.{by-eq, by-lt, clash}
 use Rattle.trace.specs.declared.Event.the-variants.{Send, Recv, Save}
 use Rattle.trace.specs.Trace.{Trace}
-use Rattle.theory.specs.Lists.{pick}
 use Rattle.theory.specs.Events.{send, recv, size, eventAt, at, kind, sends, recvs, sent, rcvd, sendOf, recvOf}
-use Rattle.theory.specs.Epochs.{past, epochAt, phaseAt}
+use Rattle.theory.specs.Epochs.{epochAt, phaseAt, ruleOf}
 use Rattle.theory.proofs.Base.{place-zero}
 use Rattle.theory.proofs.WellFormed.{Valid}
 use Rattle.theory.proofs.Events.{sends-is, recvs-is, send-of, sendOf-at, recvOf-at}
-use Rattle.columns.specs.Filling.{stored, sendFull, recvPhase, recvFull, saveFull, Filled, Working}
+use Rattle.columns.specs.Inner.Filling.{stored, sendFull, recvPhase, recvFull, saveFull, Filled, Working}
 use Rattle.columns.proofs.Moves.{sent-more, sent-same, rcvd-more, rcvd-same, send-at, send-here, send-recvs, send-epoch, send-phase, recv-at, recv-here, recv-else, recv-sends, recv-epoch, recv-phase, save-at, save-sends, save-recvs, save-epoch, save-phase}
 use Rattle.columns.proofs.Storing.{length-stored, stored-match, stored-other, stored-phase, stored-epoch, stored-number, Step, filled-step, by-event}
 
@@ -58,7 +57,7 @@ found t p q k x pos le lx =
 module _ (t : Trace) (x : ℕ) (full : List ℕ) (F : Filled t x full) (A : Valid t) (few : size t ≤ 2048) (l : suc x ≤ size t) where
   -- an event that receives nothing
   module _ (n ep ph : ℕ) (none : (p q : ℕ) → recvs t p q (suc x) ≡ false) (num : (p q : ℕ) → sends t p q (suc x) ≡ true → n ≡ sent t p q (suc x))
-      (eps : ep ≡ epochAt t past (at t (suc x)) (suc x)) (phs : ph ≡ phaseAt t past (at t (suc x)) (suc x)) where
+      (eps : ep ≡ epochAt t (ruleOf t) (at t (suc x)) (suc x)) (phs : ph ≡ phaseAt t (ruleOf t) (at t (suc x)) (suc x)) where
     abbrev next : List ℕ
     next = stored full (suc x) n ep ph 0
 
@@ -74,7 +73,7 @@ module _ (t : Trace) (x : ℕ) (full : List ℕ) (F : Filled t x full) (A : Vali
       epoch = stored-epoch full (suc x) n ep ph 0 (F .whole) most ∙ eps;
       phase = stored-phase full (suc x) n ep ph 0 (F .whole) most ∙ phs;
       match-send = λ p q e s a b. by-event t x full next F few l
-          (λ e. sends t p q e ≡ true → 0 < e → getD next (12310 + e) 0 ≡ pick (leb (sent t p q e) (rcvd t p q (suc x))) (recvOf t p q (sent t p q e)) 0) e b
+          (λ e. sends t p q e ≡ true → 0 < e → getD next (12310 + e) 0 ≡ cond (leb (sent t p q e) (rcvd t p q (suc x))) (recvOf t p q (sent t p q e)) 0) e b
           (λ h s a. stored-other full (suc x) n ep ph 0 (F .whole) most (12310 + e) (λ i. omega arith) (λ i. omega arith) (λ i. omega arith) (λ i. omega arith)
           ∙ rw (rcvd-same t x p q (none p q)) (F .match-send p q e s a h))
           (λ s a. stored-match full (suc x) n ep ph 0 (F .whole) most
@@ -133,12 +132,12 @@ module _ (t : Trace) (x : ℕ) (full : List ℕ) (F : Filled t x full) (A : Vali
       pub oldest-found : Found t b a (rcvd t b a (suc x)) x
       oldest-found = found t b a (rcvd t b a (suc x)) x (omega (arith, rcvd-more t x b a here)) (omega (arith, rcvd-more t x b a here, waiting)) (omega arith)
 
-      pub phase-is : recvPhase full work d a ≡ phaseAt t past a (suc x)
+      pub phase-is : recvPhase full work d a ≡ phaseAt t (ruleOf t) a (suc x)
       phase-is =
           let f = oldest-found in
           let s = (sends-is t b a d (f .sends-it)) .0 in
-          let ep : getD full (8212 + d) 0 ≡ epochAt t past b d = F .epoch d (f .later) (f .by) ∙ ap (λ (z : ℕ). epochAt t past z d) s in
-          let ph : getD full (10261 + d) 0 ≡ phaseAt t past b d = F .phase d (f .later) (f .by) ∙ ap (λ (z : ℕ). phaseAt t past z d) s in
+          let ep : getD full (8212 + d) 0 ≡ epochAt t (ruleOf t) b d = F .epoch d (f .later) (f .by) ∙ ap (λ (z : ℕ). epochAt t (ruleOf t) z d) s in
+          let ph : getD full (10261 + d) 0 ≡ phaseAt t (ruleOf t) b d = F .phase d (f .later) (f .by) ∙ ap (λ (z : ℕ). phaseAt t (ruleOf t) z d) s in
           rw (ep, ph, W .epochs a la, W .phases a la) (sym (recv-phase t x a b e A l d (f .sends-it) (f .later) (omega (arith, f .by)) (f .number)))
 
       -- another send is matched after this event as it was before
@@ -196,7 +195,7 @@ module _ (t : Trace) (x : ℕ) (full : List ℕ) (F : Filled t x full) (A : Vali
                 (getD-set-same mid (12310 + d) (suc x) 0 (omega arith) ∙ sym (recvOf-at t b a (suc x) here (omega arith) l)))
                 (λ j. let ne : i ≢ suc x = (λ z. clash (subst (λ (y : ℕ). sends t p q y ≡ true) z s) (recv-sends t x a b e p q)) in
                 two (12310 + i) (λ z. j (omega arith)) (λ z. omega arith) (λ z. omega arith) (λ z. omega arith) (λ z. ne (omega arith))
-                ∙ F .match-send p q i s u (omega (arith, ne)) ∙ ap (λ (c : Bool). pick c (recvOf t p q (sent t p q i)) 0) (unmatched p q i s u (omega (arith, ne)) j));
+                ∙ F .match-send p q i s u (omega (arith, ne)) ∙ ap (λ (c : Bool). cond c (recvOf t p q (sent t p q i)) 0) (unmatched p q i s u (omega (arith, ne)) j));
             match-recv = λ p q i s u h. by-eq i (suc x)
                 (λ j. let c = one-receive t p q b a i s (subst (λ (y : ℕ). recvs t b a y ≡ true) (sym j) here) in
                 rw (c .0, c .1, j) (off (12310 + suc x) (λ z. omega arith) ∙ stored-match full (suc x) n ep ph d (F .whole) few′))

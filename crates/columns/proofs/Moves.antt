@@ -12,7 +12,7 @@ use Rattle.trace.specs.declared.Event.the-variants.{Send, Recv, Save}
 use Rattle.trace.specs.Trace.{Trace}
 use Rattle.words.proofs.Cases.{by-eq}
 use Rattle.theory.specs.Events.{size, eventAt, at, sends, recvs, sent, rcvd}
-use Rattle.theory.specs.Epochs.{Notes, past, joined, note, notes, epochAt, phaseAt, phaseOf, loggedBy}
+use Rattle.theory.specs.Epochs.{Notes, joined, note, notes, epochAt, phaseAt, phaseOf, loggedBy, ruleOf}
 use Rattle.theory.proofs.Base.{eqb-self, cnt-suc, cnt-skip}
 use Rattle.theory.proofs.WellFormed.{Valid}
 use Rattle.theory.proofs.Epochs.{phase-recv, phaseOf-send, logged-is}
@@ -41,9 +41,9 @@ module _ (t : Trace) (x : ℕ) where
   unfolding rcvd
   rcvd-same p q h = cnt-skip (recvs t p q) x h
 
-  noted : (v : Event) → eventAt t (suc x) ≡ v → notes t past (suc x) ≡ note t past (notes t past x) (suc x) v
+  noted : (v : Event) → eventAt t (suc x) ≡ v → notes t (ruleOf t) (suc x) ≡ note t (ruleOf t) (notes t (ruleOf t) x) (suc x) v
   unfolding notes
-  noted v e = ap (note t past (notes t past x) (suc x)) e
+  noted v e = ap (note t (ruleOf t) (notes t (ruleOf t) x) (suc x)) e
 
   -- a send of a to b
   module _ (a b v : ℕ) (e : eventAt t (suc x) ≡ Send a b v) where
@@ -63,11 +63,11 @@ module _ (t : Trace) (x : ℕ) where
     unfolding recvs
     send-recvs p q = rw e
 
-    pub send-epoch : (z : ℕ) → epochAt t past z (suc x) ≡ epochAt t past z x
+    pub send-epoch : (z : ℕ) → epochAt t (ruleOf t) z (suc x) ≡ epochAt t (ruleOf t) z x
     unfolding note
     send-epoch z = ap (λ (n : Notes). n .epochs z) (noted (Send a b v) e)
 
-    pub send-phase : (z : ℕ) → phaseAt t past z (suc x) ≡ phaseAt t past z x
+    pub send-phase : (z : ℕ) → phaseAt t (ruleOf t) z (suc x) ≡ phaseAt t (ruleOf t) z x
     unfolding note
     send-phase z = ap (λ (n : Notes). n .phases z) (noted (Send a b v) e)
 
@@ -89,23 +89,23 @@ module _ (t : Trace) (x : ℕ) where
     unfolding sends
     recv-sends p q = rw e
 
-    pub recv-epoch : (z : ℕ) → epochAt t past z (suc x) ≡ epochAt t past z x
+    pub recv-epoch : (z : ℕ) → epochAt t (ruleOf t) z (suc x) ≡ epochAt t (ruleOf t) z x
     unfolding note
     recv-epoch z = ap (λ (n : Notes). n .epochs z) (noted (Recv a b) e)
 
-    pub recv-phase-other : (z : ℕ) → z ≢ a → phaseAt t past z (suc x) ≡ phaseAt t past z x
+    pub recv-phase-other : (z : ℕ) → z ≢ a → phaseAt t (ruleOf t) z (suc x) ≡ phaseAt t (ruleOf t) z x
     unfolding note
     recv-phase-other z n = ap (λ (n : Notes). n .phases z) (noted (Recv a b) e) ∙ rw (ne-eqb z a n)
 
     -- the message was sent by event d, so that it carries what the columns of d say
     pub recv-phase : Valid t → suc x ≤ size t → (d : ℕ) → sends t b a d ≡ true → 0 < d → d ≤ size t → sent t b a d ≡ rcvd t b a (suc x)
-        → phaseAt t past a (suc x) ≡ joined (ltb (epochAt t past b d) (epochAt t past a x)) (phaseAt t past a x) (phaseAt t past b d)
+        → phaseAt t (ruleOf t) a (suc x) ≡ joined (ltb (epochAt t (ruleOf t) b d) (epochAt t (ruleOf t) a x)) (phaseAt t (ruleOf t) a x) (phaseAt t (ruleOf t) b d)
     recv-phase A l d s p m n =
-        phase-recv t past A b a x recv-here l
-        ∙ ap (λ (k : ℕ). joined (loggedBy t past b a k) (phaseAt t past a x) (phaseOf t past b a k)) (sym n)
-        ∙ ap (λ (c : Bool). joined c (phaseAt t past a x) (phaseOf t past b a (sent t b a d)))
-        (logged-is t past b a d (suc x) s recv-here p (omega arith) m l n ∙ ap (λ (k : ℕ). ltb (epochAt t past b d) k) (recv-epoch a))
-        ∙ ap (λ (k : ℕ). joined (ltb (epochAt t past b d) (epochAt t past a x)) (phaseAt t past a x) k) (phaseOf-send t past b a d s p m)
+        phase-recv t (ruleOf t) A b a x recv-here l
+        ∙ ap (λ (k : ℕ). joined (loggedBy t (ruleOf t) b a k) (phaseAt t (ruleOf t) a x) (phaseOf t (ruleOf t) b a k)) (sym n)
+        ∙ ap (λ (c : Bool). joined c (phaseAt t (ruleOf t) a x) (phaseOf t (ruleOf t) b a (sent t b a d)))
+        (logged-is t (ruleOf t) b a d (suc x) s recv-here p (omega arith) m l n ∙ ap (λ (k : ℕ). ltb (epochAt t (ruleOf t) b d) k) (recv-epoch a))
+        ∙ ap (λ (k : ℕ). joined (ltb (epochAt t (ruleOf t) b d) (epochAt t (ruleOf t) a x)) (phaseAt t (ruleOf t) a x) k) (phaseOf-send t (ruleOf t) b a d s p m)
 
   -- a checkpoint of a
   module _ (a : ℕ) (e : eventAt t (suc x) ≡ Save a) where
@@ -121,18 +121,18 @@ module _ (t : Trace) (x : ℕ) where
     unfolding recvs
     save-recvs p q = rw e
 
-    pub save-epoch : epochAt t past a (suc x) ≡ suc (epochAt t past a x)
+    pub save-epoch : epochAt t (ruleOf t) a (suc x) ≡ suc (epochAt t (ruleOf t) a x)
     unfolding note
     save-epoch = ap (λ (n : Notes). n .epochs a) (noted (Save a) e) ∙ rw (eqb-self a)
 
-    pub save-phase : phaseAt t past a (suc x) ≡ suc (phaseAt t past a x)
+    pub save-phase : phaseAt t (ruleOf t) a (suc x) ≡ suc (phaseAt t (ruleOf t) a x)
     unfolding note
     save-phase = ap (λ (n : Notes). n .phases a) (noted (Save a) e) ∙ rw (eqb-self a)
 
-    pub save-epoch-other : (z : ℕ) → z ≢ a → epochAt t past z (suc x) ≡ epochAt t past z x
+    pub save-epoch-other : (z : ℕ) → z ≢ a → epochAt t (ruleOf t) z (suc x) ≡ epochAt t (ruleOf t) z x
     unfolding note
     save-epoch-other z n = ap (λ (n : Notes). n .epochs z) (noted (Save a) e) ∙ rw (ne-eqb z a n)
 
-    pub save-phase-other : (z : ℕ) → z ≢ a → phaseAt t past z (suc x) ≡ phaseAt t past z x
+    pub save-phase-other : (z : ℕ) → z ≢ a → phaseAt t (ruleOf t) z (suc x) ≡ phaseAt t (ruleOf t) z x
     unfolding note
     save-phase-other z n = ap (λ (n : Notes). n .phases z) (noted (Save a) e) ∙ rw (ne-eqb z a n)

@@ -16,8 +16,8 @@ use Rattle.theory.specs.Events.{size, eventAt, sends, checkpoints, rcvd, sendOf
 use Rattle.theory.proofs.Base.{eqb-self}
 use Rattle.theory.proofs.WellFormed.{Valid}
 use Rattle.theory.proofs.Events.{send-not-checkpoint, recv-not-checkpoint}
-use Rattle.columns.specs.Columns.{Columns, Others}
-use Rattle.columns.specs.Filling.{stored, sendFull, recvPhase, recvFull, saveFull, Filled, Working}
+use Rattle.columns.specs.Inner.Columns.{Columns, Others}
+use Rattle.columns.specs.Inner.Filling.{stored, sendFull, recvPhase, recvFull, saveFull, Filled, Working}
 use Rattle.columns.proofs.Moves.{send-here, recv-here}
 use Rattle.columns.proofs.Storing.{stored-match, stored-other, stored-number, by-event}
 use Rattle.columns.proofs.Columns.{oldest-found}

@@ -16,12 +16,12 @@ use Rattle.trace.specs.Trace.{Trace}
 use Rattle.trace.specs.Table.{tableWord}
 use Rattle.theory.specs.Lists.{cnt, place}
 use Rattle.theory.specs.Events.{size, eventAt, at, sends, recvs, sent, rcvd, sendOf, recvOf}
-use Rattle.theory.specs.Epochs.{past, notes, epochAt, phaseAt}
+use Rattle.theory.specs.Epochs.{notes, epochAt, phaseAt, ruleOf}
 use Rattle.theory.proofs.Base.{place-le, place-there, cnt-le, cnt-bound}
 use Rattle.theory.proofs.Events.{sends-is, partner}
 use Rattle.theory.proofs.WellFormed.{Valid}
-use Rattle.columns.specs.Columns.{Columns, Others}
-use Rattle.columns.specs.Filling.{noteFull, noteWork, Notable, Filled, Working}
+use Rattle.columns.specs.Inner.Columns.{Columns, Others}
+use Rattle.columns.specs.Inner.Filling.{noteFull, noteWork, Notable, Filled, Working}
 use Rattle.columns.proofs.Moves.{send-here, send-at, recv-here, recv-at, save-at}
 use Rattle.columns.proofs.Bounds.{sendOf-most, phase-most, epoch-most}
 use Rattle.columns.proofs.Columns.{no-message, oldest-is, oldest-found, send-filled, recv-filled, save-filled, latest-number}
@@ -52,11 +52,11 @@ module _ (t : Trace) where
   unfolding rcvd cnt
   no-rcvd p q = refl
 
-  first-epoch : (z : ℕ) → epochAt t past z 0 ≡ 1
+  first-epoch : (z : ℕ) → epochAt t (ruleOf t) z 0 ≡ 1
   unfolding notes
   first-epoch z = refl
 
-  first-phase : (z : ℕ) → phaseAt t past z 0 ≡ 1
+  first-phase : (z : ℕ) → phaseAt t (ruleOf t) z 0 ≡ 1
   unfolding notes
   first-phase z = refl
 

@@ -2,7 +2,7 @@
 use Prim.Native.Nat.{ℕ, suc, _+_, _<_, _≤_}
 use mathlib.Core.Path.{_≡_, subst, _∙_}
 use mathlib.Core.Logic.{_≢_}
-use mathlib.Core.Bool.{true}
+use mathlib.Core.Bool.{true, cond}
 use mathlib.Core.List.{List}
 use native.Mathlib.Omega.{arith}
 use lib.Dec.{leb}
@@ -11,11 +11,10 @@ use lib.Seq.{getD-set-same, getD-set-other}
 use Rattle.words.specs.Area.{areaWords}
 use Rattle.words.proofs.Cases.{by-lt}
 use Rattle.trace.specs.Trace.{Trace}
-use Rattle.theory.specs.Lists.{pick}
 use Rattle.theory.specs.Events.{size, at, sends, recvs, sent, rcvd, sendOf, recvOf}
-use Rattle.theory.specs.Epochs.{past, epochAt, phaseAt}
-use Rattle.columns.specs.Columns.{numberBase, epochBase, phaseBase, matchBase}
-use Rattle.columns.specs.Filling.{stored, Filled}
+use Rattle.theory.specs.Epochs.{epochAt, phaseAt, ruleOf}
+use Rattle.columns.specs.Inner.Columns.{numberBase, epochBase, phaseBase, matchBase}
+use Rattle.columns.specs.Inner.Filling.{stored, Filled}
 
 -- the four words of an event, and the others
 module _ (full : List ℕ) (e n ep ph m : ℕ) (whole : length full ≡ areaWords) (few : e ≤ 2048) where
@@ -76,10 +75,10 @@ module _ (t : Trace) (x : ℕ) (full next : List ℕ) (F : Filled t x full) (few
     pub others : (k : ℕ) → k < 12310 → k ≢ 6163 + suc x → k ≢ 8212 + suc x → k ≢ 10261 + suc x → getD next k 0 ≡ getD full k 0
     pub number-send : (p q : ℕ) → sends t p q (suc x) ≡ true → getD next (6163 + suc x) 0 ≡ sent t p q (suc x)
     pub number-recv : (p q : ℕ) → recvs t p q (suc x) ≡ true → getD next (6163 + suc x) 0 ≡ rcvd t p q (suc x)
-    pub epoch : getD next (8212 + suc x) 0 ≡ epochAt t past (at t (suc x)) (suc x)
-    pub phase : getD next (10261 + suc x) 0 ≡ phaseAt t past (at t (suc x)) (suc x)
+    pub epoch : getD next (8212 + suc x) 0 ≡ epochAt t (ruleOf t) (at t (suc x)) (suc x)
+    pub phase : getD next (10261 + suc x) 0 ≡ phaseAt t (ruleOf t) (at t (suc x)) (suc x)
     pub match-send : (p q e : ℕ) → sends t p q e ≡ true → 0 < e → e ≤ suc x
-        → getD next (12310 + e) 0 ≡ pick (leb (sent t p q e) (rcvd t p q (suc x))) (recvOf t p q (sent t p q e)) 0
+        → getD next (12310 + e) 0 ≡ cond (leb (sent t p q e) (rcvd t p q (suc x))) (recvOf t p q (sent t p q e)) 0
     pub match-recv : (p q e : ℕ) → recvs t p q e ≡ true → 0 < e → e ≤ suc x → getD next (12310 + e) 0 ≡ sendOf t p q (rcvd t p q e)
 
   -- an event so far, or the new one
@@ -97,10 +96,10 @@ module _ (t : Trace) (x : ℕ) (full next : List ℕ) (F : Filled t x full) (few
     number-recv = λ p q e s a b. by-event (λ e. recvs t p q e ≡ true → 0 < e → getD next (6163 + e) 0 ≡ rcvd t p q e) e b
         (λ h s a. S .others (6163 + e) (omega arith) (λ i. omega arith) (λ i. omega arith) (λ i. omega arith) ∙ F .number-recv p q e s a h)
         (λ s a. S .number-recv p q s) s a;
-    epoch = λ e a b. by-event (λ e. 0 < e → getD next (8212 + e) 0 ≡ epochAt t past (at t e) e) e b
+    epoch = λ e a b. by-event (λ e. 0 < e → getD next (8212 + e) 0 ≡ epochAt t (ruleOf t) (at t e) e) e b
         (λ h a. S .others (8212 + e) (omega arith) (λ i. omega arith) (λ i. omega arith) (λ i. omega arith) ∙ F .epoch e a h)
         (λ a. S .epoch) a;
-    phase = λ e a b. by-event (λ e. 0 < e → getD next (10261 + e) 0 ≡ phaseAt t past (at t e) e) e b
+    phase = λ e a b. by-event (λ e. 0 < e → getD next (10261 + e) 0 ≡ phaseAt t (ruleOf t) (at t e) e) e b
         (λ h a. S .others (10261 + e) (omega arith) (λ i. omega arith) (λ i. omega arith) (λ i. omega arith) ∙ F .phase e a h)
         (λ a. S .phase) a;
     match-send = S .match-send;

@@ -3,7 +3,7 @@
 use Prim.Native.Nat.{ℕ, suc, _+_, _*_, _<_, _≤_}
 use mathlib.Core.Path.{_≡_, sym, ap, subst, _∙_}
 use mathlib.Core.Logic.{_≢_}
-use mathlib.Core.Bool.{true}
+use mathlib.Core.Bool.{true, cond}
 use mathlib.Core.List.{List}
 use native.Mathlib.Omega.{arith}
 use lib.Dec.{ltb}
@@ -13,11 +13,10 @@ use borrow.Author.Tests.{le-ltb, lt-ltb, eq-eqb, ne-eqb}
 use Rattle.words.proofs.Cases.{by-eq, by-lt, clash}
 use Rattle.trace.specs.declared.Event.the-variants.{Send, Recv, Save}
 use Rattle.trace.specs.Trace.{Trace}
-use Rattle.theory.specs.Lists.{pick}
 use Rattle.theory.specs.Events.{size, eventAt, at, sends, sent, rcvd, sendOf}
 use Rattle.theory.proofs.WellFormed.{Valid}
 use Rattle.theory.proofs.Events.{sendOf-at, sent-le}
-use Rattle.columns.specs.Filling.{orNew, sendWork, recvPhase, recvWork, saveWork, Filled, Working}
+use Rattle.columns.specs.Inner.Filling.{orNew, sendWork, recvPhase, recvWork, saveWork, Filled, Working}
 use Rattle.columns.proofs.Moves.{sent-more, sent-same, rcvd-same, send-here, send-else, send-recvs, send-epoch, send-phase, recv-else, recv-sends, recv-epoch, recv-phase-other, save-sends, save-recvs, save-epoch, save-epoch-other, save-phase, save-phase-other}
 use Rattle.columns.proofs.Columns.{one-channel, no-message, found, oldest-found, phase-is}
 
@@ -137,11 +136,11 @@ module _ (t : Trace) (x : ℕ) (work : List ℕ) (W : Working t x work) (A : Val
 
     -- of each send on this channel, the next one
     next-here : (i : ℕ) → sends t a b i ≡ true → 0 < i → i ≤ x
-        → getD next (8320 + i) 0 ≡ pick (ltb (sent t a b i) (sent t a b (suc x))) (sendOf t a b (suc (sent t a b i))) 0
+        → getD next (8320 + i) 0 ≡ cond (ltb (sent t a b i) (sent t a b (suc x))) (sendOf t a b (suc (sent t a b i))) 0
     next-here i s u h =
         let m = sent-more t x a b here in
         by-eq (sent t a b i) (sent t a b x)
-        (λ g. let z : pick (ltb (sent t a b i) (sent t a b (suc x))) (sendOf t a b (suc (sent t a b i))) 0 ≡ suc x =
+        (λ g. let z : cond (ltb (sent t a b i) (sent t a b (suc x))) (sendOf t a b (suc (sent t a b i))) 0 ≡ suc x =
         rw (g, lt-ltb (sent t a b x) (sent t a b (suc x)) (omega (arith, m))) new-is in
         ap (λ (y : ℕ). getD next (8320 + y) 0) (d-last i s u h g) ∙ at-d ∙ sym z)
         (λ g. let k : sent t a b i < sent t a b x = omega (arith, g, sent-le t a b i x h) in

@@ -1,2 +1,2 @@
-pub mod Columns
-pub mod Filling
+-- internal: no contract of a function that users call reaches these
+pub mod Inner

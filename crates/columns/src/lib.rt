@@ -8,7 +8,7 @@ ghost use lib.ListN.{length, getD};
 ghost use Rattle.words.specs.Area.{areaWords};
 ghost use Rattle.trace.specs.declared.Event.the-variants.{Send, Recv, Save};
 ghost use Rattle.theory.specs.Epochs.{joined};
-ghost use Rattle.columns.specs.Filling.{stored, orNew, sendFull, sendWork, recvFull, recvWork, saveFull, saveWork, noteFull, noteWork, oldestOf, Notable, Sized};
+ghost use Rattle.columns.specs.Inner.Filling.{stored, orNew, sendFull, sendWork, recvFull, recvWork, saveFull, saveWork, noteFull, noteWork, oldestOf, Notable, Storable};
 use trace::Event;
 
 // Where the columns of the full table begin: the word of event e is at the base + e.
@@ -77,7 +77,7 @@ fn joined_phase(sent: u32, received: u32, own: u16, carried: u16) -> u16
 
 // Event e, a send of a to b.
 fn note_send(full: &mut [u32], work: &mut [u16], e: usize, a: usize, b: usize)
-    requires { ⌜ Sized (now full) (now work) e × Notable (now full) (now work) (Send a b 0) ⌝ }
+    requires { ⌜ Storable (now full) (now work) e × Notable (now full) (now work) (Send a b 0) ⌝ }
     ensures columns { λ _. ⌜ now (full .exit) ≡ sendFull (now (full .entry)) (now (work .entry)) e a b ⌝ }
     ensures working { λ _. ⌜ now (work .exit) ≡ sendWork (now (work .entry)) e a b ⌝ }
 {
@@ -94,7 +94,7 @@ fn note_send(full: &mut [u32], work: &mut [u16], e: usize, a: usize, b: usize)
 
 // Event e, a receive of a from b: the channel's oldest send d is matched with it.
 fn note_recv(full: &mut [u32], work: &mut [u16], e: usize, a: usize, b: usize)
-    requires { ⌜ Sized (now full) (now work) e × Notable (now full) (now work) (Recv a b) ⌝ }
+    requires { ⌜ Storable (now full) (now work) e × Notable (now full) (now work) (Recv a b) ⌝ }
     ensures columns { λ _. ⌜ now (full .exit) ≡ recvFull (now (full .entry)) (now (work .entry)) e (oldestOf (now (work .entry)) a b) a ⌝ }
     ensures working { λ _. ⌜ now (work .exit) ≡ recvWork (now (full .entry)) (now (work .entry)) (oldestOf (now (work .entry)) a b) a b ⌝ }
 {
@@ -117,7 +117,7 @@ fn note_recv(full: &mut [u32], work: &mut [u16], e: usize, a: usize, b: usize)
 
 // Event e, a checkpoint of a.
 fn note_save(full: &mut [u32], work: &mut [u16], e: usize, a: usize)
-    requires { ⌜ Sized (now full) (now work) e × Notable (now full) (now work) (Save a) ⌝ }
+    requires { ⌜ Storable (now full) (now work) e × Notable (now full) (now work) (Save a) ⌝ }
     ensures columns { λ _. ⌜ now (full .exit) ≡ saveFull (now (full .entry)) (now (work .entry)) e a ⌝ }
     ensures working { λ _. ⌜ now (work .exit) ≡ saveWork (now (work .entry)) a ⌝ }
 {
@@ -130,7 +130,7 @@ fn note_save(full: &mut [u32], work: &mut [u16], e: usize, a: usize)
 
 // Event e, by its kind.
 pub fn note(full: &mut [u32], work: &mut [u16], e: usize, event: Event)
-    requires { ⌜ Sized (now full) (now work) e × Notable (now full) (now work) event ⌝ }
+    requires { ⌜ Storable (now full) (now work) e × Notable (now full) (now work) event ⌝ }
     ensures columns { λ _. ⌜ now (full .exit) ≡ noteFull (now (full .entry)) (now (work .entry)) e event ⌝ }
     ensures working { λ _. ⌜ now (work .exit) ≡ noteWork (now (full .entry)) (now (work .entry)) e event ⌝ }
 {

@@ -1,6 +1,6 @@
 -- The numbers 8, 9 and 10 by the words of the table and of the line.
 use mathlib.Core.Path.{_≡_, refl, sym, _∙_, ap, ap₂}
-use mathlib.Core.Bool.{Bool, true, false, _&&_, _||_, not}
+use mathlib.Core.Bool.{Bool, true, false, _&&_, _||_, not, cond}
 use mathlib.Core.List.{List}
 use Prim.Native.Nat.{ℕ, zero, suc, _+_, _/_, _%_, _^_, _≤_, _<_}
 use native.Mathlib.Omega.{arith}
@@ -12,15 +12,15 @@ use Rattle.words.specs.Area.{wordsFrom}
 use Rattle.words.proofs.Area.{getD-words}
 use Rattle.words.proofs.Cases.{by-bool}
 use Rattle.trace.specs.Trace.{Trace}
-use Rattle.trace.specs.Fit.{orElse}
 use Rattle.theory.specs.Lists.{all-below}
 use Rattle.theory.specs.Events.{size}
-use Rattle.theory.specs.Epochs.{past}
-use Rattle.theory.specs.Line.{inSet, may, current, reached}
+use Rattle.theory.specs.Epochs.{ruleOf}
+use Rattle.theory.specs.Line.{inSet, may, current, usableAt}
 use Rattle.theory.specs.Refusals.{failureFault, permits, lineFault}
 use Rattle.theory.proofs.Refusals.{set-shifted}
-use Rattle.recovery_line.specs.Given.{Tabled, each}
-use Rattle.faults.specs.Permitted.{reachedW, mayStayW, mayW}
+use Rattle.columns.specs.Inner.Columns.{Tabled}
+use Rattle.recovery_line.specs.Given.{each}
+use Rattle.faults.specs.Inner.Permitted.{reachedW, mayStayW, mayW}
 use Rattle.recovery_line.proofs.Table.{fit, procs-is, size-is}
 
 -- ---- `names_beyond`, `has_reached`, `may_stay`, `may_hold`
@@ -107,7 +107,7 @@ module _ (t : Trace) (full : List ℕ) (G : Tabled t full) (step set : ℕ) (n :
 
   module _ (z : f ≡ 0) (count : ℕ) (ec : count ≡ getD full 0 0) where
     rest : ℕ
-    rest = orElse (not (eqb n (t .procs) && permits t (reached t past step) (inSet set) line)) 10 0
+    rest = cond (not (eqb n (t .procs) && permits t (usableAt t step) (inSet set) line)) 10 0
 
     fault-rest : rest ≡ lineFault t step set n line
     unfolding failureFault lineFault rest
@@ -124,22 +124,22 @@ module _ (t : Trace) (full : List ℕ) (G : Tabled t full) (step set : ℕ) (n :
         let s : eqb n (t .procs) ≡ false = ne-eqb n (t .procs) (λ q. h (q ∙ sym (ec ∙ procs-is t full G))) in
         (let w : 10 ≡ rest = rw s in w) ∙ fault-rest
 
-    module _ (en : n ≡ count) (epochs numbers : List ℕ) (ee : epochs ≡ wordsFrom (each t (current t past step)) 0 64)
+    module _ (en : n ≡ count) (epochs numbers : List ℕ) (ee : epochs ≡ wordsFrom (each t (current t (ruleOf t) step)) 0 64)
         (ln : (z : ℕ) → z < t .procs → line z ≡ getD numbers z 0) (r : Bool) (er : r ≡ all-below count (mayW set epochs numbers)) where
       n-is : eqb n (t .procs) ≡ true
       n-is = eq-eqb n (t .procs) (en ∙ ec ∙ procs-is t full G)
 
-      epoch-at : (z : ℕ) → z < t .procs → getD epochs z 0 ≡ current t past step z
+      epoch-at : (z : ℕ) → z < t .procs → getD epochs z 0 ≡ current t (ruleOf t) step z
       epoch-at z l =
           let s : ltb (0 + z) (t .procs) ≡ true = lt-ltb (0 + z) (t .procs) (omega arith) in
           let e : 0 + z ≡ z = omega arith in
-          ap (λ (x : List ℕ). getD x z 0) ee ∙ getD-words (each t (current t past step)) 0 64 z (omega (arith, fit t full G .few))
-          ∙ rw s (ap (current t past step) e)
+          ap (λ (x : List ℕ). getD x z 0) ee ∙ getD-words (each t (current t (ruleOf t) step)) 0 64 z (omega (arith, fit t full G .few))
+          ∙ rw s (ap (current t (ruleOf t) step) e)
 
-      permits-is : permits t (reached t past step) (inSet set) line ≡ r
+      permits-is : permits t (usableAt t step) (inSet set) line ≡ r
       unfolding permits
       permits-is =
-          all-same (t .procs) (λ z. may (reached t past step) (inSet set) z (line z)) (mayW set epochs numbers) (λ z l. rw (ln z l, epoch-at z l))
+          all-same (t .procs) (λ z. may (usableAt t step) (inSet set) z (line z)) (mayW set epochs numbers) (λ z l. rw (ln z l, epoch-at z l))
           ∙ ap (λ (c : ℕ). all-below c (mayW set epochs numbers)) (sym (ec ∙ procs-is t full G)) ∙ sym er
 
       pub fault-fit : r ≡ true → 0 ≡ lineFault t step set n line

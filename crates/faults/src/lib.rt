@@ -10,10 +10,11 @@ ghost use Rattle.trace.specs.Trace.{Trace};
 ghost use Rattle.theory.specs.Lists.{all-below};
 ghost use Rattle.theory.specs.Refusals.{failureFault, lineFault};
 ghost use Rattle.theory.specs.Events.{size};
-ghost use Rattle.theory.specs.Epochs.{past};
+ghost use Rattle.theory.specs.Epochs.{past, ruleOf};
 ghost use Rattle.theory.specs.Line.{current};
-ghost use Rattle.recovery_line.specs.Given.{Tabled, each, lineIn};
-ghost use Rattle.faults.specs.Permitted.{Begun, reachedW, mayStayW, mayW};
+ghost use Rattle.columns.specs.Inner.Columns.{Tabled};
+ghost use Rattle.recovery_line.specs.Given.{each, lineIn};
+ghost use Rattle.faults.specs.Inner.Permitted.{Begun, reachedW, mayStayW, mayW};
 use columns::EPOCH_BASE;
 use recovery_line::Line;
 use recovery_line::STAYS;
@@ -34,7 +35,7 @@ fn begin(epochs: &mut [u32], count: usize)
 // The epochs of the processes at the cut.
 fn epochs_at(full: &[u32], cut: usize, epochs: &mut [u32])
     requires { ⌜ (length (now epochs) ≡ 64) × ((t : Trace) × Tabled t (now full) × (cut ≤ size t)) ⌝ }
-    ensures { λ _. ⌜ ((t : Trace) → Tabled t (now (full .entry)) → cut ≤ size t → now (epochs .exit) ≡ wordsFrom (each t (current t past cut)) 0 64) ⌝ }
+    ensures { λ _. ⌜ ((t : Trace) → Tabled t (now (full .entry)) → cut ≤ size t → now (epochs .exit) ≡ wordsFrom (each t (current t (ruleOf t) cut)) 0 64) ⌝ }
 {
     begin(epochs, recovery_line::processes(full));
     let mut e: usize = 0;

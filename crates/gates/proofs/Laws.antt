@@ -9,8 +9,8 @@ use lib.Seq.{getD-set-same, getD-set-other}
 use lib.Dec.{eqb}
 use borrow.Author.Tests.{lt-ltb, le-ltb, eq-eqb, ne-eqb}
 use Rattle.words.proofs.Cases.{by-eq}
-use Rattle.recovery_line.specs.Words.{atW, kindW, epochW, phaseW}
-use Rattle.gates.specs.Restarts.{Planes, staysW, restartW, gateW, Gated}
+use Rattle.columns.specs.Inner.Full.{atW, kindW, epochW, phaseW}
+use Rattle.gates.specs.Inner.Restarts.{Planes, staysW, restartW, gateW, GatesSet}
 
 -- ---- `stays`, `gate`
 
@@ -94,10 +94,10 @@ module _ (full numbers g : List ℕ) (e z : ℕ) (ez : z ≡ atW full e) where
 
 -- ---- `set_gates`
 
-pub gated-none : (g : List ℕ) → Gated 0 g g
+pub gated-none : (g : List ℕ) → GatesSet 0 g g
 gated-none g = record { below = λ z q. absurd (let y : ⊥ = omega arith in y); others = λ k q. refl }
 
-pub gated-next : (g h : List ℕ) (i v : ℕ) → length h ≡ 192 → i < 64 → v ≡ gateW (getD h (128 + i) 0) (getD h i 0) → Gated i g h → Gated (i + 1) g (set h i v)
+pub gated-next : (g h : List ℕ) (i v : ℕ) → length h ≡ 192 → i < 64 → v ≡ gateW (getD h (128 + i) 0) (getD h i 0) → GatesSet i g h → GatesSet (i + 1) g (set h i v)
 gated-next g h i v len l e G = record {
   below = λ z q. by-eq z i
       (λ x. rw x (getD-set-same h i v 0 (omega arith) ∙ e ∙ ap₂ gateW (G .others (128 + i) (omega arith)) (G .others i (omega arith))))

@@ -1,7 +1,7 @@
 -- A pass over the events up to the cut finds where each process restarts and its phase there; and the gates follow.
 use mathlib.Core.Path.{_≡_, refl, sym, _∙_, ap, ap₂, subst}
 use mathlib.Core.Logic.{_≢_}
-use mathlib.Core.Bool.{Bool, true, false, _&&_}
+use mathlib.Core.Bool.{Bool, true, false, _&&_, cond}
 use mathlib.Core.List.{List}
 use Prim.Native.Nat.{ℕ, suc, _+_, _-_, _≤_, _<_}
 use native.Mathlib.Omega.{arith}
@@ -14,37 +14,38 @@ use Rattle.words.specs.Area.{wordsFrom}
 use Rattle.words.proofs.Area.{getD-words, words-ext}
 use Rattle.words.proofs.Cases.{by-eq, by-lt, by-bool}
 use Rattle.trace.specs.Trace.{Trace}
-use Rattle.theory.specs.Lists.{pick, cnt, place}
+use Rattle.theory.specs.Lists.{cnt, place}
 use Rattle.theory.specs.Events.{size, at, checkpoints}
-use Rattle.theory.specs.Epochs.{past, notes, epochAt, phaseAt}
-use Rattle.theory.specs.Line.{staysIn, restartIn, recorded}
+use Rattle.theory.specs.Epochs.{notes, epochAt, phaseAt, ruleOf}
+use Rattle.theory.specs.Line.{staysIn, restartIn, runAt}
 use Rattle.theory.specs.Replay.{gate}
 use Rattle.theory.proofs.Base.{cnt-suc}
 use Rattle.theory.proofs.Events.{checkpoints-is}
 use Rattle.theory.proofs.Epochs.{epoch-is}
-use Rattle.recovery_line.specs.Given.{Tabled, each, restartPhaseIn}
-use Rattle.gates.specs.Gates.{planes, stayWord, restartWord, gateWord}
-use Rattle.recovery_line.specs.Words.{atW, kindW, epochW, phaseW}
-use Rattle.gates.specs.Restarts.{Planes, RestartsBegun, raises, restartW, gateW, Gated}
+use Rattle.columns.specs.Inner.Columns.{Tabled}
+use Rattle.recovery_line.specs.Given.{each, restartPhaseIn}
+use Rattle.gates.specs.Inner.Gates.{planes, stayWord, restartWord, gateWord}
+use Rattle.columns.specs.Inner.Full.{atW, kindW, epochW, phaseW}
+use Rattle.gates.specs.Inner.Restarts.{Planes, RestartsBegun, raises, restartW, gateW, GatesSet}
 use Rattle.recovery_line.proofs.Table.{fit, procs-is, at-is, save-is, else-same}
 
 -- the words after x events
 abbrev pub Restarting : Trace → ℕ → (ℕ → ℕ) → ℕ → List ℕ → Type 0
 Restarting t cut line x g =
-    Planes (each t (λ z. phaseAt t past z (restartIn t x line z))) (each t (λ z. pick (staysIn line z) cut (place (checkpoints t z) (line z - 1) x)))
+    Planes (each t (λ z. phaseAt t (ruleOf t) z (restartIn t x line z))) (each t (λ z. cond (staysIn line z) cut (place (checkpoints t z) (line z - 1) x)))
     (each t (stayWord line)) 64 g
 
-same-each : (t : Trace) (z a b : ℕ) → a ≡ b → pick (ltb z (t .procs)) a 0 ≡ pick (ltb z (t .procs)) b 0
-same-each t z a b e = ap (λ (x : ℕ). pick (ltb z (t .procs)) x 0) e
+same-each : (t : Trace) (z a b : ℕ) → a ≡ b → cond (ltb z (t .procs)) a 0 ≡ cond (ltb z (t .procs)) b 0
+same-each t z a b e = ap (λ (x : ℕ). cond (ltb z (t .procs)) x 0) e
 
 module _ (t : Trace) (full : List ℕ) (G : Tabled t full) (cut : ℕ) (line : ℕ → ℕ) (numbers : List ℕ) (ln : (z : ℕ) → z < t .procs → line z ≡ getD numbers z 0) where
   -- ---- Before the first event
 
-  first-phase : (z : ℕ) → phaseAt t past z (restartIn t 0 line z) ≡ 1
+  first-phase : (z : ℕ) → phaseAt t (ruleOf t) z (restartIn t 0 line z) ≡ 1
   unfolding restartIn place notes
   first-phase z = by-bool (staysIn line z) (λ h. rw h) (λ h. rw h)
 
-  begun-each : (z v : ℕ) → pick (pick (ltb z (t .procs)) (eqb (getD numbers z 0) 32) false) v 0 ≡ each t (λ z. pick (staysIn line z) v 0) z
+  begun-each : (z v : ℕ) → cond (cond (ltb z (t .procs)) (eqb (getD numbers z 0) 32) false) v 0 ≡ each t (λ z. cond (staysIn line z) v 0) z
   begun-each z v =
       by-lt z (t .procs)
       (λ l. let s : ltb z (t .procs) ≡ true = lt-ltb z (t .procs) l in rw (s, ln z l))
@@ -55,9 +56,9 @@ module _ (t : Trace) (full : List ℕ) (G : Tabled t full) (cut : ℕ) (line : �
   restarting-begins count g e P =
       let c : count ≡ t .procs = e ∙ procs-is t full G in
       record {
-        first = λ z l. P .first z l ∙ ap (λ (n : ℕ). pick (ltb z n) 1 0) c ∙ same-each t z 1 (phaseAt t past z (restartIn t 0 line z)) (sym (first-phase z));
-        second = λ z l. P .second z l ∙ ap (λ (n : ℕ). pick (pick (ltb z n) (eqb (getD numbers z 0) 32) false) cut 0) c ∙ begun-each z cut;
-        third = λ z l. P .third z l ∙ ap (λ (n : ℕ). pick (pick (ltb z n) (eqb (getD numbers z 0) 32) false) 1 0) c ∙ begun-each z 1;
+        first = λ z l. P .first z l ∙ ap (λ (n : ℕ). cond (ltb z n) 1 0) c ∙ same-each t z 1 (phaseAt t (ruleOf t) z (restartIn t 0 line z)) (sym (first-phase z));
+        second = λ z l. P .second z l ∙ ap (λ (n : ℕ). cond (cond (ltb z n) (eqb (getD numbers z 0) 32) false) cut 0) c ∙ begun-each z cut;
+        third = λ z l. P .third z l ∙ ap (λ (n : ℕ). cond (cond (ltb z n) (eqb (getD numbers z 0) 32) false) 1 0) c ∙ begun-each z 1;
       }
 
   -- ---- One event more
@@ -70,7 +71,7 @@ module _ (t : Trace) (full : List ℕ) (G : Tabled t full) (cut : ℕ) (line : �
     hits : ℕ → Bool
     hits z = checkpoints t z (suc x) && eqb (cnt (checkpoints t z) (suc x)) (line z - 1)
 
-    place-step : (z : ℕ) → place (checkpoints t z) (line z - 1) (suc x) ≡ pick (hits z) (suc x) (place (checkpoints t z) (line z - 1) x)
+    place-step : (z : ℕ) → place (checkpoints t z) (line z - 1) (suc x) ≡ cond (hits z) (suc x) (place (checkpoints t z) (line z - 1) x)
     unfolding place hits
     place-step z = refl
 
@@ -82,7 +83,7 @@ module _ (t : Trace) (full : List ℕ) (G : Tabled t full) (cut : ℕ) (line : �
     unfolding restartIn
     stay-now z h = rw h
 
-    back-step : (z : ℕ) → staysIn line z ≡ false → restartIn t (suc x) line z ≡ pick (hits z) (suc x) (restartIn t x line z)
+    back-step : (z : ℕ) → staysIn line z ≡ false → restartIn t (suc x) line z ≡ cond (hits z) (suc x) (restartIn t x line z)
     unfolding restartIn
     back-step z h = rw h (place-step z)
 
@@ -95,11 +96,11 @@ module _ (t : Trace) (full : List ℕ) (G : Tabled t full) (cut : ℕ) (line : �
       else-place : place (checkpoints t z) (line z - 1) (suc x) ≡ place (checkpoints t z) (line z - 1) x
       else-place = place-step z ∙ rw no-hit
 
-      else-phase : phaseAt t past z (restartIn t (suc x) line z) ≡ phaseAt t past z (restartIn t x line z)
+      else-phase : phaseAt t (ruleOf t) z (restartIn t (suc x) line z) ≡ phaseAt t (ruleOf t) z (restartIn t x line z)
       else-phase =
           by-bool (staysIn line z)
-          (λ h. ap (phaseAt t past z) (stay-step z h) ∙ (else-same t x z n) .1 ∙ ap (phaseAt t past z) (sym (stay-now z h)))
-          (λ h. ap (phaseAt t past z) (back-step z h ∙ rw no-hit))
+          (λ h. ap (phaseAt t (ruleOf t) z) (stay-step z h) ∙ (else-same t x z n) .1 ∙ ap (phaseAt t (ruleOf t) z) (sym (stay-now z h)))
+          (λ h. ap (phaseAt t (ruleOf t) z) (back-step z h ∙ rw no-hit))
 
     -- its own
     abbrev y : ℕ
@@ -114,11 +115,11 @@ module _ (t : Trace) (full : List ℕ) (G : Tabled t full) (cut : ℕ) (line : �
     y-few : y < 64
     y-few = omega (arith, y-in, fit t full G .few)
 
-    phase-is : phaseW full (suc x) ≡ phaseAt t past y (suc x)
-    phase-is = G .columns .phase (suc x) (omega arith) b ∙ ap (λ (z : ℕ). phaseAt t past z (suc x)) (sym y-is)
+    phase-is : phaseW full (suc x) ≡ phaseAt t (ruleOf t) y (suc x)
+    phase-is = G .columns .phase (suc x) (omega arith) b ∙ ap (λ (z : ℕ). phaseAt t (ruleOf t) z (suc x)) (sym y-is)
 
     epoch-at : epochW full (suc x) ≡ suc (cnt (checkpoints t y) (suc x))
-    epoch-at = G .columns .epoch (suc x) (omega arith) b ∙ ap (λ (z : ℕ). epochAt t past z (suc x)) (sym y-is) ∙ epoch-is t past (suc x) y
+    epoch-at = G .columns .epoch (suc x) (omega arith) b ∙ ap (λ (z : ℕ). epochAt t (ruleOf t) z (suc x)) (sym y-is) ∙ epoch-is t (ruleOf t) (suc x) y
 
     one-less : (c n : ℕ) → 1 ≤ c → eqb (suc c) n ≡ eqb c (n - 1)
     one-less c n h =
@@ -138,29 +139,29 @@ module _ (t : Trace) (full : List ℕ) (G : Tabled t full) (cut : ℕ) (line : �
         rw (k, c, i))
         (λ c. rw (k, c))
 
-    here-each : (v w : ℕ) → v ≡ w → v ≡ pick (ltb y (t .procs)) w 0
+    here-each : (v w : ℕ) → v ≡ w → v ≡ cond (ltb y (t .procs)) w 0
     here-each v w q = let s : ltb y (t .procs) ≡ true = lt-ltb y (t .procs) y-in in rw s q
 
     module _ (g : List ℕ) (len : length g ≡ 192) (P : Restarting t cut line x g) where
-      else-first : (z : ℕ) → z < 64 → z ≢ y → getD g z 0 ≡ each t (λ z. phaseAt t past z (restartIn t (suc x) line z)) z
+      else-first : (z : ℕ) → z < 64 → z ≢ y → getD g z 0 ≡ each t (λ z. phaseAt t (ruleOf t) z (restartIn t (suc x) line z)) z
       else-first z l n =
           P .first z l
-          ∙ same-each t z (phaseAt t past z (restartIn t x line z)) (phaseAt t past z (restartIn t (suc x) line z)) (sym (else-phase z (λ i. n (i ∙ sym y-is))))
+          ∙ same-each t z (phaseAt t (ruleOf t) z (restartIn t x line z)) (phaseAt t (ruleOf t) z (restartIn t (suc x) line z)) (sym (else-phase z (λ i. n (i ∙ sym y-is))))
 
       abbrev Second : ℕ → ℕ → ℕ
-      Second w z = pick (staysIn line z) cut (place (checkpoints t z) (line z - 1) w)
+      Second w z = cond (staysIn line z) cut (place (checkpoints t z) (line z - 1) w)
 
       else-second : (z : ℕ) → z < 64 → z ≢ y → getD g (64 + z) 0 ≡ each t (Second (suc x)) z
       else-second z l n =
           P .second z l
-          ∙ same-each t z (Second x z) (Second (suc x) z) (ap (λ (w : ℕ). pick (staysIn line z) cut w) (sym (else-place z (λ i. n (i ∙ sym y-is)))))
+          ∙ same-each t z (Second x z) (Second (suc x) z) (ap (λ (w : ℕ). cond (staysIn line z) cut w) (sym (else-place z (λ i. n (i ∙ sym y-is)))))
 
       -- a process that stays
       noted-stay : staysIn line y ≡ true → Restarting t cut line (suc x) (set g y (phaseW full (suc x)))
       noted-stay h = record {
         first = λ z l. by-eq z y
             (λ i. rw i (getD-set-same g y (phaseW full (suc x)) 0 (omega (arith, len, y-few))
-            ∙ here-each (phaseW full (suc x)) (phaseAt t past y (restartIn t (suc x) line y)) (phase-is ∙ ap (phaseAt t past y) (sym (stay-step y h)))))
+            ∙ here-each (phaseW full (suc x)) (phaseAt t (ruleOf t) y (restartIn t (suc x) line y)) (phase-is ∙ ap (phaseAt t (ruleOf t) y) (sym (stay-step y h)))))
             (λ n. getD-set-other g y z (phaseW full (suc x)) 0 n ∙ else-first z l n);
         second = λ z l. getD-set-other g y (64 + z) (phaseW full (suc x)) 0 (λ i. omega (arith, y-few))
             ∙ by-eq z y
@@ -178,7 +179,7 @@ module _ (t : Trace) (full : List ℕ) (G : Tabled t full) (cut : ℕ) (line : �
             first = λ z l. getD-set-other (set g y f) (64 + y) z (suc x) 0 (λ i. omega arith)
                 ∙ by-eq z y
                 (λ i. rw i (getD-set-same g y f 0 (omega (arith, len, y-few))
-                ∙ here-each f (phaseAt t past y (restartIn t (suc x) line y)) (phase-is ∙ ap (phaseAt t past y) (sym (back-step y h ∙ rw k)))))
+                ∙ here-each f (phaseAt t (ruleOf t) y (restartIn t (suc x) line y)) (phase-is ∙ ap (phaseAt t (ruleOf t) y) (sym (back-step y h ∙ rw k)))))
                 (λ n. getD-set-other g y z f 0 n ∙ else-first z l n);
             second = λ z l. by-eq z y
                 (λ i. rw i (getD-set-same (set g y f) (64 + y) (suc x) 0 (omega (arith, len2, y-few))
@@ -193,8 +194,8 @@ module _ (t : Trace) (full : List ℕ) (G : Tabled t full) (cut : ℕ) (line : �
       noted-none : staysIn line y ≡ false → hits y ≡ false → Restarting t cut line (suc x) g
       noted-none h k = record {
         first = λ z l. by-eq z y
-            (λ i. P .first z l ∙ same-each t z (phaseAt t past z (restartIn t x line z)) (phaseAt t past z (restartIn t (suc x) line z))
-            (rw i (ap (phaseAt t past y) (sym (back-step y h ∙ rw k)))))
+            (λ i. P .first z l ∙ same-each t z (phaseAt t (ruleOf t) z (restartIn t x line z)) (phaseAt t (ruleOf t) z (restartIn t (suc x) line z))
+            (rw i (ap (phaseAt t (ruleOf t) y) (sym (back-step y h ∙ rw k)))))
             (λ n. else-first z l n);
         second = λ z l. by-eq z y
             (λ i. P .second z l ∙ same-each t z (Second x z) (Second (suc x) z) (rw i (rw (h, place-step y, k))))
@@ -234,20 +235,20 @@ planes-list a b c g len P =
 restarting-ends : (t : Trace) (cut : ℕ) (line : ℕ → ℕ) (g : List ℕ) → length g ≡ 192 → Restarting t cut line cut g → g ≡ wordsFrom (restartWord t cut line) 0 192
 restarting-ends t cut line g len P =
     planes-list (each t (restartPhaseIn t cut line)) (each t (restartIn t cut line)) (each t (stayWord line)) g len
-    (record { first = P .first; second = λ z l. P .second z l ∙ same-each t z (pick (staysIn line z) cut (place (checkpoints t z) (line z - 1) cut)) (restartIn t cut line z) (found z); third = P .third })
+    (record { first = P .first; second = λ z l. P .second z l ∙ same-each t z (cond (staysIn line z) cut (place (checkpoints t z) (line z - 1) cut)) (restartIn t cut line z) (found z); third = P .third })
   where
-    found : (z : ℕ) → pick (staysIn line z) cut (place (checkpoints t z) (line z - 1) cut) ≡ restartIn t cut line z
+    found : (z : ℕ) → cond (staysIn line z) cut (place (checkpoints t z) (line z - 1) cut) ≡ restartIn t cut line z
     found z = unfold restartIn in refl
 
 -- ---- `gates`: h is g with its phases turned into gates
 
 gate-is : (t : Trace) (cut : ℕ) (line : ℕ → ℕ) (z : ℕ)
-    → gateW (stayWord line z) (restartPhaseIn t cut line z) ≡ gate (recorded t past cut line) z
+    → gateW (stayWord line z) (restartPhaseIn t cut line z) ≡ gate (runAt t cut line) z
 unfolding gate
 gate-is t cut line z = by-bool (staysIn line z) (λ h. rw h) (λ h. rw h)
 
 module _ (t : Trace) (full : List ℕ) (G : Tabled t full) (cut count : ℕ) (line : ℕ → ℕ) (g h : List ℕ) (ec : count ≡ getD full 0 0) (len : length h ≡ 192)
-    (eg : g ≡ wordsFrom (restartWord t cut line) 0 192) (D : Gated count g h) where
+    (eg : g ≡ wordsFrom (restartWord t cut line) 0 192) (D : GatesSet count g h) where
   c-is : count ≡ t .procs
   c-is = ec ∙ procs-is t full G
 
@@ -264,7 +265,7 @@ module _ (t : Trace) (full : List ℕ) (G : Tabled t full) (cut count : ℕ) (li
       let e : 128 + z - 128 ≡ z = omega arith in
       g-at (128 + z) (omega arith) ∙ rw (s, r, e)
 
-  gated-first : (z : ℕ) → z < 64 → getD h z 0 ≡ each t (gate (recorded t past cut line)) z
+  gated-first : (z : ℕ) → z < 64 → getD h z 0 ≡ each t (gate (runAt t cut line)) z
   gated-first z l =
       by-lt z (t .procs)
       (λ b. let s : ltb z (t .procs) ≡ true = lt-ltb z (t .procs) b in

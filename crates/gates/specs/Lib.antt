@@ -1,2 +1,2 @@
-pub mod Gates
-pub mod Restarts
+-- internal: no contract of a function that users call reaches these
+pub mod Inner

@@ -6,9 +6,10 @@ ghost use lib.ListN.{length};
 ghost use Rattle.words.specs.Area.{areaWords, wordsFrom};
 ghost use Rattle.trace.specs.Trace.{Trace};
 ghost use Rattle.theory.specs.Events.{size};
-ghost use Rattle.recovery_line.specs.Given.{Tabled, lineIn};
-ghost use Rattle.gates.specs.Gates.{restartWord, gateWord};
-ghost use Rattle.gates.specs.Restarts.{staysW, RestartsBegun, restartW, gateW, Gated};
+ghost use Rattle.columns.specs.Inner.Columns.{Tabled};
+ghost use Rattle.recovery_line.specs.Given.{lineIn};
+ghost use Rattle.gates.specs.Inner.Gates.{restartWord, gateWord};
+ghost use Rattle.gates.specs.Inner.Restarts.{staysW, RestartsBegun, restartW, gateW, GatesSet};
 use columns::EPOCH_BASE;
 use columns::PHASE_BASE;
 use recovery_line::Line;
@@ -101,7 +102,7 @@ fn gate(stay: u32, phase: u32) -> u32
 
 fn set_gates(gates: &mut [u32], count: usize)
     requires { ⌜ (length (now gates) ≡ 192) × (count ≤ 64) ⌝ }
-    ensures { λ _. ⌜ Gated count (now (gates .entry)) (now (gates .exit)) ⌝ }
+    ensures { λ _. ⌜ GatesSet count (now (gates .entry)) (now (gates .exit)) ⌝ }
 {
     let mut z: usize = 0;
     while z < count {

@@ -11,13 +11,15 @@ use borrow.Author.Tests.{lt-ltb, le-ltb}
 use Rattle.words.proofs.Area.{getD-words}
 use Rattle.trace.specs.Trace.{Trace}
 use Rattle.theory.specs.Events.{size}
-use Rattle.theory.specs.Epochs.{past}
-use Rattle.theory.specs.Line.{inSet, current, reached, Greatest}
-use Rattle.theory.specs.Refusals.{FitFailure, lineFault}
+use Rattle.theory.specs.Epochs.{ruleOf}
+use Rattle.theory.specs.Line.{inSet, current, Greatest, usableAt}
+use Rattle.theory.specs.Inner.Refusals.{FitFailure}
+use Rattle.theory.specs.Refusals.{lineFault}
 use Rattle.theory.proofs.Claims.{floor-failed}
 use Rattle.theory.proofs.Refusals.{line-fit}
 use Rattle.recovery_line.specs.declared.Line.{Line}
-use Rattle.recovery_line.specs.Given.{Tabled, each, lineIn, lineTo}
+use Rattle.columns.specs.Inner.Columns.{Tabled}
+use Rattle.recovery_line.specs.Given.{each, lineIn, lineTo}
 use Rattle.recovery_line.proofs.Table.{fit}
 
 module _ (t : Trace) (full : List ℕ) (G : Tabled t full) where
@@ -36,10 +38,10 @@ module _ (t : Trace) (full : List ℕ) (G : Tabled t full) where
         let e : 0 + z ≡ z = omega arith in
         getD-words (each t f) 0 64 z l ∙ ap (each t f) e ∙ rw s
 
-  module _ (cut failed : ℕ) (cl : cut ≤ size t) (l : Line) (g : Greatest t past cut (reached t past cut) (inSet failed) (lineIn l)) where
+  module _ (cut failed : ℕ) (cl : cut ≤ size t) (l : Line) (g : Greatest t (ruleOf t) cut (usableAt t cut) (inSet failed) (lineIn l)) where
     -- "No zone in it restarts in an epoch below the smallest current epoch of a failed zone."
     pub none-below-floor : (y : ℕ) → y < t .procs → inSet failed y ≡ true
-        → ((z : ℕ) → z < t .procs → inSet failed z ≡ true → current t past cut y ≤ current t past cut z) → (z : ℕ) → z < t .procs → current t past cut y ≤ lineIn l z
+        → ((z : ℕ) → z < t .procs → inSet failed z ≡ true → current t (ruleOf t) cut y ≤ current t (ruleOf t) cut z) → (z : ℕ) → z < t .procs → current t (ruleOf t) cut y ≤ lineIn l z
     none-below-floor y a b c z h = floor-failed t (G .formed) cut cl (inSet failed) y a b c (lineIn l) g z h
 
     -- the engine's line is one that the engine takes

@@ -1,7 +1,7 @@
 -- The words of a line, lowered at one event after another, become the greatest line without a lost message:
 -- `greatest-words`.
 use mathlib.Core.Path.{_≡_, refl, sym, _∙_, ap, subst, fun-ext}
-use mathlib.Core.Bool.{Bool, true, false, _&&_, not}
+use mathlib.Core.Bool.{Bool, true, false, _&&_, not, cond}
 use mathlib.Core.List.{List}
 use Prim.Native.Nat.{ℕ, _+_, _≤_, _<_}
 use native.Mathlib.Omega.{arith}
@@ -13,10 +13,11 @@ use Rattle.words.specs.Area.{wordsFrom}
 use Rattle.words.proofs.Area.{length-words, getD-words, words-ext}
 use Rattle.words.proofs.Cases.{by-bool, by-lt, clash, and-left, and-right}
 use Rattle.trace.specs.Trace.{Trace}
-use Rattle.theory.specs.Lists.{pick, lastOf}
+use Rattle.theory.specs.Lists.{lastOf}
 use Rattle.theory.specs.Events.{size, at, sends, recvs, sent, rcvd, sendOf}
-use Rattle.theory.specs.Epochs.{past, epochAt, epochOf, loggedBy}
-use Rattle.theory.specs.Line.{inSet, lost, LossFree, recorded, current, reached, Usable, Greatest, Above, lower, highest, greatestLine}
+use Rattle.theory.specs.Epochs.{epochAt, epochOf, loggedBy, ruleOf}
+use Rattle.theory.specs.Line.{inSet, lost, LossFree, current, Greatest, lower, highest, greatestLine, usableAt, runAt, engineLine}
+use Rattle.theory.specs.Inner.Lines.{Usable, Above}
 use Rattle.theory.specs.Answers.{lineOf}
 use Rattle.theory.proofs.Base.{lastOf-le, lastOf-top}
 use Rattle.theory.proofs.Events.{sends-is, recvs-is, partner, sendOf-at}
@@ -24,10 +25,11 @@ use Rattle.theory.proofs.Epochs.{epochOf-at, logged-is}
 use Rattle.theory.proofs.Lines.{Number, ByEpochs, epoch-le, number-of, lost-in, lost-epochs, epochs-lost, past-unlogged}
 use Rattle.theory.proofs.Claims.{epoch-counts, reached-usable, lowering-begins, lowering-goes-on, lowering-ends, greatest-line, greatest-only}
 use Rattle.recovery_line.specs.declared.Line.{Line}
-use Rattle.recovery_line.specs.Given.{Tabled, each, lineIn, lineTo}
-use Rattle.recovery_line.specs.Words.{atW, peerW, kindW, epochW, matchW}
-use Rattle.lowering.specs.Lowering.{lostE, lostW, lowerAt, Lowers, Rising, Lowered}
-use Rattle.lowering.specs.Lowering.Lowers.{same, more}
+use Rattle.columns.specs.Inner.Columns.{Tabled}
+use Rattle.recovery_line.specs.Given.{each, lineIn, lineTo}
+use Rattle.columns.specs.Inner.Full.{atW, peerW, kindW, epochW, matchW}
+use Rattle.lowering.specs.Inner.Lowering.{lostE, lostW, lowerAt, Lowers, Rising, Lowered}
+use Rattle.lowering.specs.Inner.Lowering.Lowers.{same, more}
 use Rattle.recovery_line.proofs.Table.{fit, procs-is, at-is, kind-receive, receive-kind}
 use Rattle.lowering.proofs.Worklist.{length-lower}
 
@@ -61,15 +63,15 @@ module _ (t : Trace) (full : List ℕ) (G : Tabled t full) (cut : ℕ) (cl : cut
     receiver-in : q < t .procs
     receiver-in = omega (arith, e-at, fit t full G .process-lt e a (omega arith))
 
-    sent-epoch : epochW full (matchW full e) ≡ epochAt t past p (X .0)
+    sent-epoch : epochW full (matchW full e) ≡ epochAt t (ruleOf t) p (X .0)
     sent-epoch =
-        ap (λ (x : ℕ). epochW full x) match-is ∙ G .columns .epoch (X .0) (X .1) d-in ∙ ap (λ (z : ℕ). epochAt t past z (X .0)) d-at
+        ap (λ (x : ℕ). epochW full x) match-is ∙ G .columns .epoch (X .0) (X .1) d-in ∙ ap (λ (z : ℕ). epochAt t (ruleOf t) z (X .0)) d-at
 
-    taken-epoch : epochW full e ≡ epochAt t past q e
-    taken-epoch = G .columns .epoch e a (omega arith) ∙ ap (λ (z : ℕ). epochAt t past z e) e-at
+    taken-epoch : epochW full e ≡ epochAt t (ruleOf t) q e
+    taken-epoch = G .columns .epoch e a (omega arith) ∙ ap (λ (z : ℕ). epochAt t (ruleOf t) z e) e-at
 
     -- lost by the words is lost by the epochs
-    by-words : (m : List ℕ) → lostE full m p q (matchW full e) e ≡ true → ByEpochs t past cut (lineOf m) p q (rcvd t p q e)
+    by-words : (m : List ℕ) → lostE full m p q (matchW full e) e ≡ true → ByEpochs t (ruleOf t) cut (lineOf m) p q (rcvd t p q e)
     unfolding lostE
     by-words m h =
         let u = leb (getD m q 0) (epochW full e) in
@@ -78,8 +80,8 @@ module _ (t : Trace) (full : List ℕ) (G : Tabled t full) (cut : ℕ) (cl : cut
         let h1 : u ≡ true = and-left u (v && not w) h in
         let h2 : v ≡ true = and-left v (not w) (and-right u (v && not w) h) in
         let h3 : w ≡ false = not-true w (and-right v (not w) (and-right u (v && not w) h)) in
-        let lg : loggedBy t past p q (sent t p q (X .0)) ≡ false =
-        logged-is t past p q (X .0) e (X .3) r (X .1) a d-in (omega arith) (X .4) ∙ rw (sent-epoch, taken-epoch) at h3 in
+        let lg : loggedBy t (ruleOf t) p q (sent t p q (X .0)) ≡ false =
+        logged-is t (ruleOf t) p q (X .0) e (X .3) r (X .1) a d-in (omega arith) (X .4) ∙ rw (sent-epoch, taken-epoch) at h3 in
         record {
           d = X .0;
           e = e;
@@ -97,7 +99,7 @@ module _ (t : Trace) (full : List ℕ) (G : Tabled t full) (cut : ℕ) (cl : cut
         }
 
   -- and the other way round
-  by-epochs : (m : List ℕ) (p q k : ℕ) (x : ByEpochs t past cut (lineOf m) p q k) → lostE full m p q (matchW full (x .e)) (x .e) ≡ true
+  by-epochs : (m : List ℕ) (p q k : ℕ) (x : ByEpochs t (ruleOf t) cut (lineOf m) p q k) → lostE full m p q (matchW full (x .e)) (x .e) ≡ true
   unfolding lostE
   by-epochs m p q k x =
       let e = x .e in
@@ -106,8 +108,8 @@ module _ (t : Trace) (full : List ℕ) (G : Tabled t full) (cut : ℕ) (cl : cut
       sym (sendOf-at t p q (y .0) (y .3) (y .1) (omega (arith, y .2, x .e-cut)))
       ∙ ap (sendOf t p q) (y .4 ∙ x .e-is ∙ sym (x .d-is))
       ∙ sendOf-at t p q (x .d) (x .d-send) (x .d-pos) (omega (arith, x .d-cut)) in
-      let s : epochW full (matchW full e) ≡ epochAt t past p (x .d) =
-      sent-epoch e p q (x .e-pos) (x .e-cut) (x .e-recv) ∙ ap (λ (w : ℕ). epochAt t past p w) same in
+      let s : epochW full (matchW full e) ≡ epochAt t (ruleOf t) p (x .d) =
+      sent-epoch e p q (x .e-pos) (x .e-cut) (x .e-recv) ∙ ap (λ (w : ℕ). epochAt t (ruleOf t) p w) same in
       let r = taken-epoch e p q (x .e-pos) (x .e-cut) (x .e-recv) in
       let n = past-unlogged t (fit t full G) cut cl (lineOf m) p q k x in
       let h1 : leb (getD m q 0) (epochW full e) ≡ true = le-leb (getD m q 0) (epochW full e) (omega (arith, r, x .above)) in
@@ -120,25 +122,25 @@ module _ (t : Trace) (full : List ℕ) (G : Tabled t full) (cut : ℕ) (cl : cut
   rising x y a l b i =
       let z = at t y in
       let j : at t x ≡ z = sym (at-is t full G x a (omega arith)) ∙ i ∙ at-is t full G y (omega arith) (omega arith) in
-      let ex : epochW full x ≡ epochAt t past z x = G .columns .epoch x a (omega arith) ∙ ap (λ (w : ℕ). epochAt t past w x) j in
-      omega (arith, ex, G .columns .epoch y (omega arith) (omega arith), epoch-le t past (fit t full G) y (omega arith) z x l)
+      let ex : epochW full x ≡ epochAt t (ruleOf t) z x = G .columns .epoch x a (omega arith) ∙ ap (λ (w : ℕ). epochAt t (ruleOf t) w x) j in
+      omega (arith, ex, G .columns .epoch y (omega arith) (omega arith), epoch-le t (ruleOf t) (fit t full G) y (omega arith) z x l)
 
   -- ---- Lowering
 
-  abbrev U : Usable t past cut (reached t past cut)
-  U = reached-usable t (G .formed) past cut cl
+  abbrev U : Usable t (ruleOf t) cut (usableAt t cut)
+  U = reached-usable t (G .formed) (ruleOf t) cut cl
 
   -- the last epoch reached that is not above a reached one is that one
-  pub last-reached : (p x : ℕ) → 1 ≤ x → x ≤ current t past cut p → lastOf (reached t past cut p) x ≡ x
+  pub last-reached : (p x : ℕ) → 1 ≤ x → x ≤ current t (ruleOf t) cut p → lastOf (usableAt t cut p) x ≡ x
   last-reached p x a b =
       let h1 : leb 1 x ≡ true = le-leb 1 x a in
-      let h2 : leb x (current t past cut p) ≡ true = le-leb x (current t past cut p) b in
-      let h : reached t past cut p x ≡ true = rw (h1, h2) in
-      omega (arith, lastOf-le (reached t past cut p) x, (lastOf-top (reached t past cut p) x x h a (omega arith)) .0)
+      let h2 : leb x (current t (ruleOf t) cut p) ≡ true = le-leb x (current t (ruleOf t) cut p) b in
+      let h : usableAt t cut p x ≡ true = rw (h1, h2) in
+      omega (arith, lastOf-le (usableAt t cut p) x, (lastOf-top (usableAt t cut p) x x h a (omega arith)) .0)
 
   module _ (failed : ℕ → Bool) where
     abbrev Over : (ℕ → ℕ) → Type 0
-    Over l = Above t past cut (reached t past cut) failed l
+    Over l = Above t (ruleOf t) cut (usableAt t cut) failed l
 
     above-same : (f g : ℕ → ℕ) → ((z : ℕ) → z < t .procs → f z ≡ g z) → Over f → Over g
     above-same f g h a = record {
@@ -146,34 +148,34 @@ module _ (t : Trace) (full : List ℕ) (G : Tabled t full) (cut : ℕ) (cl : cut
       top = λ m b n z l. rw (← h z l) (a .top m b n z l);
     }
 
-    number : (m : List ℕ) → Over (lineOf m) → (z : ℕ) → z < t .procs → Number t past cut z (getD m z 0)
-    number m v z l = number-of t past (fit t full G) cut cl (reached t past cut) U failed (lineOf m) (v .permitted) z l
+    number : (m : List ℕ) → Over (lineOf m) → (z : ℕ) → z < t .procs → Number t (ruleOf t) cut z (getD m z 0)
+    number m v z l = number-of t (ruleOf t) (fit t full G) cut cl (usableAt t cut) U failed (lineOf m) (v .permitted) z l
 
     module _ (m : List ℕ) (e p q : ℕ) (v : Over (lineOf m)) (len : length m ≡ 64) (a : 0 < e) (b : e ≤ cut) (r : recvs t p q e ≡ true)
         (h : lostE full m p q (matchW full e) e ≡ true) where
-      low-by : ByEpochs t past cut (lineOf m) p q (rcvd t p q e)
+      low-by : ByEpochs t (ruleOf t) cut (lineOf m) p q (rcvd t p q e)
       low-by = by-words e p q a b r m h
 
-      low-lost : lost (recorded t past cut (lineOf m)) p q (rcvd t p q e) ≡ true
+      low-lost : lost (runAt t cut (lineOf m)) p q (rcvd t p q e) ≡ true
       low-lost =
-          epochs-lost t past (fit t full G) cut cl (lineOf m) p q (rcvd t p q e)
+          epochs-lost t (ruleOf t) (fit t full G) cut cl (lineOf m) p q (rcvd t p q e)
           (number m v p (sender-in e p q a b r)) (number m v q (receiver-in e p q a b r)) low-by
 
-      low-to : lastOf (reached t past cut p) (epochOf t past p q (rcvd t p q e)) ≡ epochW full (matchW full e)
+      low-to : lastOf (usableAt t cut p) (epochOf t (ruleOf t) p q (rcvd t p q e)) ≡ epochW full (matchW full e)
       low-to =
           let x = X e p q a b r in
-          let i : epochOf t past p q (rcvd t p q e) ≡ epochAt t past p (x .0) =
-          ap (epochOf t past p q) (sym (x .4)) ∙ epochOf-at t past p q (x .0) (x .3) (x .1) (d-in e p q a b r) in
-          let c = epoch-counts t (G .formed) past p (x .0) in
-          ap (λ (y : ℕ). lastOf (reached t past cut p) y) i
-          ∙ last-reached p (epochAt t past p (x .0)) (omega (arith, c)) (epoch-le t past (fit t full G) cut cl p (x .0) (omega (arith, x .2)))
+          let i : epochOf t (ruleOf t) p q (rcvd t p q e) ≡ epochAt t (ruleOf t) p (x .0) =
+          ap (epochOf t (ruleOf t) p q) (sym (x .4)) ∙ epochOf-at t (ruleOf t) p q (x .0) (x .3) (x .1) (d-in e p q a b r) in
+          let c = epoch-counts t (G .formed) (ruleOf t) p (x .0) in
+          ap (λ (y : ℕ). lastOf (usableAt t cut p) y) i
+          ∙ last-reached p (epochAt t (ruleOf t) p (x .0)) (omega (arith, c)) (epoch-le t (ruleOf t) (fit t full G) cut cl p (x .0) (omega (arith, x .2)))
           ∙ sym (sent-epoch e p q a b r)
 
       pub low-above : Over (lineOf (set m p (epochW full (matchW full e))))
       low-above =
-          let w = lowering-goes-on t (G .formed) past cut cl (reached t past cut) U failed (lineOf m) v p q (rcvd t p q e) low-lost in
+          let w = lowering-goes-on t (G .formed) (ruleOf t) cut cl (usableAt t cut) U failed (lineOf m) v p q (rcvd t p q e) low-lost in
           let s = sender-in e p q a b r in
-          above-same (lower t past cut (reached t past cut) (lineOf m) p q (rcvd t p q e)) (lineOf (set m p (epochW full (matchW full e))))
+          above-same (lower t (ruleOf t) cut (usableAt t cut) (lineOf m) p q (rcvd t p q e)) (lineOf (set m p (epochW full (matchW full e))))
           (λ z l. by-bool (eqb z p)
           (λ y. let i : z ≡ p = eqb-true z p y in
           rw (y, i, getD-set-same m p (epochW full (matchW full e)) 0 (omega (arith, len, fit t full G .few))) low-to)
@@ -205,14 +207,14 @@ module _ (t : Trace) (full : List ℕ) (G : Tabled t full) (cut : ℕ) (cl : cut
         (w .0, λ z l. w .1 z l ∙ ih .1 z l, length-lower full x e ∙ ih .2)
 
     -- no event up to the cut receives a lost message: none is lost
-    none-lost : (m : List ℕ) → Over (lineOf m) → ((e : ℕ) → 0 < e → e ≤ cut → lostW full m e ≡ false) → LossFree (recorded t past cut (lineOf m))
+    none-lost : (m : List ℕ) → Over (lineOf m) → ((e : ℕ) → 0 < e → e ≤ cut → lostW full m e ≡ false) → LossFree (runAt t cut (lineOf m))
     unfolding lostW
-    none-lost m v f p q k = by-bool (lost (recorded t past cut (lineOf m)) p q k)
+    none-lost m v f p q k = by-bool (lost (runAt t cut (lineOf m)) p q k)
         (λ h.
-        let i = lost-in t past (fit t full G) cut cl (lineOf m) p q k h in
-        let x = lost-epochs t past (fit t full G) cut cl (lineOf m) p q k (number m v p (i .0)) (number m v q (i .1)) h in
+        let i = lost-in t (ruleOf t) (fit t full G) cut cl (lineOf m) p q k h in
+        let x = lost-epochs t (ruleOf t) (fit t full G) cut cl (lineOf m) p q k (number m v p (i .0)) (number m v q (i .1)) h in
         let w = receive-kind t full G (x .e) (x .e-pos) (omega (arith, x .e-cut)) p q (x .e-recv) in
-        let n : pick (eqb (kindW full (x .e)) 2) (lostE full m (peerW full (x .e)) (atW full (x .e)) (matchW full (x .e)) (x .e)) false ≡ false =
+        let n : cond (eqb (kindW full (x .e)) 2) (lostE full m (peerW full (x .e)) (atW full (x .e)) (matchW full (x .e)) (x .e)) false ≡ false =
         f (x .e) (x .e-pos) (x .e-cut) in
         let g : lostE full m p q (matchW full (x .e)) (x .e) ≡ false = rw (eq-eqb (kindW full (x .e)) 2 (w .0), w .1, w .2) at n in
         clash (by-epochs m p q k x) g)
@@ -221,47 +223,47 @@ module _ (t : Trace) (full : List ℕ) (G : Tabled t full) (cut : ℕ) (cl : cut
     -- ---- The whole
 
     -- the first line: "Failed zones may not stay", all others do
-    first-above : (m : List ℕ) → ((z : ℕ) → z < t .procs → getD m z 0 ≡ pick (failed z) (current t past cut z) 32) → Over (lineOf m)
+    first-above : (m : List ℕ) → ((z : ℕ) → z < t .procs → getD m z 0 ≡ cond (failed z) (current t (ruleOf t) cut z) 32) → Over (lineOf m)
     unfolding highest
     first-above m f =
-        above-same (highest t past cut (reached t past cut) failed) (lineOf m)
-        (λ z l. let c = epoch-counts t (G .formed) past z cut in
-        ap (λ (y : ℕ). pick (failed z) y 32) (last-reached z (current t past cut z) (omega (arith, c)) (omega arith)) ∙ sym (f z l))
-        (lowering-begins t (G .formed) past cut cl (reached t past cut) U failed)
+        above-same (highest t (ruleOf t) cut (usableAt t cut) failed) (lineOf m)
+        (λ z l. let c = epoch-counts t (G .formed) (ruleOf t) z cut in
+        ap (λ (y : ℕ). cond (failed z) y 32) (last-reached z (current t (ruleOf t) cut z) (omega (arith, c)) (omega arith)) ∙ sym (f z l))
+        (lowering-begins t (G .formed) (ruleOf t) cut cl (usableAt t cut) U failed)
 
-    module _ (m r : List ℕ) (len : length m ≡ 64) (f : (z : ℕ) → z < t .procs → getD m z 0 ≡ pick (failed z) (current t past cut z) 32)
+    module _ (m r : List ℕ) (len : length m ≡ 64) (f : (z : ℕ) → z < t .procs → getD m z 0 ≡ cond (failed z) (current t (ruleOf t) cut z) 32)
         (past-zero : (z : ℕ) → t .procs ≤ z → getD m z 0 ≡ 0) (L : Lowered full cut m r) where
       all : Over (lineOf r) × ((z : ℕ) → t .procs ≤ z → getD r z 0 ≡ getD m z 0) × (length r ≡ 64)
       all = lowers-above m r (L .steps) len (first-above m f)
 
-      greatest-words : Greatest t past cut (reached t past cut) failed (lineOf r)
-      greatest-words = lowering-ends t (G .formed) past cut cl (reached t past cut) U failed (lineOf r) (all .0) (none-lost r (all .0) (L .none-lost rising))
+      greatest-words : Greatest t (ruleOf t) cut (usableAt t cut) failed (lineOf r)
+      greatest-words = lowering-ends t (G .formed) (ruleOf t) cut cl (usableAt t cut) U failed (lineOf r) (all .0) (none-lost r (all .0) (L .none-lost rising))
 
       -- the words are those of the theory's line
-      pub greatest-list : r ≡ wordsFrom (each t (greatestLine t past cut (reached t past cut) failed)) 0 64
+      pub greatest-list : r ≡ wordsFrom (each t (greatestLine t (ruleOf t) cut (usableAt t cut) failed)) 0 64
       greatest-list =
-          words-ext (each t (greatestLine t past cut (reached t past cut) failed)) 64 r (all .2)
+          words-ext (each t (greatestLine t (ruleOf t) cut (usableAt t cut) failed)) 64 r (all .2)
           (λ z h. by-lt z (t .procs)
-          (λ l. greatest-only t (G .formed) past cut cl (reached t past cut) U failed (lineOf r) (greatestLine t past cut (reached t past cut) failed) greatest-words
-          (greatest-line t (G .formed) past cut cl (reached t past cut) U failed) z l
+          (λ l. greatest-only t (G .formed) (ruleOf t) cut cl (usableAt t cut) U failed (lineOf r) (greatestLine t (ruleOf t) cut (usableAt t cut) failed) greatest-words
+          (greatest-line t (G .formed) (ruleOf t) cut cl (usableAt t cut) U failed) z l
           ∙ rw (lt-ltb z (t .procs) l))
           (λ l. all .1 z l ∙ past-zero z l ∙ rw (le-ltb z (t .procs) l)))
 
 -- ---- `greatest`: the epochs at the cut d, the first line m, the last line r
 
 module _ (t : Trace) (full : List ℕ) (cut set count : ℕ) (d m r : List ℕ) (G : Tabled t full) (cl : cut ≤ size t) (ec : count ≡ getD full 0 0)
-    (ed : d ≡ wordsFrom (each t (current t past cut)) 0 64) (len : length m ≡ 64)
-    (below : (z : ℕ) → z < count → getD m z 0 ≡ pick (inSet set z) (getD d z 0) 32) (others : (z : ℕ) → count ≤ z → getD m z 0 ≡ 0) (L : Lowered full cut m r) where
+    (ed : d ≡ wordsFrom (each t (current t (ruleOf t) cut)) 0 64) (len : length m ≡ 64)
+    (below : (z : ℕ) → z < count → getD m z 0 ≡ cond (inSet set z) (getD d z 0) 32) (others : (z : ℕ) → count ≤ z → getD m z 0 ≡ 0) (L : Lowered full cut m r) where
   count-is : count ≡ t .procs
   count-is = ec ∙ procs-is t full G
 
-  cut-at : (z : ℕ) → z < 64 → getD d z 0 ≡ each t (current t past cut) z
-  cut-at z h = ap (λ (l : List ℕ). getD l z 0) ed ∙ getD-words (each t (current t past cut)) 0 64 z h ∙ ap (each t (current t past cut)) (let e : 0 + z ≡ z = omega arith in e)
+  cut-at : (z : ℕ) → z < 64 → getD d z 0 ≡ each t (current t (ruleOf t) cut) z
+  cut-at z h = ap (λ (l : List ℕ). getD l z 0) ed ∙ getD-words (each t (current t (ruleOf t) cut)) 0 64 z h ∙ ap (each t (current t (ruleOf t) cut)) (let e : 0 + z ≡ z = omega arith in e)
 
-  first-is : (z : ℕ) → z < t .procs → getD m z 0 ≡ pick (inSet set z) (current t past cut z) 32
+  first-is : (z : ℕ) → z < t .procs → getD m z 0 ≡ cond (inSet set z) (current t (ruleOf t) cut z) 32
   first-is z h =
       let s : ltb z (t .procs) ≡ true = lt-ltb z (t .procs) h in
-      below z (omega (arith, count-is)) ∙ ap (λ (x : ℕ). pick (inSet set z) x 32) (cut-at z (omega (arith, fit t full G .few)) ∙ rw s)
+      below z (omega (arith, count-is)) ∙ ap (λ (x : ℕ). cond (inSet set z) x 32) (cut-at z (omega (arith, fit t full G .few)) ∙ rw s)
 
   past-is : (z : ℕ) → t .procs ≤ z → getD m z 0 ≡ 0
   past-is z h = others z (omega (arith, count-is))
@@ -269,18 +271,18 @@ module _ (t : Trace) (full : List ℕ) (cut set count : ℕ) (d m r : List ℕ) 
   abbrev made : Line
   made = record { epochs = r; count = count }
 
-  r-is : r ≡ wordsFrom (each t (greatestLine t past cut (reached t past cut) (inSet set))) 0 64
+  r-is : r ≡ wordsFrom (each t (engineLine t cut set)) 0 64
   r-is = greatest-list t full G cut cl (inSet set) m r len first-is past-is L
 
-  pub greatest-made : made ≡ lineTo t (greatestLine t past cut (reached t past cut) (inSet set))
-  greatest-made = ap (λ (x : List ℕ). record { epochs = x; count = count }) r-is ∙ ap (λ (x : ℕ). record { epochs = wordsFrom (each t (greatestLine t past cut (reached t past cut) (inSet set))) 0 64; count = x }) count-is
+  pub greatest-made : made ≡ lineTo t (engineLine t cut set)
+  greatest-made = ap (λ (x : List ℕ). record { epochs = x; count = count }) r-is ∙ ap (λ (x : ℕ). record { epochs = wordsFrom (each t (engineLine t cut set)) 0 64; count = x }) count-is
 
   r-past : (z : ℕ) → count ≤ z → getD r z 0 ≡ 0
   r-past z h =
       by-lt z 64
-      (λ l. ap (λ (x : List ℕ). getD x z 0) r-is ∙ getD-words (each t (greatestLine t past cut (reached t past cut) (inSet set))) 0 64 z l
+      (λ l. ap (λ (x : List ℕ). getD x z 0) r-is ∙ getD-words (each t (engineLine t cut set)) 0 64 z l
       ∙ (let s : ltb (0 + z) (t .procs) ≡ false = le-ltb (0 + z) (t .procs) (omega (arith, count-is)) in rw s))
-      (λ l. List·getD-eq-default r 0 {n = z} (omega (arith, ap length r-is, length-words (each t (greatestLine t past cut (reached t past cut) (inSet set))) 0 64)))
+      (λ l. List·getD-eq-default r 0 {n = z} (omega (arith, ap length r-is, length-words (each t (engineLine t cut set)) 0 64)))
 
   numbers-same : (z : ℕ) → lineOf r z ≡ lineIn made z
   numbers-same z =
@@ -288,7 +290,7 @@ module _ (t : Trace) (full : List ℕ) (cut set count : ℕ) (d m r : List ℕ) 
       (λ l. rw (lt-ltb z count l))
       (λ l. rw (le-ltb z count l) (r-past z l))
 
-  pub greatest-means : Greatest t past cut (reached t past cut) (inSet set) (lineIn made)
+  pub greatest-means : Greatest t (ruleOf t) cut (usableAt t cut) (inSet set) (lineIn made)
   greatest-means =
-      subst (Greatest t past cut (reached t past cut) (inSet set)) (fun-ext numbers-same)
+      subst (Greatest t (ruleOf t) cut (usableAt t cut) (inSet set)) (fun-ext numbers-same)
       (greatest-words t full G cut cl (inSet set) m r len first-is past-is L)

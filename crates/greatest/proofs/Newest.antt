@@ -1,6 +1,6 @@
 -- The epochs at the cut and the phases at the restarts, from the newest events of the processes.
 use mathlib.Core.Path.{_≡_, refl, sym, _∙_, ap}
-use mathlib.Core.Bool.{Bool, true, false}
+use mathlib.Core.Bool.{Bool, true, false, cond}
 use mathlib.Core.Logic.{⊎-elim}
 use mathlib.Core.List.{List}
 use Prim.Native.Nat.{ℕ, zero, suc, _+_, _-_, _≤_, _<_}
@@ -14,29 +14,29 @@ use Rattle.words.proofs.Cases.{by-eq, by-lt, clash}
 use Rattle.trace.specs.declared.Event.{Event}
 use Rattle.trace.specs.declared.Event.the-variants.{Send, Recv, Save}
 use Rattle.trace.specs.Trace.{Trace}
-use Rattle.theory.specs.Lists.{pick, cnt}
+use Rattle.theory.specs.Lists.{cnt}
 use Rattle.theory.specs.Events.{size, eventAt, at, checkpoints}
-use Rattle.theory.specs.Epochs.{past, notes, epochAt, phaseAt}
-use Rattle.theory.specs.Line.{inSet, restartIn, current, reached, Greatest, greatestLine}
+use Rattle.theory.specs.Epochs.{notes, epochAt, phaseAt, ruleOf}
+use Rattle.theory.specs.Line.{inSet, restartIn, current, Greatest, usableAt, engineLine}
 use Rattle.theory.proofs.Base.{cnt-le, cnt-lt, cnt-suc}
 use Rattle.theory.proofs.Epochs.{epoch-is, restart-cut}
 use Rattle.theory.proofs.Lines.{Number, number-of}
 use Rattle.theory.proofs.Claims.{reached-usable, restart-back, restart-stays}
-use Rattle.columns.specs.Columns.{epochBase, phaseBase}
+use Rattle.columns.specs.Inner.Columns.{epochBase, phaseBase, Tabled}
 use Rattle.columns.proofs.Bounds.{epoch-most, phase-most}
 use Rattle.columns.proofs.Moves.{save-phase}
 use Rattle.recovery_line.specs.declared.Line.{Line}
-use Rattle.recovery_line.specs.Given.{Tabled, each, lineIn, lineTo, restartPhaseIn}
-use Rattle.recovery_line.specs.Words.{atW, epochW, phaseW}
-use Rattle.lowering.specs.Lowering.{Lowered, Linked, Before}
-use Rattle.greatest.specs.Newest.{afterW, restartPhase}
+use Rattle.recovery_line.specs.Given.{each, lineIn, lineTo, restartPhaseIn}
+use Rattle.columns.specs.Inner.Full.{atW, epochW, phaseW}
+use Rattle.lowering.specs.Inner.Lowering.{Lowered, Linked, Before}
+use Rattle.greatest.specs.Inner.Newest.{afterW, restartPhase}
 use Rattle.recovery_line.proofs.Table.{fit, few, procs-is, at-is, else-same}
 use Rattle.greatest.proofs.Lowering.{greatest-made, greatest-means}
 use Rattle.recovery_line.proofs.Lines.{line-at}
 
 -- while a process does nothing, its epoch and its phase stay
 idle-same : (t : Trace) (z x y : ℕ) → x ≤ y → ((w : ℕ) → x < w → w ≤ y → at t w ≡ z → ⊥)
-    → (epochAt t past z y ≡ epochAt t past z x) × (phaseAt t past z y ≡ phaseAt t past z x)
+    → (epochAt t (ruleOf t) z y ≡ epochAt t (ruleOf t) z x) × (phaseAt t (ruleOf t) z y ≡ phaseAt t (ruleOf t) z x)
 idle-same t z x zero l h = let e : x ≡ 0 = omega arith in rw e (refl, refl)
 idle-same t z x (suc y) l h = by-eq x (suc y)
     (λ e. rw e (refl, refl))
@@ -45,7 +45,7 @@ idle-same t z x (suc y) l h = by-eq x (suc y)
     (s .0 ∙ r .0, s .1 ∙ r .1))
 
 -- a checkpoint raises the phase by one
-raised : (t : Trace) (z y : ℕ) (v : Event) → eventAt t (suc y) ≡ v → checkpoints t z (suc y) ≡ true → phaseAt t past z (suc y) ≡ suc (phaseAt t past z y)
+raised : (t : Trace) (z y : ℕ) (v : Event) → eventAt t (suc y) ≡ v → checkpoints t z (suc y) ≡ true → phaseAt t (ruleOf t) z (suc y) ≡ suc (phaseAt t (ruleOf t) z y)
 unfolding checkpoints
 raised t z y (Send a b v) e h = clash {b = false} (rw e at h) refl
 raised t z y (Recv a b) e h = clash {b = false} (rw e at h) refl
@@ -57,27 +57,27 @@ module _ (t : Trace) (full : List ℕ) (G : Tabled t full) (cut : ℕ) (cl : cut
   own-is : 0 < x → at t x ≡ z
   own-is p = sym (at-is t full G x p (omega arith)) ∙ own p
 
-  own-epoch : 0 < x → epochW full x ≡ epochAt t past z x
-  own-epoch p = G .columns .epoch x p (omega arith) ∙ ap (λ (w : ℕ). epochAt t past w x) (own-is p)
+  own-epoch : 0 < x → epochW full x ≡ epochAt t (ruleOf t) z x
+  own-epoch p = G .columns .epoch x p (omega arith) ∙ ap (λ (w : ℕ). epochAt t (ruleOf t) w x) (own-is p)
 
-  own-phase : 0 < x → phaseW full x ≡ phaseAt t past z x
-  own-phase p = G .columns .phase x p (omega arith) ∙ ap (λ (w : ℕ). phaseAt t past w x) (own-is p)
+  own-phase : 0 < x → phaseW full x ≡ phaseAt t (ruleOf t) z x
+  own-phase p = G .columns .phase x p (omega arith) ∙ ap (λ (w : ℕ). phaseAt t (ruleOf t) w x) (own-is p)
 
   -- by the column's base and what its words mean
   there : (base : ℕ) (f : ℕ → ℕ) → f 0 ≡ 1 → (0 < x → getD full (base + x) 0 ≡ f x) → afterW full base x ≡ f x
   there base f start h = by-eq x 0 (λ e. rw (eq-eqb x 0 e, e) (sym start)) (λ n. rw (ne-eqb x 0 n) (h (omega arith)))
 
-  epoch-there : afterW full epochBase x ≡ epochAt t past z x
+  epoch-there : afterW full epochBase x ≡ epochAt t (ruleOf t) z x
   unfolding notes
-  epoch-there = there epochBase (epochAt t past z) refl own-epoch
+  epoch-there = there epochBase (epochAt t (ruleOf t) z) refl own-epoch
 
-  phase-there : afterW full phaseBase x ≡ phaseAt t past z x
+  phase-there : afterW full phaseBase x ≡ phaseAt t (ruleOf t) z x
   unfolding notes
-  phase-there = there phaseBase (phaseAt t past z) refl own-phase
+  phase-there = there phaseBase (phaseAt t (ruleOf t) z) refl own-phase
 
   -- ---- The epoch at the cut
 
-  epoch-newest : ((y : ℕ) → x < y → y ≤ cut → atW full y ≡ z → ⊥) → afterW full epochBase x ≡ current t past cut z
+  epoch-newest : ((y : ℕ) → x < y → y ≤ cut → atW full y ≡ z → ⊥) → afterW full epochBase x ≡ current t (ruleOf t) cut z
   epoch-newest h =
       epoch-there ∙ sym (idle-same t z x cut xl (λ w a b i. h w a b (at-is t full G w (omega arith) (omega arith) ∙ i)) .0)
 
@@ -85,24 +85,24 @@ module _ (t : Trace) (full : List ℕ) (G : Tabled t full) (cut : ℕ) (cl : cut
 
   module _ (line : ℕ → ℕ) (done : 0 < x → epochW full x < line z) (undone : (e : ℕ) → x < e → e ≤ cut → atW full e ≡ z → line z ≤ epochW full e) where
     -- the events after x have no epoch before the line's
-    later : (w : ℕ) → x < w → w ≤ cut → at t w ≡ z → line z ≤ epochAt t past z w
+    later : (w : ℕ) → x < w → w ≤ cut → at t w ≡ z → line z ≤ epochAt t (ruleOf t) z w
     later w a b i =
-        let e : epochW full w ≡ epochAt t past z w = G .columns .epoch w (omega arith) (omega arith) ∙ ap (λ (y : ℕ). epochAt t past y w) i in
+        let e : epochW full w ≡ epochAt t (ruleOf t) z w = G .columns .epoch w (omega arith) (omega arith) ∙ ap (λ (y : ℕ). epochAt t (ruleOf t) y w) i in
         omega (arith, e, undone w a b (at-is t full G w (omega arith) (omega arith) ∙ i))
 
     stays-phase : line z ≡ 32 → afterW full phaseBase x ≡ restartPhaseIn t cut line z
     stays-phase h =
         phase-there
         ∙ sym (idle-same t z x cut xl (λ w a b i. let u = later w a b i in omega (arith, u, h, epoch-most t (fit t full G) z w (omega arith))) .1)
-        ∙ ap (phaseAt t past z) (sym (restart-stays t (G .formed) past cut cl line z h))
+        ∙ ap (phaseAt t (ruleOf t) z) (sym (restart-stays t (G .formed) (ruleOf t) cut cl line z h))
 
     -- the restart s, and what holds of it
-    module _ (a : 1 ≤ line z) (b : line z ≤ current t past cut z) where
+    module _ (a : 1 ≤ line z) (b : line z ≤ current t (ruleOf t) cut z) where
       abbrev s : ℕ
       s = restartIn t cut line z
 
-      epoch-s : epochAt t past z s ≡ line z
-      epoch-s = restart-back t (G .formed) past cut cl line z a b .0
+      epoch-s : epochAt t (ruleOf t) z s ≡ line z
+      epoch-s = restart-back t (G .formed) (ruleOf t) cut cl line z a b .0
 
       s-cut : s ≤ cut
       s-cut = restart-cut t cut line z
@@ -110,41 +110,41 @@ module _ (t : Trace) (full : List ℕ) (G : Tabled t full) (cut : ℕ) (cl : cut
       before-s : x ≤ s
       before-s = by-lt s x
           (λ h. let p : 0 < x = omega arith in
-          absurd (let y : ⊥ = omega (arith, own-epoch p, done p, epoch-s, epoch-is t past s z, epoch-is t past x z, cnt-le (checkpoints t z) s x (omega arith)) in y))
+          absurd (let y : ⊥ = omega (arith, own-epoch p, done p, epoch-s, epoch-is t (ruleOf t) s z, epoch-is t (ruleOf t) x z, cnt-le (checkpoints t z) s x (omega arith)) in y))
           (λ h. h)
 
-      start-phase : s ≡ 0 → afterW full phaseBase x ≡ phaseAt t past z s
-      start-phase h = phase-there ∙ ap (phaseAt t past z) (let e : x ≡ s = omega (arith, before-s) in e)
+      start-phase : s ≡ 0 → afterW full phaseBase x ≡ phaseAt t (ruleOf t) z s
+      start-phase h = phase-there ∙ ap (phaseAt t (ruleOf t) z) (let e : x ≡ s = omega (arith, before-s) in e)
 
-      back-phase : (y : ℕ) → s ≡ suc y → checkpoints t z s ≡ true → afterW full phaseBase x + 1 ≡ phaseAt t past z s
+      back-phase : (y : ℕ) → s ≡ suc y → checkpoints t z s ≡ true → afterW full phaseBase x + 1 ≡ phaseAt t (ruleOf t) z s
       back-phase y e c =
           let cy : checkpoints t z (suc y) ≡ true = rw e at c in
-          let ey : epochAt t past z (suc y) ≡ line z = rw e at epoch-s in
+          let ey : epochAt t (ruleOf t) z (suc y) ≡ line z = rw e at epoch-s in
           let n = cnt-suc (checkpoints t z) y cy in
           let xy : x ≤ y = by-eq x s
           (λ i. let p : 0 < x = omega arith in
-          let u : epochW full x ≡ epochAt t past z x = G .columns .epoch x p (omega arith) ∙ ap (λ (w : ℕ). epochAt t past w x) (own-is p) in
-          let v : epochAt t past z x ≡ line z = ap (epochAt t past z) i ∙ epoch-s in
+          let u : epochW full x ≡ epochAt t (ruleOf t) z x = G .columns .epoch x p (omega arith) ∙ ap (λ (w : ℕ). epochAt t (ruleOf t) w x) (own-is p) in
+          let v : epochAt t (ruleOf t) z x ≡ line z = ap (epochAt t (ruleOf t) z) i ∙ epoch-s in
           absurd (let q : ⊥ = omega (arith, own-epoch p, v, done p) in q))
           (λ i. omega (arith, before-s, e, i)) in
           let i = idle-same t z x y xy
           (λ w k l j. let u = later w k (omega (arith, s-cut, e)) j in
-          omega (arith, u, ey, epoch-is t past w z, epoch-is t past (suc y) z, n, cnt-le (checkpoints t z) w y l)) in
+          omega (arith, u, ey, epoch-is t (ruleOf t) w z, epoch-is t (ruleOf t) (suc y) z, n, cnt-le (checkpoints t z) w y l)) in
           let r = raised t z y (eventAt t (suc y)) refl cy in
-          ap (λ (w : ℕ). w + 1) (phase-there ∙ sym (i .1)) ∙ omega (arith, r, ap (phaseAt t past z) e)
+          ap (λ (w : ℕ). w + 1) (phase-there ∙ sym (i .1)) ∙ omega (arith, r, ap (phaseAt t (ruleOf t) z) e)
 
       -- a restart in epoch 1 is the start, and no other is
       first-epoch : s ≡ 0 → line z ≡ 1
       unfolding cnt
-      first-epoch h = sym epoch-s ∙ ap (epochAt t past z) h ∙ epoch-is t past 0 z
+      first-epoch h = sym epoch-s ∙ ap (epochAt t (ruleOf t) z) h ∙ epoch-is t (ruleOf t) 0 z
 
       saved : 0 < s → checkpoints t z s ≡ true
-      saved p = ⊎-elim (λ e. absurd (let y : ⊥ = omega arith in y)) (λ c. c) (restart-back t (G .formed) past cut cl line z a b .1)
+      saved p = ⊎-elim (λ e. absurd (let y : ⊥ = omega arith in y)) (λ c. c) (restart-back t (G .formed) (ruleOf t) cut cl line z a b .1)
 
       later-epoch : 0 < s → 2 ≤ line z
-      later-epoch p = omega (arith, epoch-s, epoch-is t past s z, cnt-lt (checkpoints t z) 0 s (saved p) p)
+      later-epoch p = omega (arith, epoch-s, epoch-is t (ruleOf t) s z, cnt-lt (checkpoints t z) 0 s (saved p) p)
 
-      gone-back : restartPhase full (line z) x ≡ phaseAt t past z s
+      gone-back : restartPhase full (line z) x ≡ phaseAt t (ruleOf t) z s
       gone-back =
           let n : eqb (line z) 32 ≡ false = ne-eqb (line z) 32 (λ h. omega (arith, b, h, epoch-most t (fit t full G) z cut cl)) in
           by-eq s 0
@@ -153,7 +153,7 @@ module _ (t : Trace) (full : List ℕ) (G : Tabled t full) (cut : ℕ) (cl : cut
           let m : eqb (line z) 1 ≡ false = ne-eqb (line z) 1 (λ i. omega (arith, later-epoch p, i)) in
           rw (n, m) (back-phase (s - 1) (omega arith) (saved p)))
 
-    phase-newest : Number t past cut z (line z) → restartPhase full (line z) x ≡ restartPhaseIn t cut line z
+    phase-newest : Number t (ruleOf t) cut z (line z) → restartPhase full (line z) x ≡ restartPhaseIn t cut line z
     phase-newest k = ⊎-elim
         (λ h. rw (eq-eqb (line z) 32 h) (omega (arith, stays-phase h)))
         (λ h. gone-back (h .0) (h .1))
@@ -163,7 +163,7 @@ module _ (t : Trace) (full : List ℕ) (G : Tabled t full) (cut : ℕ) (cl : cut
 
 module _ (t : Trace) (full : List ℕ) (G : Tabled t full) (cut : ℕ) (cl : cut ≤ size t) (count : ℕ) (ec : count ≡ getD full 0 0) where
   -- a rule of the first processes, 0 past the last
-  each-is : (f g : ℕ → ℕ) → ((z : ℕ) → z < t .procs → f z ≡ g z) → (z : ℕ) → pick (ltb z count) (f z) 0 ≡ each t g z
+  each-is : (f g : ℕ → ℕ) → ((z : ℕ) → z < t .procs → f z ≡ g z) → (z : ℕ) → cond (ltb z count) (f z) 0 ≡ each t g z
   each-is f g h z =
       let c : count ≡ t .procs = ec ∙ procs-is t full G in
       by-lt z (t .procs)
@@ -174,15 +174,15 @@ module _ (t : Trace) (full : List ℕ) (G : Tabled t full) (cut : ℕ) (cl : cut
   few-procs z l = omega (arith, fit t full G .few)
 
   epochs-made : (earlier latest d : List ℕ) → Linked full cut earlier latest → length d ≡ 64
-      → ((z : ℕ) → z < 64 → getD d z 0 ≡ pick (ltb z count) (afterW full epochBase (getD latest z 0)) 0) → d ≡ wordsFrom (each t (current t past cut)) 0 64
+      → ((z : ℕ) → z < 64 → getD d z 0 ≡ cond (ltb z count) (afterW full epochBase (getD latest z 0)) 0) → d ≡ wordsFrom (each t (current t (ruleOf t) cut)) 0 64
   epochs-made earlier latest d L len h =
-      words-ext (each t (current t past cut)) 64 d len
-      (λ z b. h z b ∙ each-is (λ z. afterW full epochBase (getD latest z 0)) (current t past cut)
+      words-ext (each t (current t (ruleOf t) cut)) 64 d len
+      (λ z b. h z b ∙ each-is (λ z. afterW full epochBase (getD latest z 0)) (current t (ruleOf t) cut)
       (λ z l. let n = L .last z (few-procs z l) in epoch-newest t full G cut cl z (getD latest z 0) (n .within) (n .own) (n .others)) z)
 
-  phases-made : (r latest p : List ℕ) (line : ℕ → ℕ) → ((z : ℕ) → z < t .procs → line z ≡ getD r z 0) → ((z : ℕ) → z < t .procs → Number t past cut z (line z))
+  phases-made : (r latest p : List ℕ) (line : ℕ → ℕ) → ((z : ℕ) → z < t .procs → line z ≡ getD r z 0) → ((z : ℕ) → z < t .procs → Number t (ruleOf t) cut z (line z))
       → Before full cut r latest → length p ≡ 64
-      → ((z : ℕ) → z < 64 → getD p z 0 ≡ pick (ltb z count) (restartPhase full (getD r z 0) (getD latest z 0)) 0)
+      → ((z : ℕ) → z < 64 → getD p z 0 ≡ cond (ltb z count) (restartPhase full (getD r z 0) (getD latest z 0)) 0)
       → p ≡ wordsFrom (each t (restartPhaseIn t cut line)) 0 64
   phases-made r latest p line same k B len h =
       words-ext (each t (restartPhaseIn t cut line)) 64 p len
@@ -202,9 +202,9 @@ module _ (t : Trace) (full : List ℕ) (G : Tabled t full) (cut : ℕ) (cl : cut
       omega (arith, G .columns .phase x p b, phase-most t (fit t full G) (at t x) x b, few t full G)
 
   -- the numbers of the greatest line
-  numbers-may : (failed : ℕ → Bool) (line : ℕ → ℕ) → Greatest t past cut (reached t past cut) failed line → (z : ℕ) → z < t .procs → Number t past cut z (line z)
+  numbers-may : (failed : ℕ → Bool) (line : ℕ → ℕ) → Greatest t (ruleOf t) cut (usableAt t cut) failed line → (z : ℕ) → z < t .procs → Number t (ruleOf t) cut z (line z)
   numbers-may failed line g =
-      number-of t past (fit t full G) cut cl (reached t past cut) (reached-usable t (G .formed) past cut cl) failed line (g .permitted)
+      number-of t (ruleOf t) (fit t full G) cut cl (usableAt t cut) (reached-usable t (G .formed) (ruleOf t) cut cl) failed line (g .permitted)
 
 -- What `greatest` has done: events linked, d the epochs at the cut, m the first line, r the line lowered, with the
 -- newest events before its restarts left, and p the phases there.
@@ -212,27 +212,27 @@ pub record Done (full : List ℕ) (cut set count : ℕ) (earlier latest d m r le
   pub counted : count ≡ getD full 0 0
   pub linked : Linked full cut earlier latest
   pub epochs-long : length d ≡ 64
-  pub epochs : (z : ℕ) → z < 64 → getD d z 0 ≡ pick (ltb z count) (afterW full epochBase (getD latest z 0)) 0
+  pub epochs : (z : ℕ) → z < 64 → getD d z 0 ≡ cond (ltb z count) (afterW full epochBase (getD latest z 0)) 0
   pub first-long : length m ≡ 64
-  pub first : (z : ℕ) → z < count → getD m z 0 ≡ pick (inSet set z) (getD d z 0) 32
+  pub first : (z : ℕ) → z < count → getD m z 0 ≡ cond (inSet set z) (getD d z 0) 32
   pub others : (z : ℕ) → count ≤ z → getD m z 0 ≡ 0
   pub lowered : Lowered full cut m r
   pub before : Before full cut r left
   pub phases-long : length p ≡ 64
-  pub phases : (z : ℕ) → z < 64 → getD p z 0 ≡ pick (ltb z count) (restartPhase full (getD r z 0) (getD left z 0)) 0
+  pub phases : (z : ℕ) → z < 64 → getD p z 0 ≡ cond (ltb z count) (restartPhase full (getD r z 0) (getD left z 0)) 0
 
 module _ (t : Trace) {full : List ℕ} {cut set count : ℕ} {earlier latest d m r left p : List ℕ} (G : Tabled t full) (cl : cut ≤ size t)
     (D : Done full cut set count earlier latest d m r left p) where
   abbrev made : Line
   made = record { epochs = r; count = count }
 
-  pub epochs-done : d ≡ wordsFrom (each t (current t past cut)) 0 64
+  pub epochs-done : d ≡ wordsFrom (each t (current t (ruleOf t) cut)) 0 64
   epochs-done = epochs-made t full G cut cl count (D .counted) earlier latest d (D .linked) (D .epochs-long) (D .epochs)
 
-  pub line-done : made ≡ lineTo t (greatestLine t past cut (reached t past cut) (inSet set))
+  pub line-done : made ≡ lineTo t (engineLine t cut set)
   line-done = greatest-made t full cut set count d m r G cl (D .counted) epochs-done (D .first-long) (D .first) (D .others) (D .lowered)
 
-  pub means-done : Greatest t past cut (reached t past cut) (inSet set) (lineIn made)
+  pub means-done : Greatest t (ruleOf t) cut (usableAt t cut) (inSet set) (lineIn made)
   means-done = greatest-means t full cut set count d m r G cl (D .counted) epochs-done (D .first-long) (D .first) (D .others) (D .lowered)
 
   pub phases-done : p ≡ wordsFrom (each t (restartPhaseIn t cut (lineIn made))) 0 64

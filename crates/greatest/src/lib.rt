@@ -7,15 +7,15 @@ ghost use Prim.Native.Nat.{ℕ, _+_, _≤_, _<_};
 ghost use lib.ListN.{length, getD, set};
 ghost use Rattle.words.specs.Area.{areaWords, wordsFrom};
 ghost use Rattle.trace.specs.Trace.{Trace};
-ghost use Rattle.columns.specs.Columns.{epochBase};
-ghost use Rattle.theory.specs.Lists.{pick};
+ghost use Rattle.columns.specs.Inner.Columns.{epochBase, Tabled};
+ghost use mathlib.Core.Bool.{cond};
 ghost use Rattle.theory.specs.Events.{size};
-ghost use Rattle.theory.specs.Epochs.{past};
-ghost use Rattle.theory.specs.Line.{inSet, current, reached, Greatest, greatestLine};
-ghost use Rattle.recovery_line.specs.Given.{Tabled, each, lineIn, lineTo, restartPhaseIn};
-ghost use Rattle.recovery_line.specs.Words.{phaseW};
-ghost use Rattle.lowering.specs.Lowering.{Pending};
-ghost use Rattle.greatest.specs.Newest.{afterW, restartPhase};
+ghost use Rattle.theory.specs.Epochs.{past, ruleOf};
+ghost use Rattle.theory.specs.Line.{inSet, current, Greatest, usableAt, engineLine};
+ghost use Rattle.recovery_line.specs.Given.{each, lineIn, lineTo, restartPhaseIn};
+ghost use Rattle.columns.specs.Inner.Full.{phaseW};
+ghost use Rattle.lowering.specs.Inner.Lowering.{Pending};
+ghost use Rattle.greatest.specs.Inner.Newest.{afterW, restartPhase};
 use columns::EPOCH_BASE;
 use columns::PHASE_BASE;
 use recovery_line::Line;
@@ -24,7 +24,7 @@ use recovery_line::STAYS;
 // A process's number in the first line: a failed one may not stay.
 fn first_number(set: u64, z: u32, epoch: u32) -> u32
     requires { ⌜ z < 64 ⌝ }
-    ensures { λ r. ⌜ r ≡ pick (inSet set z) epoch 32 ⌝ }
+    ensures { λ r. ⌜ r ≡ cond (inSet set z) epoch 32 ⌝ }
 {
     if (set >> z) % 2 == 1 { epoch } else { STAYS }
 }
@@ -32,7 +32,7 @@ fn first_number(set: u64, z: u32, epoch: u32) -> u32
 // The first line, from the epochs at the cut.
 fn first_line(epochs: &[u32], count: usize, set: u64, numbers: &mut [u32])
     requires { ⌜ (length (now epochs) ≡ 64) × (length (now numbers) ≡ 64) × (count ≤ 64) ⌝ }
-    ensures below { λ _. ⌜ ((z : ℕ) → z < count → getD (now (numbers .exit)) z 0 ≡ pick (inSet set z) (getD (now (epochs .entry)) z 0) 32) ⌝ }
+    ensures below { λ _. ⌜ ((z : ℕ) → z < count → getD (now (numbers .exit)) z 0 ≡ cond (inSet set z) (getD (now (epochs .entry)) z 0) 32) ⌝ }
     ensures others { λ _. ⌜ ((z : ℕ) → count ≤ z → getD (now (numbers .exit)) z 0 ≡ getD (now (numbers .entry)) z 0) ⌝ }
 {
     let mut z: usize = 0;
@@ -57,7 +57,7 @@ fn after(full: &[u32], base: usize, e: usize) -> u32
 // The epochs of the first processes after their newest events; 0 past the last.
 fn newest_epochs(full: &[u32], latest: &[u16], count: usize, epochs: &mut [u32])
     requires { ⌜ Pending (now full) (now epochs) (now latest) ⌝ }
-    ensures { λ _. ⌜ ((z : ℕ) → z < 64 → getD (now (epochs .exit)) z 0 ≡ pick (ltb z count) (afterW (now (full .entry)) epochBase (getD (now (latest .entry)) z 0)) 0) ⌝ }
+    ensures { λ _. ⌜ ((z : ℕ) → z < 64 → getD (now (epochs .exit)) z 0 ≡ cond (ltb z count) (afterW (now (full .entry)) epochBase (getD (now (latest .entry)) z 0)) 0) ⌝ }
 {
     let mut z: usize = 0;
     while z < 64 {
@@ -85,7 +85,7 @@ fn restart_phase(full: &[u32], number: u32, e: usize) -> u32
 // The phases of the first processes at their restarts; 0 past the last.
 fn restart_phases(full: &[u32], latest: &[u16], numbers: &[u32], count: usize, phases: &mut [u32])
     requires { ⌜ Pending (now full) (now phases) (now latest) × (length (now numbers) ≡ 64) × ((z : ℕ) → z < 64 → 0 < getD (now latest) z 0 → phaseW (now full) (getD (now latest) z 0) < 65536) ⌝ }
-    ensures { λ _. ⌜ ((z : ℕ) → z < 64 → getD (now (phases .exit)) z 0 ≡ pick (ltb z count) (restartPhase (now (full .entry)) (getD (now (numbers .entry)) z 0) (getD (now (latest .entry)) z 0)) 0) ⌝ }
+    ensures { λ _. ⌜ ((z : ℕ) → z < 64 → getD (now (phases .exit)) z 0 ≡ cond (ltb z count) (restartPhase (now (full .entry)) (getD (now (numbers .entry)) z 0) (getD (now (latest .entry)) z 0)) 0) ⌝ }
 {
     let mut z: usize = 0;
     while z < 64 {
@@ -102,9 +102,9 @@ fn restart_phases(full: &[u32], latest: &[u16], numbers: &[u32], count: usize, p
 // stay.
 pub fn greatest(full: &[u32], cut: usize, set: u64, epochs: &mut [u32], phases: &mut [u32]) -> Line
     requires { ⌜ (length (now epochs) ≡ 64) × (length (now phases) ≡ 64) × ((t : Trace) × Tabled t (now full) × (cut ≤ size t)) ⌝ }
-    ensures line { λ r. ⌜ ((t : Trace) → Tabled t (now (full .entry)) → cut ≤ size t → r ≡ lineTo t (greatestLine t past cut (reached t past cut) (inSet set))) ⌝ }
-    ensures means { λ r. ⌜ ((t : Trace) → Tabled t (now (full .entry)) → cut ≤ size t → Greatest t past cut (reached t past cut) (inSet set) (lineIn r)) ⌝ }
-    ensures epochs { λ _. ⌜ ((t : Trace) → Tabled t (now (full .entry)) → cut ≤ size t → now (epochs .exit) ≡ wordsFrom (each t (current t past cut)) 0 64) ⌝ }
+    ensures line { λ r. ⌜ ((t : Trace) → Tabled t (now (full .entry)) → cut ≤ size t → r ≡ lineTo t (engineLine t cut set)) ⌝ }
+    ensures means { λ r. ⌜ ((t : Trace) → Tabled t (now (full .entry)) → cut ≤ size t → Greatest t (ruleOf t) cut (usableAt t cut) (inSet set) (lineIn r)) ⌝ }
+    ensures epochs { λ _. ⌜ ((t : Trace) → Tabled t (now (full .entry)) → cut ≤ size t → now (epochs .exit) ≡ wordsFrom (each t (current t (ruleOf t) cut)) 0 64) ⌝ }
     ensures phases { λ r. ⌜ ((t : Trace) → Tabled t (now (full .entry)) → cut ≤ size t → now (phases .exit) ≡ wordsFrom (each t (restartPhaseIn t cut (lineIn r))) 0 64) ⌝ }
 {
     let count = recovery_line::processes(full);

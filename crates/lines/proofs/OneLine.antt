@@ -11,10 +11,10 @@ use Rattle.text.proofs.Keys.{field-1}
 use Rattle.trace.specs.declared.Event.{Event}
 use Rattle.trace.specs.declared.Event.the-variants.{Send, Recv, Save}
 use Rattle.lines.specs.declared.Line.{Line}
-use Rattle.lines.specs.declared.Line as line
-use Rattle.lines.specs.Line.{kProcs, kSend, kTo, kVal, kRecv, kFrom, kSave, kFail, kSet, most, mostSet, procsOf, sendOf, recvOf, saveOf, failOf, lineOf}
+use Rattle.lines.specs.Line.{kProcs, kSend, kTo, kVal, kRecv, kFrom, kSave, kFail, kSet, most, mostSet, procsSaid, sendSaid, recvSaid, saveSaid, failSaid, lineSaid}
 use Rattle.lines.specs.Render.{renderEvent, renderFailure}
 use Rattle.lines.proofs.Field.{behind-start, read-field, read-end, rendered-field, rendered-end}
+use Rattle.lines.specs.declared.Line as line
 
 -- no number of an event is more than its key can hold
 abbrev pub Small : Event → Type 0
@@ -60,8 +60,8 @@ failure-text step set rest = simp (append-assoc, append-nil)
 
 -- each form, its key at the line's start: the number behind that key is read as a field's is
 module _ (l : List ℕ) where
-  send-says : keyAt l 0 kSend ≡ true → Says l (sendOf l)
-  unfolding sendOf
+  send-says : keyAt l 0 kSend ≡ true → Says l (sendSaid l)
+  unfolding sendSaid
   send-says t =
       rw (field-1 l 0 kSend most (keyAt l 0 kSend) refl t)
       (read-field most refl l (Says l) 0 kSend l _ (behind-start l) tt (λ a p x e s h.
@@ -69,38 +69,38 @@ module _ (l : List ℕ) where
       read-field most refl l (Says l) q kVal y _ u tt (λ v r z g w j.
       read-end (Says l) l r z (line.the-variants.Send a b v) w tt (λ n. (rw (e, f, g, n, send-text), (h, i, j)))))))
 
-  recv-says : keyAt l 0 kRecv ≡ true → Says l (recvOf l)
-  unfolding recvOf
+  recv-says : keyAt l 0 kRecv ≡ true → Says l (recvSaid l)
+  unfolding recvSaid
   recv-says t =
       rw (field-1 l 0 kRecv most (keyAt l 0 kRecv) refl t)
       (read-field most refl l (Says l) 0 kRecv l _ (behind-start l) tt (λ a p x e s h.
       read-field most refl l (Says l) p kFrom x _ s tt (λ b q y f u i.
       read-end (Says l) l q y (line.the-variants.Recv a b) u tt (λ n. (rw (e, f, n, recv-text), (h, i))))))
 
-  save-says : keyAt l 0 kSave ≡ true → Says l (saveOf l)
-  unfolding saveOf
+  save-says : keyAt l 0 kSave ≡ true → Says l (saveSaid l)
+  unfolding saveSaid
   save-says t =
       rw (field-1 l 0 kSave most (keyAt l 0 kSave) refl t)
       (read-field most refl l (Says l) 0 kSave l _ (behind-start l) tt (λ a p x e s h.
       read-end (Says l) l p x (line.the-variants.Save a) s tt (λ n. (rw (e, n, save-text), h))))
 
-  procs-says : keyAt l 0 kProcs ≡ true → Says l (procsOf l)
-  unfolding procsOf
+  procs-says : keyAt l 0 kProcs ≡ true → Says l (procsSaid l)
+  unfolding procsSaid
   procs-says t =
       rw (field-1 l 0 kProcs most (keyAt l 0 kProcs) refl t)
       (read-field most refl l (Says l) 0 kProcs l _ (behind-start l) tt (λ a p x e s h.
       read-end (Says l) l p x (line.the-variants.Procs a) s tt (λ n. (rw (e, n, append-nil), h))))
 
-  fail-says : keyAt l 0 kFail ≡ true → Says l (failOf l)
-  unfolding failOf
+  fail-says : keyAt l 0 kFail ≡ true → Says l (failSaid l)
+  unfolding failSaid
   fail-says t =
       rw (field-1 l 0 kFail most (keyAt l 0 kFail) refl t)
       (read-field most refl l (Says l) 0 kFail l _ (behind-start l) tt (λ k p x e s h.
       read-field mostSet refl l (Says l) p kSet x _ s tt (λ m q y f u i.
       read-end (Says l) l q y (line.the-variants.Failure k m) u tt (λ n. (rw (e, f, n), h, i)))))
 
-  pub line-says : Says l (lineOf l)
-  unfolding lineOf
+  pub line-says : Says l (lineSaid l)
+  unfolding lineSaid
   line-says =
       by-bool (keyAt l 0 kSend) (λ t. rw t (send-says t)) (λ f. rw f (
       by-bool (keyAt l 0 kRecv) (λ t. rw t (recv-says t)) (λ f. rw f (
@@ -110,11 +110,11 @@ module _ (l : List ℕ) where
 
 -- ---- what is rendered is read
 
-pub procs-line : (n : ℕ) → n ≤ most → lineOf (kProcs ++ decimal n) ≡ line.the-variants.Procs n
-unfolding lineOf procsOf startsWith isDigit
+pub procs-line : (n : ℕ) → n ≤ most → lineSaid (kProcs ++ decimal n) ≡ line.the-variants.Procs n
+unfolding lineSaid procsSaid startsWith isDigit
 procs-line n h =
     let l = kProcs ++ (decimal n ++ []) in
-    ap lineOf (procs-text n)
+    ap lineSaid (procs-text n)
     ∙ rw (field-1 l 0 kProcs most true refl refl)
     (rendered-field most refl l 0 kProcs n _ _ _ (behind-start l) h refl (λ p s. rendered-end l p _ s))
 
@@ -124,29 +124,29 @@ lineFor (Send at to val) = line.the-variants.Send at to val
 lineFor (Recv at from) = line.the-variants.Recv at from
 lineFor (Save at) = line.the-variants.Save at
 
-pub event-line : (e : Event) → Small e → lineOf (renderEvent e) ≡ lineFor e
-unfolding lineOf sendOf recvOf saveOf startsWith isDigit
+pub event-line : (e : Event) → Small e → lineSaid (renderEvent e) ≡ lineFor e
+unfolding lineSaid sendSaid recvSaid saveSaid startsWith isDigit
 event-line (Send a b v) h =
     let l = kSend ++ (decimal a ++ (kTo ++ (decimal b ++ (kVal ++ (decimal v ++ []))))) in
-    ap lineOf (send-text a b v)
+    ap lineSaid (send-text a b v)
     ∙ rw (field-1 l 0 kSend most true refl refl)
     (rendered-field most refl l 0 kSend a _ _ _ (behind-start l) (h .0) refl (λ p s.
     rendered-field most refl l p kTo b _ _ _ s (h .1) refl (λ q u.
     rendered-field most refl l q kVal v _ _ _ u (h .2) refl (λ r w. rendered-end l r _ w))))
 event-line (Recv a b) h =
     let l = kRecv ++ (decimal a ++ (kFrom ++ (decimal b ++ []))) in
-    ap lineOf (recv-text a b)
+    ap lineSaid (recv-text a b)
     ∙ rw (field-1 l 0 kRecv most true refl refl)
     (rendered-field most refl l 0 kRecv a _ _ _ (behind-start l) (h .0) refl (λ p s.
     rendered-field most refl l p kFrom b _ _ _ s (h .1) refl (λ q u. rendered-end l q _ u)))
 event-line (Save a) h =
     let l = kSave ++ (decimal a ++ []) in
-    ap lineOf (save-text a)
+    ap lineSaid (save-text a)
     ∙ rw (field-1 l 0 kSave most true refl refl)
     (rendered-field most refl l 0 kSave a _ _ _ (behind-start l) h refl (λ p s. rendered-end l p _ s))
 
-pub failure-line : (step set : ℕ) → step ≤ most → set ≤ mostSet → lineOf (failureText step set) ≡ line.the-variants.Failure step set
-unfolding lineOf failOf startsWith isDigit
+pub failure-line : (step set : ℕ) → step ≤ most → set ≤ mostSet → lineSaid (failureText step set) ≡ line.the-variants.Failure step set
+unfolding lineSaid failSaid startsWith isDigit
 failure-line step set h i =
     let l = failureText step set in
     rw (field-1 l 0 kFail most true refl refl)

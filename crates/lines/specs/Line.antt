@@ -1,7 +1,7 @@
 -- What a line of the text says (document 01, "The trace text"). A line is its bytes without the LF that ends it.
 use Prim.Native.Nat.{ℕ}
 use mathlib.Core.List.{List, [], _∷_}
-use mathlib.Core.Bool.{Bool, true, false}
+use mathlib.Core.Bool.{Bool, true, false, cond}
 use lib.ListN.{length}
 use lib.Dec.{eqb}
 use Rattle.text.specs.declared.Num.{Num}
@@ -65,41 +65,36 @@ whenEnd true l = l
 whenEnd false l = Malformed
 
 -- `procs=N`
-unfoldable pub procsOf : List ℕ → Line
-procsOf l = thenLine (numberAt l (length kProcs) most) (λ n p. whenEnd (eqb p (length l)) (Procs n))
+unfoldable pub procsSaid : List ℕ → Line
+procsSaid l = thenLine (numberAt l (length kProcs) most) (λ n p. whenEnd (eqb p (length l)) (Procs n))
 
 -- `ev=send at=A to=B val=V`
-unfoldable pub sendOf : List ℕ → Line
-sendOf l =
+unfoldable pub sendSaid : List ℕ → Line
+sendSaid l =
     thenLine (numberAt l (length kSend) most) (λ a p.
     thenLine (fieldAt l p kTo most) (λ b q.
     thenLine (fieldAt l q kVal most) (λ v r. whenEnd (eqb r (length l)) (Send a b v))))
 
 -- `ev=recv at=A from=B`
-unfoldable pub recvOf : List ℕ → Line
-recvOf l =
+unfoldable pub recvSaid : List ℕ → Line
+recvSaid l =
     thenLine (numberAt l (length kRecv) most) (λ a p.
     thenLine (fieldAt l p kFrom most) (λ b q. whenEnd (eqb q (length l)) (Recv a b)))
 
 -- `ev=save at=A`
-unfoldable pub saveOf : List ℕ → Line
-saveOf l = thenLine (numberAt l (length kSave) most) (λ a p. whenEnd (eqb p (length l)) (Save a))
+unfoldable pub saveSaid : List ℕ → Line
+saveSaid l = thenLine (numberAt l (length kSave) most) (λ a p. whenEnd (eqb p (length l)) (Save a))
 
 -- `fail=K set=M`
-unfoldable pub failOf : List ℕ → Line
-failOf l =
+unfoldable pub failSaid : List ℕ → Line
+failSaid l =
     thenLine (numberAt l (length kFail) most) (λ k p.
     thenLine (fieldAt l p kSet mostSet) (λ m q. whenEnd (eqb q (length l)) (Failure k m)))
 
--- the form whose key stands at the line's start
-abbrev pub whenForm : Bool → Line → Line → Line
-whenForm true l rest = l
-whenForm false l rest = rest
-
-unfoldable pub lineOf : List ℕ → Line
-lineOf l =
-    whenForm (keyAt l 0 kSend) (sendOf l)
-    (whenForm (keyAt l 0 kRecv) (recvOf l)
-    (whenForm (keyAt l 0 kSave) (saveOf l)
-    (whenForm (keyAt l 0 kProcs) (procsOf l)
-    (whenForm (keyAt l 0 kFail) (failOf l) Malformed))))
+unfoldable pub lineSaid : List ℕ → Line
+lineSaid l =
+    cond (keyAt l 0 kSend) (sendSaid l)
+    (cond (keyAt l 0 kRecv) (recvSaid l)
+    (cond (keyAt l 0 kSave) (saveSaid l)
+    (cond (keyAt l 0 kProcs) (procsSaid l)
+    (cond (keyAt l 0 kFail) (failSaid l) Malformed))))

@@ -2,7 +2,7 @@
 // none of these. specs/Line says it for every line, specs/Render the text of an event and of a failure; proofs/OneLine
 // that a line says it exactly if it is that text. No public function has a `requires`. Assumes nothing.
 ghost use mathlib.Core.Path.{_≡_};
-ghost use Rattle.lines.specs.Line.{lineOf, procsOf, sendOf, recvOf, saveOf, failOf};
+ghost use Rattle.lines.specs.Line.{lineSaid, procsSaid, sendSaid, recvSaid, saveSaid, failSaid};
 use text::Num;
 
 // What a line says: a process count, a send, a receive, a checkpoint or a failure, each with its numbers; or none of
@@ -21,7 +21,7 @@ const MOST: u64 = 4294967295;
 const MOST_SET: u64 = 18446744073709551615;
 
 pub fn procs_line(line: &[u8]) -> Line
-    ensures { λ r. ⌜ r ≡ procsOf (now (line .entry)) ⌝ }
+    ensures { λ r. ⌜ r ≡ procsSaid (now (line .entry)) ⌝ }
 {
     let Num::Value(n, p) = text::number(line, 6, MOST) else {
         return Line::Malformed;
@@ -34,7 +34,7 @@ pub fn procs_line(line: &[u8]) -> Line
 }
 
 fn send_line(line: &[u8]) -> Line
-    ensures { λ r. ⌜ r ≡ sendOf (now (line .entry)) ⌝ }
+    ensures { λ r. ⌜ r ≡ sendSaid (now (line .entry)) ⌝ }
 {
     let Num::Value(a, p) = text::number(line, 11, MOST) else {
         return Line::Malformed;
@@ -59,7 +59,7 @@ fn send_line(line: &[u8]) -> Line
 }
 
 fn recv_line(line: &[u8]) -> Line
-    ensures { λ r. ⌜ r ≡ recvOf (now (line .entry)) ⌝ }
+    ensures { λ r. ⌜ r ≡ recvSaid (now (line .entry)) ⌝ }
 {
     let Num::Value(a, p) = text::number(line, 11, MOST) else {
         return Line::Malformed;
@@ -78,7 +78,7 @@ fn recv_line(line: &[u8]) -> Line
 }
 
 fn save_line(line: &[u8]) -> Line
-    ensures { λ r. ⌜ r ≡ saveOf (now (line .entry)) ⌝ }
+    ensures { λ r. ⌜ r ≡ saveSaid (now (line .entry)) ⌝ }
 {
     let Num::Value(a, p) = text::number(line, 11, MOST) else {
         return Line::Malformed;
@@ -91,7 +91,7 @@ fn save_line(line: &[u8]) -> Line
 }
 
 fn fail_line(line: &[u8]) -> Line
-    ensures { λ r. ⌜ r ≡ failOf (now (line .entry)) ⌝ }
+    ensures { λ r. ⌜ r ≡ failSaid (now (line .entry)) ⌝ }
 {
     let Num::Value(k, p) = text::number(line, 5, MOST) else {
         return Line::Malformed;
@@ -111,7 +111,7 @@ fn fail_line(line: &[u8]) -> Line
 
 // What a line says, by the key at its start.
 pub fn read_line(line: &[u8]) -> Line
-    ensures { λ r. ⌜ r ≡ lineOf (now (line .entry)) ⌝ }
+    ensures { λ r. ⌜ r ≡ lineSaid (now (line .entry)) ⌝ }
 {
     if text::key(line, 0, b"ev=send at=") {
         return send_line(line);

@@ -9,20 +9,21 @@ use borrow.Author.Tests.{eq-eqb}
 use Rattle.words.specs.Area.{areaWords}
 use Rattle.trace.specs.Trace.{Trace}
 use Rattle.theory.specs.Events.{send, size, at, kind, recvs, sent, recvOf}
-use Rattle.theory.specs.Epochs.{past}
-use Rattle.theory.specs.Line.{Run, recorded}
+use Rattle.theory.specs.Epochs.{ruleOf}
+use Rattle.theory.specs.Line.{Run, runAt}
 use Rattle.theory.proofs.Base.{place-le}
 use Rattle.theory.proofs.Events.{sends-of}
 use Rattle.theory.proofs.WellFormed.{valid}
 use Rattle.theory.proofs.Epochs.{laws}
-use Rattle.machine.specs.Words.{lowPlace, kindW, peerW, kindOf, lowOf, Bounded, Small}
-use Rattle.machine.specs.Related.{Started}
-use Rattle.links.specs.Linking.{linkedL, linkedA, beginA}
+use Rattle.machine.specs.Inner.Words.{lowPlace, kindBy, lowOf, Bounded, Small}
+use Rattle.columns.specs.Inner.Full.{kindW, peerW}
+use Rattle.machine.specs.Inner.Related.{Started}
+use Rattle.links.specs.Inner.Linking.{linkedL, linkedA, beginA}
 use Rattle.links.proofs.Passes.{linked-small}
 use Rattle.links.proofs.Columns.{few, count-is, kind-is, pair-lt, base, tested}
 use Rattle.links.proofs.Claims.{started}
-use Rattle.links.specs.Given.{Given}
-use Rattle.links.specs.Shapes.{PairedTo, Linkable}
+use Rattle.links.specs.Inner.Given.{Given}
+use Rattle.links.specs.Inner.Shapes.{PairedTo, Linkable}
 use Rattle.words.proofs.Area.{zero-word}
 
 pub zeros : (a b : List ℕ) → length a ≡ areaWords → b ≡ replicate (length a) 0 → b ≡ replicate areaWords 0
@@ -37,7 +38,7 @@ low-set full a b procs low ep el eb = rw (el, ep, eb)
 
 module _ (t : Trace) (line : ℕ → ℕ) (cut : ℕ) (full gates : List ℕ) (H : Given t line cut full gates) where
   abbrev R : Run
-  R = recorded t past cut line
+  R = runAt t cut line
 
   count : getD full 1 0 ≡ size t
   count = count-is t (H .formed) full (H .columns)
@@ -57,7 +58,7 @@ module _ (t : Trace) (line : ℕ → ℕ) (cut : ℕ) (full gates : List ℕ) (H
   pairs e h k =
       let le : e ≤ size t = omega (arith, k, count) in (
         λ c. let q = peerW full e in
-            let i : kind t e ≡ send q = kind-is t (H .formed) full (H .columns) e h le ∙ (unfold kindOf in rw (eq-eqb (kindW full e) 1 c)) in
+            let i : kind t e ≡ send q = kind-is t (H .formed) full (H .columns) e h le ∙ (unfold kindBy in rw (eq-eqb (kindW full e) 1 c)) in
             let m = H .columns .match-send (at t e) q e (sends-of t (at t e) q e refl i) h le in
             omega (arith, m, place-le (recvs t (at t e) q) (sent t (at t e) q e) (size t), few-events),
         λ c. omega (arith, (pair-lt t (H .formed) full (H .columns) e h le (eq-eqb (kindW full e) 2 c)) .1, few-events),
@@ -88,7 +89,7 @@ module _ (t : Trace) (line : ℕ → ℕ) (cut : ℕ) (full gates : List ℕ) (H
     pub small : Small (linksOf (getD full 1 0))
     small =
         rw count (linked-small R full gates cut few-events (tested t (H .formed) full (H .columns) cut line (H .cut-le) gates (H .gated)) l a l-long a-long l-zero a-zero
-        (laws t past (valid t (H .formed)) cut line (H .cut-le)) (base t (H .formed) full (H .columns) cut line (H .cut-le) gates (H .gated)))
+        (laws t (ruleOf t) (valid t (H .formed)) cut line (H .cut-le)) (base t (H .formed) full (H .columns) cut line (H .cut-le) gates (H .gated)))
 
     pub linkable : Linkable full a
     unfolding Bounded

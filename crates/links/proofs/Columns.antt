@@ -2,7 +2,7 @@
 -- are a base of the run (`base`), and the tests of the pass mean what they should (`tested`). From the columns of the
 -- full table alone, by Matches.
 use mathlib.Core.Path.{_≡_, refl, sym, _∙_, ap}
-use mathlib.Core.Bool.{true, false, _&&_, and-true, and-false}
+use mathlib.Core.Bool.{true, false, _&&_, and-true, and-false, cond}
 use mathlib.Core.List.{List, [], _∷_, _++_, map}
 use Prim.Native.Nat.{ℕ, zero, suc, _+_, _-_, _*_, _/_, _%_, _≤_, _<_}
 use native.Mathlib.Omega.{arith}
@@ -12,25 +12,27 @@ use borrow.Author.Tests.{leb-true, eqb-true, eqb-false, lt-ltb, le-leb, eq-eqb, 
 use Rattle.trace.specs.declared.Event.{Event}
 use Rattle.trace.specs.declared.Event.the-variants.{Send, Recv, Save}
 use Rattle.trace.specs.Trace.{Trace, valueOf}
-use Rattle.trace.specs.Fit.{faultOf, valueFits, allFit, wellFormed}
+use Rattle.trace.specs.Fit.{eventFault, valueFits, allFit, wellFormed}
 use Rattle.trace.specs.Table.{eventBase, valueBase, wordOf, valueWord, tableWord}
 use Rattle.table.proofs.Places.{word-procs, word-count, word-event, word-value}
-use Rattle.theory.specs.Lists.{pick}
 use Rattle.theory.specs.Events.{send, recv, other, processOf, size, eventAt, at, kind, sends, recvs, sent, rcvd, sendOf, recvOf, value}
-use Rattle.theory.specs.Epochs.{past, epochAt}
-use Rattle.theory.specs.Line.{Run, recorded}
+use Rattle.theory.specs.Epochs.{epochAt, ruleOf}
+use Rattle.theory.specs.Line.{Run, runAt}
 use Rattle.theory.specs.Replay.{gate, start}
-use Rattle.theory.specs.Laws.{Laws}
+use Rattle.theory.specs.Inner.Laws.{Laws}
 use Rattle.theory.proofs.Base.{by, clash, both, same2, place-there, place-le}
-use Rattle.theory.proofs.Events.{sendTo, sends-split, sends-is, recvs-is, sends-of, recvs-of, sendOf-at, partner}
+use Rattle.theory.proofs.Events.{sends-split, sends-is, recvs-is, sends-of, recvs-of, sendOf-at, partner}
+use Rattle.theory.specs.Inner.Flow.{sendTo}
 use Rattle.theory.proofs.WellFormed.{valid}
 use Rattle.theory.proofs.Epochs.{logged-is, laws}
-use Rattle.columns.specs.Columns.{Columns}
+use Rattle.columns.specs.Inner.Columns.{Columns}
 use Rattle.columns.proofs.Bounds.{phase-most, well-few}
-use Rattle.machine.specs.Words.{noPhase, kindW, peerW, valueW, numberW, kindOf}
-use Rattle.machine.specs.Related.{goes, drops, orph, numberAt, valueAt, Gated, Base}
-use Rattle.links.specs.Linking.{atW, epochW, pairW, backW, doneW, mineW, orphanW, goesW, earlyW}
-use Rattle.links.specs.Linked.{mine}
+use Rattle.machine.specs.Inner.Words.{noPhase, kindBy}
+use Rattle.columns.specs.Inner.Full.{kindW, peerW, valueW, numberW, atW, epochW, matchW}
+use Rattle.machine.specs.Inner.Related.{goes, drops, orph, Gated, Base}
+use Rattle.machine.specs.Taken.{takenNumber, takenValue}
+use Rattle.links.specs.Inner.Linking.{backW, doneW, mineW, orphanW, goesW, earlyW}
+use Rattle.links.specs.Inner.Linked.{mine}
 use Rattle.links.proofs.Passes.{Tested}
 use Rattle.links.proofs.Matches.{upTo, goes-test, orphan-test, slot-start}
 
@@ -56,9 +58,9 @@ module _ (a b k w : ℕ) (la : a < 64) (lb : b < 64) (e : w ≡ a % 64 + 64 * (b
 fit-values : (n : ℕ) (d : Event) (before es : List Event) → allFit n before es ≡ true → (i : ℕ) → i < length es → valueFits (getD es i d) ≡ true
 unfolding allFit
 fit-values n d before [] h i l = absurd (omega arith)
-fit-values n d before (e ∷ es) h zero l = (both (valueFits e) _ ((both (eqb (faultOf n before e) 0) _ h) .1)) .0
+fit-values n d before (e ∷ es) h zero l = (both (valueFits e) _ ((both (eqb (eventFault n before e) 0) _ h) .1)) .0
 fit-values n d before (e ∷ es) h (suc i) l =
-    fit-values n d (before ++ e ∷ []) es ((both (valueFits e) _ ((both (eqb (faultOf n before e) 0) _ h) .1)) .1) i (omega arith)
+    fit-values n d (before ++ e ∷ []) es ((both (valueFits e) _ ((both (eqb (eventFault n before e) 0) _ h) .1)) .1) i (omega arith)
 
 value-lt : (e : Event) → valueFits e ≡ true → valueOf e < 4294967296
 value-lt (Send a b v) h = omega (arith, leb-true v 4294967295 h)
@@ -122,10 +124,10 @@ module _ (t : Trace) (wf : wellFormed t ≡ true) where
     value-at e h k = C .words (valueBase + e) (omega (arith, few)) ∙ plane e h k ∙ value-word e h k
 
     abbrev Told : ℕ → Type 0
-    Told e = (atW full e ≡ at t e) × (kind t e ≡ kindOf (kindW full e) (peerW full e))
+    Told e = (atW full e ≡ at t e) × (kind t e ≡ kindBy (kindW full e) (peerW full e))
 
     told : (e : ℕ) → 0 < e → e ≤ size t → (v : Event) → eventAt t e ≡ v → Told e
-    unfolding kindOf
+    unfolding kindBy
     told e h k (Send a b v) i =
         let A = valid t wf in
         let w : getD full (eventBase + e) 0 ≡ a % 64 + 64 * (b % 64) + 4096 = word-at e h k ∙ ap wordOf i in
@@ -161,7 +163,7 @@ module _ (t : Trace) (wf : wellFormed t ≡ true) where
     pub at-is : (e : ℕ) → 0 < e → e ≤ size t → atW full e ≡ at t e
     at-is e h k = (told e h k (eventAt t e) refl) .0
 
-    pub kind-is : (e : ℕ) → 0 < e → e ≤ size t → kind t e ≡ kindOf (kindW full e) (peerW full e)
+    pub kind-is : (e : ℕ) → 0 < e → e ≤ size t → kind t e ≡ kindBy (kindW full e) (peerW full e)
     kind-is e h k = (told e h k (eventAt t e) refl) .1
 
     -- the value of a send is that of its message
@@ -170,43 +172,43 @@ module _ (t : Trace) (wf : wellFormed t ≡ true) where
     send-value p q e s h k = value-at e h k ∙ ap (λ d. valueOf (eventAt t d)) (sym (sendOf-at t p q e s h k))
 
     -- and the value of the match of a receive is that of the message received
-    recv-value : (p q e : ℕ) → recvs t p q e ≡ true → 0 < e → e ≤ size t → valueW full (pairW full e) ≡ value t p q (rcvd t p q e)
+    recv-value : (p q e : ℕ) → recvs t p q e ≡ true → 0 < e → e ≤ size t → valueW full (matchW full e) ≡ value t p q (rcvd t p q e)
     unfolding value
     recv-value p q e s h k =
         let d = partner t ((valid t wf) .causal) p q e s h k in
-        let m : pairW full e ≡ d .0 = C .match-recv p q e s h k ∙ ap (sendOf t p q) (sym (d .4)) ∙ sendOf-at t p q (d .0) (d .3) (d .1) (omega (arith, d .2)) in
+        let m : matchW full e ≡ d .0 = C .match-recv p q e s h k ∙ ap (sendOf t p q) (sym (d .4)) ∙ sendOf-at t p q (d .0) (d .3) (d .1) (omega (arith, d .2)) in
         ap (valueW full) m ∙ value-at (d .0) (d .1) (omega (arith, d .2)) ∙ ap (λ x. valueOf (eventAt t x)) (sym m ∙ C .match-recv p q e s h k)
 
     pub count-is : getD full 1 0 ≡ size t
     count-is = C .words 1 (omega arith) ∙ word-count t
 
     kind-recv : (e : ℕ) → 0 < e → e ≤ size t → eqb (kindW full e) 2 ≡ true → kind t e ≡ recv (peerW full e)
-    unfolding kindOf
+    unfolding kindBy
     kind-recv e h k d =
         let c : eqb (kindW full e) 1 ≡ false = ne-eqb (kindW full e) 1 (λ w. let x = eqb-true (kindW full e) 2 d in omega arith) in
         kind-is e h k ∙ rw (c, d)
 
     kind-no-recv : (e : ℕ) → 0 < e → e ≤ size t → eqb (kindW full e) 2 ≡ false → (p : ℕ) → kind t e ≡ recv p → ⊥
-    unfolding kindOf
+    unfolding kindBy
     kind-no-recv e h k d p c = by (eqb (kindW full e) 1)
         (λ u. let w : kind t e ≡ send (peerW full e) = kind-is e h k ∙ rw u in let z : _≡_ {A = ℕ} 0 1 = cc in omega arith)
         (λ u. let w : kind t e ≡ other = kind-is e h k ∙ rw (u, d) in let z : _≡_ {A = ℕ} 0 1 = cc in omega arith)
 
     -- the match of a receive is an event before it
-    pub pair-lt : (e : ℕ) → 0 < e → e ≤ size t → eqb (kindW full e) 2 ≡ true → (0 < pairW full e) × (pairW full e < e)
+    pub pair-lt : (e : ℕ) → 0 < e → e ≤ size t → eqb (kindW full e) 2 ≡ true → (0 < matchW full e) × (matchW full e < e)
     pair-lt e h k d =
         let p = peerW full e in
         let r = recvs-of t p (at t e) e refl (kind-recv e h k d) in
         let f = partner t ((valid t wf) .causal) p (at t e) e r h k in
-        let m : pairW full e ≡ f .0 = C .match-recv p (at t e) e r h k ∙ ap (sendOf t p (at t e)) (sym (f .4)) ∙ sendOf-at t p (at t e) (f .0) (f .3) (f .1) (omega (arith, f .2)) in
+        let m : matchW full e ≡ f .0 = C .match-recv p (at t e) e r h k ∙ ap (sendOf t p (at t e)) (sym (f .4)) ∙ sendOf-at t p (at t e) (f .0) (f .3) (f .1) (omega (arith, f .2)) in
         (omega (arith, m, f .1), omega (arith, m, f .2))
 
     module _ (cut : ℕ) (line : ℕ → ℕ) (cl : cut ≤ size t) where
       abbrev R : Run
-      R = recorded t past cut line
+      R = runAt t cut line
 
       L : Laws R
-      L = laws t past (valid t wf) cut line cl
+      L = laws t (ruleOf t) (valid t wf) cut line cl
 
       phase-lt : (z x : ℕ) → x ≤ size t → R .phase z x < noPhase
       phase-lt z x h = omega (arith, phase-most t (valid t wf) z x h, few)
@@ -246,13 +248,13 @@ module _ (t : Trace) (wf : wellFormed t ≡ true) where
           z-in = omega (arith, L .process-lt e h k, zi)
 
           kind-one : eqb (kindW full e) 1 ≡ true → kind t e ≡ send q
-          kind-one c = kind-is e h k ∙ (unfold kindOf in rw c)
+          kind-one c = kind-is e h k ∙ (unfold kindBy in rw c)
 
           kind-two : eqb (kindW full e) 1 ≡ false → eqb (kindW full e) 2 ≡ true → kind t e ≡ recv q
-          kind-two n c = kind-is e h k ∙ (unfold kindOf in rw (n, c))
+          kind-two n c = kind-is e h k ∙ (unfold kindBy in rw (n, c))
 
           kind-none : eqb (kindW full e) 1 ≡ false → eqb (kindW full e) 2 ≡ false → kind t e ≡ other
-          kind-none n c = kind-is e h k ∙ (unfold kindOf in rw (n, c))
+          kind-none n c = kind-is e h k ∙ (unfold kindBy in rw (n, c))
 
           is-mine : mineW full g e ≡ ltb (R .restart z) e
           is-mine = rw (G .places z z-in)
@@ -268,7 +270,7 @@ module _ (t : Trace) (wf : wellFormed t ≡ true) where
             abbrev m : ℕ
             m = recvOf t z q (sent t z q e)
 
-            pair-is : pairW full e ≡ m
+            pair-is : matchW full e ≡ m
             pair-is = C .match-send z q e on-channel h k
 
             back-is : backW full g e ≡ upTo m (R .restart q)
@@ -279,19 +281,19 @@ module _ (t : Trace) (wf : wellFormed t ≡ true) where
             unfolding doneW
             done-is = rw pair-is
 
-            logs : doneW full cut e ≡ true → ltb (epochW full e) (epochW full (pairW full e)) ≡ R .logged z q (sent t z q e)
+            logs : doneW full cut e ≡ true → ltb (epochW full e) (epochW full (matchW full e)) ≡ R .logged z q (sent t z q e)
             unfolding doneW recvOf rcvd
             logs d =
-                let n0 : eqb (pairW full e) 0 ≡ false = by (eqb (pairW full e) 0) (λ u. clash {b = false} (rw u at d) refl) (λ u. u) in
-                let m-pos : 0 < m = omega (arith, eqb-false (pairW full e) 0 n0, pair-is) in
+                let n0 : eqb (matchW full e) 0 ≡ false = by (eqb (matchW full e) 0) (λ u. clash {b = false} (rw u at d) refl) (λ u. u) in
+                let m-pos : 0 < m = omega (arith, eqb-false (matchW full e) 0 n0, pair-is) in
                 let r = place-there (recvs t z q) (sent t z q e) (size t) m-pos in
                 let m-le : m ≤ size t = place-le (recvs t z q) (sent t z q e) (size t) in
                 let mq : at t m ≡ q = (recvs-is t z q m (r .0)) .0 in
-                let a : epochW full e ≡ epochAt t past z e = C .epoch e h k ∙ ap (λ y. epochAt t past y e) zi in
-                let b : epochW full (pairW full e) ≡ epochAt t past q m = ap (epochW full) pair-is ∙ C .epoch m m-pos m-le ∙ ap (λ y. epochAt t past y m) mq in
-                rw (a, b) (sym (logged-is t past z q e m on-channel (r .0) h m-pos k m-le (sym (r .1))))
+                let a : epochW full e ≡ epochAt t (ruleOf t) z e = C .epoch e h k ∙ ap (λ y. epochAt t (ruleOf t) y e) zi in
+                let b : epochW full (matchW full e) ≡ epochAt t (ruleOf t) q m = ap (epochW full) pair-is ∙ C .epoch m m-pos m-le ∙ ap (λ y. epochAt t (ruleOf t) y m) mq in
+                rw (a, b) (sym (logged-is t (ruleOf t) z q e m on-channel (r .0) h m-pos k m-le (sym (r .1))))
 
-            goes-is : goes R z q e ≡ pick (backW full g e) false (pick (mineW full g e) true (pick (doneW full cut e) (ltb (epochW full e) (epochW full (pairW full e))) true))
+            goes-is : goes R z q e ≡ cond (backW full g e) false (cond (mineW full g e) true (cond (doneW full cut e) (ltb (epochW full e) (epochW full (matchW full e))) true))
             goes-is =
                 goes-test R L z q e on-channel h k
                 ∙ rw (back-is, is-mine, done-is) (by (upTo m cut)
@@ -332,8 +334,8 @@ module _ (t : Trace) (wf : wellFormed t ≡ true) where
           in-e : (ltb 0 e && leb e (size t)) ≡ true
           in-e = rw (lt-ltb 0 e h, le-leb e (size t) k)
 
-          is-record : (pick (earlyW full g e) (numberW full e) 0 ≡ numberAt R (start R) e) × (pick (earlyW full g e) (valueW full (pairW full e)) 0 ≡ valueAt R (start R) e)
-          unfolding earlyW numberAt valueAt
+          is-record : (cond (earlyW full g e) (numberW full e) 0 ≡ takenNumber R (start R) e) × (cond (earlyW full g e) (valueW full (matchW full e)) 0 ≡ takenValue R (start R) e)
+          unfolding earlyW takenNumber takenValue
           is-record = rw in-e (by (eqb (kindW full e) 2)
               (λ d. let c : eqb (kindW full e) 1 ≡ false = ne-eqb (kindW full e) 1 (λ w. two-one (eqb-true (kindW full e) 2 d) w) in
               let kk = kind-two c d in

@@ -2,7 +2,7 @@
 -- From the laws of the run.
 use mathlib.Core.Path.{_≡_, refl, sym, _∙_, ap}
 use mathlib.Core.Logic.{_≢_}
-use mathlib.Core.Bool.{Bool, true, false, _&&_}
+use mathlib.Core.Bool.{Bool, true, false, _&&_, cond}
 use mathlib.Core.List.{List, [], _∷_, _++_, map}
 use Prim.Native.Nat.{ℕ, _+_, _-_, _*_, _≤_, _<_}
 use native.Mathlib.Omega.{arith}
@@ -10,20 +10,22 @@ use lib.ListN.{length, length-set, getD, set}
 use lib.Seq.{getD-set-same, getD-set-other}
 use lib.Dec.{leb, ltb, eqb}
 use borrow.Author.Tests.{lt-ltb, le-leb, lt-leb}
-use Rattle.theory.specs.Lists.{pick, iv, keep, cnt}
+use Rattle.theory.specs.Lists.{iv, keep, cnt}
 use Rattle.theory.specs.Events.{size, at, kind, sends, sent}
 use Rattle.theory.specs.Line.{Run, kept}
 use Rattle.theory.specs.Replay.{listed, keptOn, start}
-use Rattle.theory.specs.Laws.{Laws}
+use Rattle.theory.specs.Inner.Laws.{Laws}
 use Rattle.theory.proofs.Base.{by, eqb-self, iv-append, keep-append, keep-keep, keep-iv-cong, keep-above, cnt-iv, map-cnt}
-use Rattle.theory.proofs.Events.{sendTo, sends-split}
-use Rattle.theory.proofs.Classes.{rBefore, sBefore, keptb, restart-n, kept-counts, kept-list}
-use Rattle.theory.proofs.Flow.{ahead}
+use Rattle.theory.proofs.Events.{sends-split}
+use Rattle.theory.specs.Inner.Flow.{sendTo, rBefore, sBefore, keptb, ahead}
+use Rattle.theory.proofs.Classes.{restart-n, kept-counts, kept-list}
 use Rattle.theory.proofs.Loss.{inv-start}
-use Rattle.machine.specs.Words.{takenBase, currentBase, orphanBase, takeBase, putBase, lowPlace, orpW, lowOf}
-use Rattle.machine.specs.Related.{head0, goes, evs, orph, numberAt, valueAt, Base, Cols, Rel}
-use Rattle.links.specs.Linking.{beginA}
-use Rattle.links.specs.Linked.{mine, rest, Chained}
+use Rattle.machine.specs.Taken.{takenBase, takenNumber, takenValue}
+use Rattle.machine.specs.Inner.Words.{currentBase, orphanBase, takeBase, putBase, lowPlace, orpW, lowOf}
+use Rattle.theory.specs.Inner.Lists.{head0}
+use Rattle.machine.specs.Inner.Related.{goes, evs, orph, Base, Cols, Rel}
+use Rattle.links.specs.Inner.Linking.{beginA}
+use Rattle.links.specs.Inner.Linked.{mine, rest, Chained}
 use Rattle.machine.proofs.Facts.{ready-low}
 
 map-keep : (f : ℕ → ℕ) (g : ℕ → Bool) (l : List ℕ) → keep g (map f l) ≡ map f (keep (λ x. g (f x)) l)
@@ -133,17 +135,17 @@ module _ (R : Run) (L : Laws R) where
             tk-is = far (takeBase + (64 * p + q)) (λ q. omega arith) ∙ H .takes p q hp hq;
             pt-is = far (putBase + (64 * p + q)) (λ q. omega arith) ∙ H .puts p q hp hq;
           };
-          num = λ e h. far e (λ q. omega arith) ∙ H .num e h ∙ slot e (numberAt R (start R)) (n0 e);
-          val = λ e h. far (takenBase + e) (λ q. omega arith) ∙ H .val e h ∙ slot e (valueAt R (start R)) (v0 e);
+          num = λ e h. far e (λ q. omega arith) ∙ H .num e h ∙ slot e (takenNumber R (start R)) (n0 e);
+          val = λ e h. far (takenBase + e) (λ q. omega arith) ∙ H .val e h ∙ slot e (takenValue R (start R)) (v0 e);
           gap = λ k h j. far k (λ q. omega arith) ∙ H .gap k h j;
           beyond = λ k h. far k (λ q. omega arith) ∙ H .beyond k h;
         }
       where
-        slot : (e : ℕ) (f : ℕ → ℕ) → (ltb 0 e ≡ false → f e ≡ 0) → pick (ltb 0 e) (f e) 0 ≡ f e
+        slot : (e : ℕ) (f : ℕ → ℕ) → (ltb 0 e ≡ false → f e ≡ 0) → cond (ltb 0 e) (f e) 0 ≡ f e
         slot e f h = by (ltb 0 e) (λ t. rw t) (λ t. rw t (sym (h t)))
 
-        n0 : (e : ℕ) → ltb 0 e ≡ false → numberAt R (start R) e ≡ 0
-        n0 e h = unfold numberAt in rw h
+        n0 : (e : ℕ) → ltb 0 e ≡ false → takenNumber R (start R) e ≡ 0
+        n0 e h = unfold takenNumber in rw h
 
-        v0 : (e : ℕ) → ltb 0 e ≡ false → valueAt R (start R) e ≡ 0
-        v0 e h = unfold valueAt in rw h
+        v0 : (e : ℕ) → ltb 0 e ≡ false → takenValue R (start R) e ≡ 0
+        v0 e h = unfold takenValue in rw h

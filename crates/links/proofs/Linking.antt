@@ -2,7 +2,7 @@
 -- what the tests of the pass mean at the event (`Tests`).
 use mathlib.Core.Path.{_≡_, refl, sym, _∙_, ap, subst}
 use mathlib.Core.Logic.{_≢_}
-use mathlib.Core.Bool.{Bool, true, false, _&&_, and-true, and-false}
+use mathlib.Core.Bool.{Bool, true, false, _&&_, and-true, and-false, cond}
 use mathlib.Core.List.{List, [], _∷_}
 use Prim.Native.Nat.{ℕ, zero, suc, _+_, _-_, _*_, _≤_, _<_}
 use native.Mathlib.Omega.{arith}
@@ -10,22 +10,24 @@ use lib.ListN.{length, length-set, getD, set}
 use lib.Seq.{getD-set-same, getD-set-other}
 use lib.Dec.{ltb, eqb}
 use borrow.Author.Tests.{ltb-true, ltb-false, eqb-true, eqb-false, lt-ltb, le-ltb, eq-eqb, ne-eqb}
-use Rattle.theory.specs.Lists.{pick, iv, keep}
+use Rattle.theory.specs.Lists.{iv, keep}
 use Rattle.theory.specs.Events.{size, at}
 use Rattle.theory.specs.Line.{Run}
 use Rattle.theory.specs.Replay.{start}
 use Rattle.theory.proofs.Base.{by, on, clash, le?, both, same2}
-use Rattle.machine.specs.Words.{takenBase, currentBase, orphanBase, takeBase, putBase, curW, orpW, takeW, putW, Small}
-use Rattle.machine.specs.Related.{head0, recordEnd, goes, evs, orph, numberAt, valueAt}
-use Rattle.links.specs.Linking.{chainA}
-use Rattle.links.specs.Linked.{mine, rest, Chained}
+use Rattle.machine.specs.Taken.{takenBase, recordEnd, takenNumber, takenValue}
+use Rattle.machine.specs.Inner.Words.{currentBase, orphanBase, takeBase, putBase, curW, orpW, takeW, putW, Small}
+use Rattle.theory.specs.Inner.Lists.{head0}
+use Rattle.machine.specs.Inner.Related.{goes, evs, orph}
+use Rattle.links.specs.Inner.Linking.{chainA}
+use Rattle.links.specs.Inner.Linked.{mine, rest, Chained}
 
 far-A : (b : Bool) (a : List ℕ) (k v j : ℕ) → j ≢ k → getD (chainA b a k v) j 0 ≡ getD a j 0
 unfolding chainA
 far-A true a k v j n = getD-set-other a k j v 0 n
 far-A false a k v j n = refl
 
-at-A : (b : Bool) (a : List ℕ) (k v : ℕ) → k < length a → getD (chainA b a k v) k 0 ≡ pick b v (getD a k 0)
+at-A : (b : Bool) (a : List ℕ) (k v : ℕ) → k < length a → getD (chainA b a k v) k 0 ≡ cond b v (getD a k 0)
 unfolding chainA
 at-A true a k v h = getD-set-same a k v 0 h
 at-A false a k v h = refl
@@ -36,7 +38,7 @@ len-A true a k v = length-set a k v
 len-A false a k v = refl
 
 module _ (R : Run) where
-  pub head-step : (f : ℕ → Bool) (x : ℕ) → x < size (R .trace) → head0 (rest R f x) ≡ pick (f (suc x)) (suc x) (head0 (rest R f (suc x)))
+  pub head-step : (f : ℕ → Bool) (x : ℕ) → x < size (R .trace) → head0 (rest R f x) ≡ cond (f (suc x)) (suc x) (head0 (rest R f (suc x)))
   unfolding keep iv
   head-step f x h =
       let e : size (R .trace) - x ≡ suc (size (R .trace) - suc x) = omega arith in
@@ -50,8 +52,8 @@ module _ (R : Run) where
     pub is-mine : f₁ ≡ ltb (R .restart z) e
     pub is-orphan : f₂ ≡ (mine R z e && orph R z e)
     pub is-goes : (p r : ℕ) → goes R p r e ≡ ((eqb p z && eqb r q) && f₃)
-    pub is-number : pick f₄ k 0 ≡ numberAt R (start R) e
-    pub is-value : pick f₄ v 0 ≡ valueAt R (start R) e
+    pub is-number : cond f₄ k 0 ≡ takenNumber R (start R) e
+    pub is-value : cond f₄ v 0 ≡ takenValue R (start R) e
 
   abbrev pub stepL : List ℕ → List ℕ → ℕ → ℕ → ℕ → Bool → Bool → Bool → List ℕ
   stepL l a e z q f₁ f₂ f₃ =
@@ -141,15 +143,15 @@ module _ (R : Run) where
       n₆,
       (λ y hy. rw (head-step (mine R y) x x-lt, mine-is y) (by (eqb y z)
           (λ t. let i : y ≡ z = eqb-true y z t in
-          rw (t, i) (process-far (currentBase + z) (omega arith) (omega (arith, zl)) ∙ far-A f₂ a₁ (orphanBase + z) e (currentBase + z) (λ w. omega arith) ∙ at-A f₁ a (currentBase + z) e (omega (arith, H .a-long, zl)) ∙ ap (pick f₁ e) (H .cur z zl)))
+          rw (t, i) (process-far (currentBase + z) (omega arith) (omega (arith, zl)) ∙ far-A f₂ a₁ (orphanBase + z) e (currentBase + z) (λ w. omega arith) ∙ at-A f₁ a (currentBase + z) e (omega (arith, H .a-long, zl)) ∙ ap (cond f₁ e) (H .cur z zl)))
           (λ t. rw t (process-far (currentBase + y) (omega arith) (omega arith) ∙ far-A f₂ a₁ (orphanBase + z) e (currentBase + y) (λ w. omega arith) ∙ far-A f₁ a (currentBase + z) e (currentBase + y) (λ w. eqb-false y z t (omega arith)) ∙ H .cur y hy)))),
       (λ y hy. rw (head-step (λ d. mine R y d && orph R y d) x x-lt, orph-is y) (by (eqb y z)
           (λ t. let i : y ≡ z = eqb-true y z t in
-          rw (t, i) (process-far (orphanBase + z) (omega arith) (omega (arith, zl)) ∙ at-A f₂ a₁ (orphanBase + z) e (omega (arith, n₁, zl)) ∙ ap (pick f₂ e) (far-A f₁ a (currentBase + z) e (orphanBase + z) (λ w. omega (arith, zl)) ∙ H .orp z zl)))
+          rw (t, i) (process-far (orphanBase + z) (omega arith) (omega (arith, zl)) ∙ at-A f₂ a₁ (orphanBase + z) e (omega (arith, n₁, zl)) ∙ ap (cond f₂ e) (far-A f₁ a (currentBase + z) e (orphanBase + z) (λ w. omega (arith, zl)) ∙ H .orp z zl)))
           (λ t. rw t (process-far (orphanBase + y) (omega arith) (omega arith) ∙ far-A f₂ a₁ (orphanBase + z) e (orphanBase + y) (λ w. eqb-false y z t (omega arith)) ∙ far-A f₁ a (currentBase + z) e (orphanBase + y) (λ w. omega (arith, zl)) ∙ H .orp y hy)))),
     )
 
-    evs-step : (p r : ℕ) → head0 (evs R p r x) ≡ pick ((eqb p z && eqb r q) && f₃) e (head0 (evs R p r e))
+    evs-step : (p r : ℕ) → head0 (evs R p r x) ≡ cond ((eqb p z && eqb r q) && f₃) e (head0 (evs R p r e))
     unfolding evs
     evs-step p r = rw (← Q .is-goes p r) (head-step (goes R p r) x x-lt)
 
@@ -163,7 +165,7 @@ module _ (R : Run) where
     chain-put p r hp hr = rw (evs-step p r) (by (eqb p z && eqb r q)
         (λ t. let b = same2 p z r q t in
         rw (t, b .0, b .1) (top (putBase + c) (omega arith) ∙ far-A f₃ a₃ (takeBase + c) e (putBase + c) (λ w. omega arith) ∙ at-A f₃ a₂ (putBase + c) e (omega (arith, n₂, zl, ql))
-        ∙ ap (pick f₃ e) (chan-far (putBase + c) (omega arith) ∙ H .puts z q zl ql)))
+        ∙ ap (cond f₃ e) (chan-far (putBase + c) (omega arith) ∙ H .puts z q zl ql)))
         (λ t. rw t (top (putBase + (64 * p + r)) (omega arith) ∙ far-A f₃ a₃ (takeBase + c) e (putBase + (64 * p + r)) (λ w. omega (arith, zl, ql))
         ∙ far-A f₃ a₂ (putBase + c) e (putBase + (64 * p + r)) (λ w. far-channel p r hr t (omega arith)) ∙ chan-far (putBase + (64 * p + r)) (omega arith) ∙ H .puts p r hp hr)))
 
@@ -171,31 +173,31 @@ module _ (R : Run) where
     chain-take p r hp hr = rw (evs-step p r) (by (eqb p z && eqb r q)
         (λ t. let b = same2 p z r q t in
         rw (t, b .0, b .1) (top (takeBase + c) (omega arith) ∙ at-A f₃ a₃ (takeBase + c) e (omega (arith, n₃, zl, ql))
-        ∙ ap (pick f₃ e) (far-A f₃ a₂ (putBase + c) e (takeBase + c) (λ w. omega arith) ∙ chan-far (takeBase + c) (omega arith) ∙ H .takes z q zl ql)))
+        ∙ ap (cond f₃ e) (far-A f₃ a₂ (putBase + c) e (takeBase + c) (λ w. omega arith) ∙ chan-far (takeBase + c) (omega arith) ∙ H .takes z q zl ql)))
         (λ t. rw t (top (takeBase + (64 * p + r)) (omega arith) ∙ far-A f₃ a₃ (takeBase + c) e (takeBase + (64 * p + r)) (λ w. far-channel p r hr t (omega arith))
         ∙ far-A f₃ a₂ (putBase + c) e (takeBase + (64 * p + r)) (λ w. omega arith) ∙ chan-far (takeBase + (64 * p + r)) (omega arith) ∙ H .takes p r hp hr)))
 
     -- the record
-    slot : (b : Bool) (y m : ℕ) (g : ℕ → ℕ) → y ≢ e → pick (ltb (suc x) y) (g y) 0 ≡ pick (ltb x y) (g y) 0
+    slot : (b : Bool) (y m : ℕ) (g : ℕ → ℕ) → y ≢ e → cond (ltb (suc x) y) (g y) 0 ≡ cond (ltb x y) (g y) 0
     slot b y m g n = by (ltb x y)
         (λ t. rw (t, lt-ltb (suc x) y (omega (arith, ltb-true x y t))))
         (λ t. rw (t, le-ltb (suc x) y (omega (arith, ltb-false x y t))))
 
-    chain-num : (y : ℕ) → y < 2049 → getD a₆ y 0 ≡ pick (ltb x y) (numberAt R (start R) y) 0
+    chain-num : (y : ℕ) → y < 2049 → getD a₆ y 0 ≡ cond (ltb x y) (takenNumber R (start R) y) 0
     chain-num y hy = by (eqb y e)
         (λ t. let i : y ≡ e = eqb-true y e t in
         rw (i, lt-ltb x e (omega arith)) (far-A f₄ a₅ (takenBase + e) v e (λ w. omega arith) ∙ at-A f₄ a₄ e k (omega (arith, n₄, n-le))
-        ∙ ap (pick f₄ k) (record-far e (omega (arith, n-le)) ∙ H .num e (omega (arith, n-le)) ∙ rw (le-ltb e e (omega arith))) ∙ Q .is-number))
+        ∙ ap (cond f₄ k) (record-far e (omega (arith, n-le)) ∙ H .num e (omega (arith, n-le)) ∙ rw (le-ltb e e (omega arith))) ∙ Q .is-number))
         (λ t. let n = eqb-false y e t in
-        far-A f₄ a₅ (takenBase + e) v y (λ w. omega arith) ∙ far-A f₄ a₄ e k y n ∙ record-far y (omega arith) ∙ H .num y hy ∙ slot true y 0 (numberAt R (start R)) n)
+        far-A f₄ a₅ (takenBase + e) v y (λ w. omega arith) ∙ far-A f₄ a₄ e k y n ∙ record-far y (omega arith) ∙ H .num y hy ∙ slot true y 0 (takenNumber R (start R)) n)
 
-    chain-val : (y : ℕ) → y < 2049 → getD a₆ (takenBase + y) 0 ≡ pick (ltb x y) (valueAt R (start R) y) 0
+    chain-val : (y : ℕ) → y < 2049 → getD a₆ (takenBase + y) 0 ≡ cond (ltb x y) (takenValue R (start R) y) 0
     chain-val y hy = by (eqb y e)
         (λ t. let i : y ≡ e = eqb-true y e t in
         rw (i, lt-ltb x e (omega arith)) (at-A f₄ a₅ (takenBase + e) v (omega (arith, n₅, n-le))
-        ∙ ap (pick f₄ v) (far-A f₄ a₄ e k (takenBase + e) (λ w. omega arith) ∙ record-far (takenBase + e) (omega (arith, n-le)) ∙ H .val e (omega (arith, n-le)) ∙ rw (le-ltb e e (omega arith))) ∙ Q .is-value))
+        ∙ ap (cond f₄ v) (far-A f₄ a₄ e k (takenBase + e) (λ w. omega arith) ∙ record-far (takenBase + e) (omega (arith, n-le)) ∙ H .val e (omega (arith, n-le)) ∙ rw (le-ltb e e (omega arith))) ∙ Q .is-value))
         (λ t. let n = eqb-false y e t in
-        far-A f₄ a₅ (takenBase + e) v (takenBase + y) (λ w. n (omega arith)) ∙ far-A f₄ a₄ e k (takenBase + y) (λ w. omega (arith, n-le)) ∙ record-far (takenBase + y) (omega arith) ∙ H .val y hy ∙ slot true y 0 (valueAt R (start R)) n)
+        far-A f₄ a₅ (takenBase + e) v (takenBase + y) (λ w. n (omega arith)) ∙ far-A f₄ a₄ e k (takenBase + y) (λ w. omega (arith, n-le)) ∙ record-far (takenBase + y) (omega arith) ∙ H .val y hy ∙ slot true y 0 (takenValue R (start R)) n)
 
     -- the links
     abbrev l₁ : List ℕ

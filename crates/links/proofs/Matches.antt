@@ -1,23 +1,24 @@
 -- What the tests of the pass mean, where each event's match is that of its message: received up to an event, gone
 -- through its channel, an orphan, the record at the start. From the laws of the run, by counts.
 use mathlib.Core.Path.{_≡_, refl, sym, _∙_, ap}
-use mathlib.Core.Bool.{Bool, true, false, _&&_}
+use mathlib.Core.Bool.{Bool, true, false, _&&_, cond}
 use mathlib.Core.List.{List, [], _∷_, map}
 use Prim.Native.Nat.{ℕ, zero, suc, _+_, _-_, _≤_, _<_}
 use native.Mathlib.Omega.{arith}
 use lib.ListN.{length, length-map, getD}
 use lib.Dec.{leb, ltb, eqb}
 use borrow.Author.Tests.{leb-true, leb-false, ltb-true, ltb-false, eqb-true, eqb-false, lt-ltb, le-ltb, le-leb, lt-leb}
-use Rattle.theory.specs.Lists.{pick, iv}
+use Rattle.theory.specs.Lists.{iv}
 use Rattle.theory.specs.Events.{send, size, kind, sends, recvs, sent, rcvd, recvOf, value}
 use Rattle.theory.specs.Line.{Run}
 use Rattle.theory.specs.Replay.{takenBy}
-use Rattle.theory.specs.Laws.{Laws}
+use Rattle.theory.specs.Inner.Laws.{Laws}
 use Rattle.theory.proofs.Base.{by, on, le?, length-iv, place-by}
 use Rattle.theory.proofs.Events.{sent-le, sent-lt, rcvd-le, rcvd-lt}
-use Rattle.theory.proofs.Classes.{rBefore, rCut, sBefore, restart-n, kept-counts}
+use Rattle.theory.proofs.Classes.{restart-n, kept-counts}
+use Rattle.theory.specs.Inner.Flow.{rBefore, rCut, sBefore}
 use Rattle.theory.proofs.Loss.{taken-iv}
-use Rattle.machine.specs.Related.{goes, drops, orph}
+use Rattle.machine.specs.Inner.Related.{goes, drops, orph}
 
 pub getD-iv : (x r k : ℕ) → k < r → getD (iv x r) k 0 ≡ suc (x + k)
 unfolding iv
@@ -37,7 +38,7 @@ getD-past (x ∷ xs) (suc k) h = getD-past xs k (omega arith)
 
 -- received up to event x: the receive is there and not after x
 abbrev pub upTo : ℕ → ℕ → Bool
-upTo m x = pick (eqb m 0) false (leb m x)
+upTo m x = cond (eqb m 0) false (leb m x)
 
 upTo-is : (m x : ℕ) → upTo m x ≡ (ltb 0 m && leb m x)
 upTo-is m x = by (eqb m 0)
@@ -55,8 +56,8 @@ module _ (R : Run) (L : Laws R) where
 
   -- does its message go through the channel
   pub goes-test : (z q e : ℕ) → sends (R .trace) z q e ≡ true → 0 < e → e ≤ size (R .trace)
-      → goes R z q e ≡ pick (upTo (recvOf (R .trace) z q (sent (R .trace) z q e)) (R .restart q)) false
-      (pick (ltb (R .restart z) e) true (pick (upTo (recvOf (R .trace) z q (sent (R .trace) z q e)) (R .cut)) (R .logged z q (sent (R .trace) z q e)) true))
+      → goes R z q e ≡ cond (upTo (recvOf (R .trace) z q (sent (R .trace) z q e)) (R .restart q)) false
+      (cond (ltb (R .restart z) e) true (cond (upTo (recvOf (R .trace) z q (sent (R .trace) z q e)) (R .cut)) (R .logged z q (sent (R .trace) z q e)) true))
   unfolding goes
   goes-test z q e s h n =
       let k = sent (R .trace) z q e in
@@ -84,8 +85,8 @@ module _ (R : Run) (L : Laws R) where
 
   -- the record slot of a receive at the start: its own message where it is before the restart, else nothing
   pub slot-start : (p z e : ℕ) → 0 < e → recvs (R .trace) p z e ≡ true
-      → (pick (leb e (R .restart z)) (rcvd (R .trace) p z e) 0 ≡ getD (takenBy R p z (R .restart z)) (rcvd (R .trace) p z e - 1) 0)
-      × (pick (leb e (R .restart z)) (value (R .trace) p z (rcvd (R .trace) p z e)) 0
+      → (cond (leb e (R .restart z)) (rcvd (R .trace) p z e) 0 ≡ getD (takenBy R p z (R .restart z)) (rcvd (R .trace) p z e - 1) 0)
+      × (cond (leb e (R .restart z)) (value (R .trace) p z (rcvd (R .trace) p z e)) 0
       ≡ getD (map (value (R .trace) p z) (takenBy R p z (R .restart z))) (rcvd (R .trace) p z e - 1) 0)
   slot-start p z e h t =
       let k = rcvd (R .trace) p z e in

@@ -10,9 +10,11 @@ use lib.Dec.{leb, ltb, eqb}
 use borrow.Author.Tests.{eq-eqb, ne-eqb, lt-leb, le-leb, eqb-true}
 use Rattle.words.proofs.Cases.{by-bool, by-eq, clash}
 use Rattle.words.specs.Area.{areaWords}
-use Rattle.machine.specs.Words.{takenBase, currentBase, orphanBase, takeBase, putBase, kindW, peerW, valueW, numberW, Bounded}
-use Rattle.links.specs.Linking.{atW, epochW, pairW, backW, doneW, mineW, orphanW, goesW, earlyW, chainA, linkL, linkA, linkedA, linkedL}
-use Rattle.links.specs.Shapes.{Paired, PairedTo}
+use Rattle.machine.specs.Taken.{takenBase}
+use Rattle.machine.specs.Inner.Words.{currentBase, orphanBase, takeBase, putBase, Bounded}
+use Rattle.columns.specs.Inner.Full.{kindW, peerW, valueW, numberW, atW, epochW, matchW}
+use Rattle.links.specs.Inner.Linking.{backW, doneW, mineW, orphanW, goesW, earlyW, chainA, linkL, linkA, linkedA, linkedL}
+use Rattle.links.specs.Inner.Shapes.{Paired, PairedTo}
 
 pub paired-at : (t : List ℕ) (n e : ℕ) → PairedTo t n → 0 < e → e ≤ n → Paired t e
 unfolding PairedTo
@@ -26,14 +28,14 @@ pub chain-no : (b : Bool) (a : List ℕ) (k v : ℕ) → b ≡ false → a ≡ c
 unfolding chainA
 chain-no b a k v h = rw h
 
-module _ (t g : List ℕ) (e m : ℕ) (em : m ≡ pairW t e) where
+module _ (t g : List ℕ) (e m : ℕ) (em : m ≡ matchW t e) where
   pub back-none : m ≡ 0 → false ≡ backW t g e
   unfolding backW
-  back-none h = rw (eq-eqb (pairW t e) 0 (sym em ∙ h))
+  back-none h = rw (eq-eqb (matchW t e) 0 (sym em ∙ h))
 
   pub back-some : (w : ℕ) → (m ≡ 0 → ⊥) → w ≡ getD g (64 + peerW t e) 0 → leb m w ≡ backW t g e
   unfolding backW
-  back-some w h ew = rw (ne-eqb (pairW t e) 0 (λ q. h (em ∙ q)), ← em, ew)
+  back-some w h ew = rw (ne-eqb (matchW t e) 0 (λ q. h (em ∙ q)), ← em, ew)
 
 module _ (t g : List ℕ) (e : ℕ) where
   pub orphan-kind : (kindW t e ≡ 1 → ⊥) → false ≡ orphanW t g e
@@ -71,7 +73,7 @@ module _ (t g : List ℕ) (cut e : ℕ) where
       unfolding goesW
       goes-mine h = rw (eq-eqb (kindW t e) 1 k, ← eb, nb, ← er, h)
 
-      module _ (nr : r ≡ false) (m : ℕ) (em : m ≡ pairW t e) where
+      module _ (nr : r ≡ false) (m : ℕ) (em : m ≡ matchW t e) where
         pub goes-none : m ≡ 0 → true ≡ goesW t g cut e
         unfolding goesW doneW
         goes-none h = rw (eq-eqb (kindW t e) 1 k, ← eb, nb, ← er, nr, ← em, eq-eqb m 0 h)
@@ -90,7 +92,7 @@ module _ (t g : List ℕ) (cut : ℕ) (l a : List ℕ) (e : ℕ) (f₁ f₂ f₃
   linked-l b eb = eb ∙ rw (e₁, e₂, e₃)
 
   pub linked-a : (b d : List ℕ) → d ≡ chainA f₃ (chainA f₃ (chainA f₂ (chainA f₁ a (currentBase + atW t e) e) (orphanBase + atW t e) e) (putBase + (64 * atW t e + peerW t e)) e) (takeBase + (64 * atW t e + peerW t e)) e
-      → b ≡ chainA f₄ (chainA f₄ d e (numberW t e)) (takenBase + e) (valueW t (pairW t e)) → b ≡ linkA t g cut a e
+      → b ≡ chainA f₄ (chainA f₄ d e (numberW t e)) (takenBase + e) (valueW t (matchW t e)) → b ≡ linkA t g cut a e
   unfolding linkA
   linked-a b d ed eb = eb ∙ rw (ed, e₁, e₂, e₃, e₄)
 

@@ -1,6 +1,4 @@
 -- public
-pub mod Given
 -- of single functions, and what the pass has done half way
-pub mod Linking
-pub mod Linked
-pub mod Shapes
+-- internal: no contract of a function that users call reaches these
+pub mod Inner

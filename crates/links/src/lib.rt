@@ -6,9 +6,11 @@ ghost use mathlib.Core.Bool.{true};
 ghost use Prim.Native.Nat.{_+_, _*_, _≤_, _<_};
 ghost use lib.ListN.{length, getD};
 ghost use Rattle.words.specs.Area.{areaWords};
-ghost use Rattle.machine.specs.Words.{takenBase, currentBase, orphanBase, takeBase, putBase, lowPlace, numberW, valueW, Bounded};
-ghost use Rattle.links.specs.Linking.{pairW, backW, mineW, orphanW, goesW, earlyW, chainA, linkL, linkA, linkedL, linkedA, beginA};
-ghost use Rattle.links.specs.Shapes.{Paired, PairedTo, Linkable};
+ghost use Rattle.machine.specs.Taken.{takenBase};
+ghost use Rattle.machine.specs.Inner.Words.{currentBase, orphanBase, takeBase, putBase, lowPlace, Bounded};
+ghost use Rattle.columns.specs.Inner.Full.{numberW, valueW, matchW};
+ghost use Rattle.links.specs.Inner.Linking.{backW, mineW, orphanW, goesW, earlyW, chainA, linkL, linkA, linkedL, linkedA, beginA};
+ghost use Rattle.links.specs.Inner.Shapes.{Paired, PairedTo, Linkable};
 use columns::EPOCH_BASE;
 use columns::MATCH_BASE;
 use columns::NUMBER_BASE;
@@ -30,8 +32,8 @@ pub const LINK_WORDS: usize = 8200;
 // The event that event e is matched with: the receive of the message that it sends, or the send of the message that it
 // receives.
 fn pair(full: &[u32], e: usize) -> usize
-    requires { ⌜ (e < 2049) × (length (now full) ≡ areaWords) × (pairW (now full) e < 2049) ⌝ }
-    ensures word { λ r. ⌜ r ≡ pairW (now (full .entry)) e ⌝ }
+    requires { ⌜ (e < 2049) × (length (now full) ≡ areaWords) × (matchW (now full) e < 2049) ⌝ }
+    ensures word { λ r. ⌜ r ≡ matchW (now (full .entry)) e ⌝ }
     ensures bound { λ r. ⌜ r < 2049 ⌝ }
 {
     full[MATCH_BASE + e] as usize
@@ -48,7 +50,7 @@ fn mine(full: &[u32], gates: &[u32], e: usize) -> bool
 
 // Was the message that event e sends received before its receiver's restart.
 fn back(full: &[u32], gates: &[u32], e: usize) -> bool
-    requires { ⌜ (e < 2049) × (length (now full) ≡ areaWords) × (128 ≤ length (now gates)) × (pairW (now full) e < 2049) ⌝ }
+    requires { ⌜ (e < 2049) × (length (now full) ≡ areaWords) × (128 ≤ length (now gates)) × (matchW (now full) e < 2049) ⌝ }
     ensures { λ r. ⌜ r ≡ backW (now (full .entry)) (now (gates .entry)) e ⌝ }
 {
     let q = (full[EVENT_BASE + e] / 64 % 64) as usize;
@@ -175,8 +177,8 @@ fn mark_words(
 
 // The record of receive e, where it is before the restart: the message that it took in the trace.
 fn mark_record(full: &[u32], area: &mut [u32], e: usize, before: bool)
-    requires { ⌜ (e < 2049) × (length (now full) ≡ areaWords) × (length (now area) ≡ areaWords) × (before ≡ true → pairW (now full) e < 2049) ⌝ }
-    ensures { λ _. ⌜ now (area .exit) ≡ chainA before (chainA before (now (area .entry)) e (numberW (now (full .entry)) e)) (takenBase + e) (valueW (now (full .entry)) (pairW (now (full .entry)) e)) ⌝ }
+    requires { ⌜ (e < 2049) × (length (now full) ≡ areaWords) × (length (now area) ≡ areaWords) × (before ≡ true → matchW (now full) e < 2049) ⌝ }
+    ensures { λ _. ⌜ now (area .exit) ≡ chainA before (chainA before (now (area .entry)) e (numberW (now (full .entry)) e)) (takenBase + e) (valueW (now (full .entry)) (matchW (now (full .entry)) e)) ⌝ }
 {
     if before {
         let m = pair(full, e);

@@ -1,2 +1,3 @@
 pub mod Listing
-pub mod Words
+-- internal: no contract of a function that users call reaches these
+pub mod Inner

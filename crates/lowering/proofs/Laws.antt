@@ -7,9 +7,9 @@ use native.Mathlib.Omega.{arith}
 use lib.ListN.{getD, set}
 use lib.Dec.{leb, ltb, eqb}
 use borrow.Author.Tests.{lt-ltb, le-ltb, le-leb, lt-leb, eq-eqb, ne-eqb}
-use Rattle.sets.specs.Sets.{withIn}
-use Rattle.recovery_line.specs.Words.{atW, peerW, kindW, epochW, matchW}
-use Rattle.lowering.specs.Lowering.{lostE, lostW, lowerAt, joinedBy, undoneW}
+use Rattle.sets.specs.Inner.Sets.{withIn}
+use Rattle.columns.specs.Inner.Full.{atW, peerW, kindW, epochW, matchW}
+use Rattle.lowering.specs.Inner.Lowering.{lostE, lostW, lowerAt, joinedBy, undoneW}
 
 -- ---- `lower_at`
 

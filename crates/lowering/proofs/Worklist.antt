@@ -11,11 +11,12 @@ use lib.Dec.{leb, ltb, eqb}
 use borrow.Author.Tests.{ltb-true, leb-true, le-leb, lt-ltb}
 use Rattle.words.proofs.Cases.{by-bool, by-lt, by-eq, clash, and-left, and-right, and-both}
 use Rattle.theory.specs.Line.{inSet}
-use Rattle.sets.specs.Sets.{firstIn, Outside}
+use Rattle.sets.specs.Inner.Sets.{firstIn, Outside}
 use Rattle.sets.proofs.Sets.{none-in, first-in, with-out, with-lt}
-use Rattle.recovery_line.specs.Words.{atW, peerW, kindW, epochW, matchW, Sized}
-use Rattle.lowering.specs.Lowering.{lostE, lostW, lowerAt, Lowerable, Lowers, Lowered, Newest, Linked, Pending, undoneW, joinedBy, Before}
-use Rattle.lowering.specs.Lowering.Lowers.{more}
+use Rattle.columns.specs.Inner.Full.{atW, peerW, kindW, epochW, matchW}
+use Rattle.recovery_line.specs.Inner.Words.{Sized}
+use Rattle.lowering.specs.Inner.Lowering.{lostE, lostW, lowerAt, Lowerable, Lowers, Lowered, Newest, Linked, Pending, undoneW, joinedBy, Before}
+use Rattle.lowering.specs.Inner.Lowering.Lowers.{more}
 use Rattle.lowering.proofs.Laws.{no-receive, received-early, sent-late, is-logged, is-lost}
 
 -- ---- `link`

@@ -3,8 +3,8 @@
 ghost use mathlib.Core.Path.{_≡_};
 ghost use Prim.Native.Nat.{ℕ, _<_};
 ghost use lib.ListN.{length, getD, set};
-ghost use Rattle.recovery_line.specs.Words.{Sized};
-ghost use Rattle.lowering.specs.Lowering.{lostW, lowerAt, Lowered, joinedBy, Linked, Pending, undoneW, Before, Lowerable};
+ghost use Rattle.recovery_line.specs.Inner.Words.{Sized};
+ghost use Rattle.lowering.specs.Inner.Lowering.{lostW, lowerAt, Lowered, joinedBy, Linked, Pending, undoneW, Before, Lowerable};
 use columns::EPOCH_BASE;
 use sets::EVERYONE;
 use trace::EVENT_BASE;

@@ -14,33 +14,36 @@ use Rattle.theory.specs.Events.{Kind, send, recv, other, size, at, kind}
 use Rattle.theory.specs.Line.{Run}
 use Rattle.theory.specs.Replay.{process, hand, State, ready, gate, moved, sending, taking, handing, sendStep, recvStep, eventStep, processStep, handStep, step}
 use Rattle.theory.specs.Order.{choiceOf, choose}
-use Rattle.theory.specs.Laws.{Laws}
+use Rattle.theory.specs.Inner.Laws.{Laws}
 use Rattle.theory.proofs.Base.{by, on}
 use Rattle.theory.proofs.Events.{sends-is}
-use Rattle.theory.proofs.Flow.{ahead, Inv, inv-step}
-use Rattle.machine.specs.Words.{noPhase, kindW, peerW, phaseW, kindOf, curW, orpW, takeW, putW, lowW, sendOk, eventOk, processOk, handOk, allowedW, movedW, putInW, eventW, processW, applyW}
-use Rattle.machine.specs.Related.{head0, goes, orph, Cols, Chan, Rel}
+use Rattle.theory.proofs.Flow.{inv-step}
+use Rattle.theory.specs.Inner.Flow.{ahead, Inv}
+use Rattle.machine.specs.Inner.Words.{noPhase, kindBy, curW, orpW, takeW, putW, lowW, sendOk, eventOk, processOk, handOk, allowedW, movedW, putInW, eventStepW, processW, applyW}
+use Rattle.columns.specs.Inner.Full.{kindW, peerW, phaseW}
+use Rattle.theory.specs.Inner.Lists.{head0}
+use Rattle.machine.specs.Inner.Related.{goes, orph, Cols, Chan, Rel}
 use Rattle.machine.proofs.Facts.{ph-at, evs-head, goes-send, left-none, left-some, to-put, chan-none, chan-some}
 use Rattle.machine.proofs.Moves.{at-next, orp-test, rel-other, rel-drop, rel-send, rel-recv, rel-hand}
 
-pub kind-send : (k p q : ℕ) → kindOf k p ≡ send q → (eqb k 1 ≡ true) × (p ≡ q)
-unfolding kindOf
+pub kind-send : (k p q : ℕ) → kindBy k p ≡ send q → (eqb k 1 ≡ true) × (p ≡ q)
+unfolding kindBy
 kind-send k p q h = by (eqb k 1)
     (λ t. let w : send p ≡ send q = rw t at h in (t, (let e : p ≡ q = cc in e)))
     (λ t. by (eqb k 2)
     (λ u. absurd (let w : recv p ≡ send q = rw (t, u) at h in let z : _≡_ {A = ℕ} 0 1 = cc in omega arith))
     (λ u. absurd (let w : other ≡ send q = rw (t, u) at h in let z : _≡_ {A = ℕ} 0 1 = cc in omega arith)))
 
-pub kind-recv : (k p q : ℕ) → kindOf k p ≡ recv q → (eqb k 1 ≡ false) × (eqb k 2 ≡ true) × (p ≡ q)
-unfolding kindOf
+pub kind-recv : (k p q : ℕ) → kindBy k p ≡ recv q → (eqb k 1 ≡ false) × (eqb k 2 ≡ true) × (p ≡ q)
+unfolding kindBy
 kind-recv k p q h = by (eqb k 1)
     (λ t. absurd (let w : send p ≡ recv q = rw t at h in let z : _≡_ {A = ℕ} 0 1 = cc in omega arith))
     (λ t. by (eqb k 2)
     (λ u. let w : recv p ≡ recv q = rw (t, u) at h in (t, u, (let e : p ≡ q = cc in e)))
     (λ u. absurd (let w : other ≡ recv q = rw (t, u) at h in let z : _≡_ {A = ℕ} 0 1 = cc in omega arith)))
 
-pub kind-other : (k p : ℕ) → kindOf k p ≡ other → (eqb k 1 ≡ false) × (eqb k 2 ≡ false)
-unfolding kindOf
+pub kind-other : (k p : ℕ) → kindBy k p ≡ other → (eqb k 1 ≡ false) × (eqb k 2 ≡ false)
+unfolding kindBy
 kind-other k p h = by (eqb k 1)
     (λ t. absurd (let w : send p ≡ other = rw t at h in let z : _≡_ {A = ℕ} 0 1 = cc in omega arith))
     (λ t. by (eqb k 2)
@@ -78,12 +81,12 @@ module _ (R : Run) (L : Laws R) (t l g : List ℕ) (K : Cols R t l g) where
       unfolding step processStep
       step-event k f = rw (h, b, f)
 
-      process-w : processW t l a z ≡ movedW l (eventW t l a z e) z e
+      process-w : processW t l a z ≡ movedW l (eventStepW t l a z e) z e
       unfolding processW
       process-w = rw e-cur
 
-      send-agrees : (q : ℕ) → kind (R .trace) e ≡ send q → (ls : List ℕ) → s .left z q ≡ ls → Agrees (eventOk t g a z e) (movedW l (eventW t l a z e) z e) (sendStep R s z q e es ls)
-      unfolding eventOk eventW sendStep
+      send-agrees : (q : ℕ) → kind (R .trace) e ≡ send q → (ls : List ℕ) → s .left z q ≡ ls → Agrees (eventOk t g a z e) (movedW l (eventStepW t l a z e) z e) (sendStep R s z q e es ls)
+      unfolding eventOk eventStepW sendStep
       send-agrees q k [] lf =
           let kk = kind-send (kindW t e) (peerW t e) q (sym (K .base .kinds e (e-in .0) (e-in .1)) ∙ k) in
           let hq : q < 64 = omega (arith, peer-lt, kk .1) in
@@ -103,8 +106,8 @@ module _ (R : Run) (L : Laws R) (t l g : List ℕ) (K : Cols R t l g) where
           let no : sendOk (R .restart z) (putW a (64 * z + q)) ≡ false = left-some R L s i z q _ _ (r .chan z q hz hq) m ms lf in
           refuses (rw (kk .0, kk .1, K .base .gated .places z z-in) no)
 
-      recv-agrees : (p : ℕ) → kind (R .trace) e ≡ recv p → (cs : List ℕ) → s .chan p z ≡ cs → Agrees (eventOk t g a z e) (movedW l (eventW t l a z e) z e) (recvStep R s z p es cs)
-      unfolding eventOk eventW recvStep
+      recv-agrees : (p : ℕ) → kind (R .trace) e ≡ recv p → (cs : List ℕ) → s .chan p z ≡ cs → Agrees (eventOk t g a z e) (movedW l (eventStepW t l a z e) z e) (recvStep R s z p es cs)
+      unfolding eventOk eventStepW recvStep
       recv-agrees p k [] cm =
           let kk = kind-recv (kindW t e) (peerW t e) p (sym (K .base .kinds e (e-in .0) (e-in .1)) ∙ k) in
           let hp : p < 64 = omega (arith, peer-lt, kk .2) in
@@ -118,8 +121,8 @@ module _ (R : Run) (L : Laws R) (t l g : List ℕ) (K : Cols R t l g) where
           let so : step R s (process z) ≡ some u = step-event (recv p) k ∙ (unfold eventStep in unfold recvStep in rw cm) in
           allows u (rw (kk .0, kk .1, kk .2, ok)) (rw (kk .0, kk .1, kk .2) (rel-recv R L t l g K a s r i z e es hz h p m ms hp k cm)) (inv-step R s u (process z) so i)
 
-      event-agrees : (k : Kind) → kind (R .trace) e ≡ k → Agrees (eventOk t g a z e) (movedW l (eventW t l a z e) z e) (eventStep R s z e es k)
-      unfolding eventStep eventOk eventW
+      event-agrees : (k : Kind) → kind (R .trace) e ≡ k → Agrees (eventOk t g a z e) (movedW l (eventStepW t l a z e) z e) (eventStep R s z e es k)
+      unfolding eventStep eventOk eventStepW
       event-agrees (send q) k = send-agrees q k (s .left z q) refl
       event-agrees (recv p) k = recv-agrees p k (s .chan p z) refl
       event-agrees other k =

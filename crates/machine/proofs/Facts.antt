@@ -2,26 +2,28 @@
 -- message is left and whether a message is in it; the least phase of an orphan tells which phases are ready. From the
 -- laws of the run and the invariants of the theory.
 use mathlib.Core.Path.{_≡_, refl, sym, _∙_, ap}
-use mathlib.Core.Bool.{Bool, true, false, _&&_, and-false}
+use mathlib.Core.Bool.{Bool, true, false, _&&_, and-false, cond}
 use mathlib.Core.List.{List, [], _∷_, _++_, map}
 use Prim.Native.Nat.{ℕ, zero, suc, _+_, _-_, _≤_, _<_}
 use native.Mathlib.Omega.{arith}
 use lib.ListN.{length, length-append, getD}
 use lib.Dec.{leb, ltb, eqb}
 use borrow.Author.Tests.{leb-true, leb-false, ltb-true, ltb-false, eqb-true, lt-ltb, le-ltb, lt-leb, eq-eqb, ne-eqb}
-use Rattle.theory.specs.Lists.{pick, iv, keep, no-one, all-below}
+use Rattle.theory.specs.Lists.{iv, keep, no-one, all-below}
 use Rattle.theory.specs.Events.{Kind, send, recv, other, size, at, kind, sends, sent}
 use Rattle.theory.specs.Line.{Run, orphanPhase}
 use Rattle.theory.specs.Replay.{State, listed, resends, ready}
-use Rattle.theory.specs.Laws.{Laws}
-use Rattle.theory.proofs.Base.{by, on, le?, both, keep-head, keep-keep, keep-some, Each, each-map, each-keep-iv}
+use Rattle.theory.specs.Inner.Laws.{Laws}
+use Rattle.theory.proofs.Base.{by, on, le?, both, keep-head, keep-keep, keep-some, each-map, each-keep-iv}
+use Rattle.theory.specs.Inner.Flow.{Each, rBefore, sBefore, Kept, ahead, Cursors, Inv}
 use Rattle.theory.proofs.Events.{sends-of, sent-le, sent-lt}
-use Rattle.theory.proofs.Classes.{rBefore, sBefore, Kept, orphan-counts}
-use Rattle.theory.proofs.Flow.{ahead, Cursors, Inv}
+use Rattle.theory.proofs.Classes.{orphan-counts}
 use Rattle.theory.proofs.Loss.{ahead-listed}
 use Rattle.theory.proofs.Ready.{phase-le}
-use Rattle.machine.specs.Words.{noPhase, phaseW, orpW, sendOk, lesser, lowOf}
-use Rattle.machine.specs.Related.{head0, goes, evs, drops, orph, Base, Chan}
+use Rattle.machine.specs.Inner.Words.{noPhase, orpW, sendOk, lesser, lowOf}
+use Rattle.columns.specs.Inner.Full.{phaseW}
+use Rattle.theory.specs.Inner.Lists.{head0}
+use Rattle.machine.specs.Inner.Related.{goes, evs, drops, orph, Base, Chan}
 
 -- the phase of an event's process after it
 abbrev pub ph : Run → ℕ → ℕ
@@ -258,10 +260,10 @@ module _ (R : Run) (L : Laws R) where
   module _ (t g : List ℕ) (K : Base R t g) (u : State) (cz : Cursors R u) (b : List ℕ)
       (orps : (z : ℕ) → z < 64 → orpW b z ≡ head0 (keep (orph R z) (u .todo z))) (r : ℕ) (r-lt : r < noPhase) where
     one-low : (z : ℕ) → z < 64 → (a : Bool) (m : ℕ) → a ≡ ltb r m
-        → (no-one (holds R r z) (u .todo z) && a) ≡ ltb r (pick (eqb (orpW b z) 0) m (lesser (phaseW t (orpW b z)) m))
+        → (no-one (holds R r z) (u .todo z) && a) ≡ ltb r (cond (eqb (orpW b z) 0) m (lesser (phaseW t (orpW b z)) m))
     one-low z h a m e = go (keep (orph R z) (u .todo z)) refl
       where
-        go : (os : List ℕ) → keep (orph R z) (u .todo z) ≡ os → (no-one (holds R r z) (u .todo z) && a) ≡ ltb r (pick (eqb (orpW b z) 0) m (lesser (phaseW t (orpW b z)) m))
+        go : (os : List ℕ) → keep (orph R z) (u .todo z) ≡ os → (no-one (holds R r z) (u .todo z) && a) ≡ ltb r (cond (eqb (orpW b z) 0) m (lesser (phaseW t (orpW b z)) m))
         go [] k =
             let w : orpW b z ≡ 0 = orps z h ∙ ap head0 k in
             rw (no-orph r z (u .todo z) k, eq-eqb (orpW b z) 0 w) e

@@ -2,7 +2,7 @@
 -- and the theory's Flow.
 use mathlib.Core.Path.{_≡_, refl, sym, _∙_, ap, subst}
 use mathlib.Core.Logic.{_≢_}
-use mathlib.Core.Bool.{true, false, _&&_}
+use mathlib.Core.Bool.{true, false, _&&_, cond}
 use mathlib.Core.List.{List, [], _∷_, _++_, map, append-assoc}
 use Prim.Native.Nat.{ℕ, zero, suc, _+_, _-_, _*_, _≤_, _<_}
 use native.Mathlib.Omega.{arith}
@@ -10,18 +10,21 @@ use lib.ListN.{length, length-map, length-set, getD, set}
 use lib.Seq.{getD-set-same, getD-set-other, getD-at}
 use lib.Dec.{leb, ltb, eqb}
 use borrow.Author.Tests.{ltb-true, eqb-true, eqb-false, lt-ltb, le-leb, eq-eqb, ne-eqb}
-use Rattle.theory.specs.Lists.{pick, keep, no-one, put, put2}
+use Rattle.theory.specs.Lists.{keep, no-one, put, put2}
 use Rattle.theory.specs.Events.{Kind, send, recv, other, size, at, kind, recvs, sent, rcvd, value}
 use Rattle.theory.specs.Line.{Run}
 use Rattle.theory.specs.Replay.{State, listed, resends, ready, moved, sending, taking, handing}
-use Rattle.theory.specs.Laws.{Laws}
+use Rattle.theory.specs.Inner.Laws.{Laws}
 use Rattle.theory.proofs.Base.{by, on, clash, le?, same2, eqb-self}
-use Rattle.theory.proofs.Events.{sendTo, recvFrom, sends-is, recvs-of, rcvd-lt}
-use Rattle.theory.proofs.Classes.{rBefore}
-use Rattle.theory.proofs.Flow.{ahead, ahead-send, ahead-put, put-same, toTake, toTake-recv, Inv, at-head}
+use Rattle.theory.proofs.Events.{sends-is, recvs-of, rcvd-lt}
+use Rattle.theory.specs.Inner.Flow.{sendTo, recvFrom, rBefore, ahead, toTake, Inv}
+use Rattle.theory.proofs.Flow.{ahead-send, ahead-put, put-same, toTake-recv, at-head}
 use Rattle.theory.proofs.Loss.{toTake-listed}
-use Rattle.machine.specs.Words.{takenBase, currentBase, orphanBase, takeBase, putBase, lowPlace, noPhase, valueW, numberW, curW, orpW, takeW, putW, lowW, lowOf, movedW, dropW, putInW, takeOutW}
-use Rattle.machine.specs.Related.{head0, recordEnd, drops, orph, tookNumber, tookValue, numberAt, valueAt, Cols, Chan, Rel}
+use Rattle.machine.specs.Taken.{takenBase, recordEnd, tookNumber, tookValue, takenNumber, takenValue}
+use Rattle.machine.specs.Inner.Words.{currentBase, orphanBase, takeBase, putBase, lowPlace, noPhase, curW, orpW, takeW, putW, lowW, lowOf, movedW, dropW, putInW, takeOutW}
+use Rattle.columns.specs.Inner.Full.{valueW, numberW}
+use Rattle.theory.specs.Inner.Lists.{head0}
+use Rattle.machine.specs.Inner.Related.{drops, orph, Cols, Chan, Rel}
 use Rattle.machine.proofs.Facts.{goes-send, to-put, to-take, in-list, resends-is, all-same, ready-low}
 
 -- two channels are one where their words are
@@ -162,8 +165,8 @@ module _ (R : Run) (L : Laws R) (t l g : List ℕ) (K : Cols R t l g) where
     orp : (z : ℕ) → z < 64 → orpW b z ≡ head0 (keep (orph R z) (u .todo z))
     low : (r : ℕ) → r < noPhase → ready R u r ≡ ltb r (lowW b)
     chan : (p q : ℕ) → p < 64 → q < 64 → Chan R u p q (takeW b (64 * p + q)) (putW b (64 * p + q))
-    num : (e : ℕ) → e < 2049 → getD b e 0 ≡ numberAt R u e
-    val : (e : ℕ) → e < 2049 → getD b (takenBase + e) 0 ≡ valueAt R u e
+    num : (e : ℕ) → e < 2049 → getD b e 0 ≡ takenNumber R u e
+    val : (e : ℕ) → e < 2049 → getD b (takenBase + e) 0 ≡ takenValue R u e
     gap : (k : ℕ) → recordEnd ≤ k → k < currentBase → getD b k 0 ≡ 0
     beyond : (k : ℕ) → lowPlace < k → getD b k 0 ≡ 0
 
@@ -188,7 +191,7 @@ module _ (R : Run) (L : Laws R) (t l g : List ℕ) (K : Cols R t l g) where
 
     -- an event that is neither a send nor a receive
     pub rel-other : kind (R .trace) e ≡ other → Rel R (movedW l a z e) (moved R s z es)
-    unfolding numberAt valueAt drops
+    unfolding takenNumber takenValue drops
     rel-other k =
         let no : orph R z e ≡ false = rw k in
         rel-move a (moved R s z es) refl (λ y hy. refl) (record {
@@ -205,7 +208,7 @@ module _ (R : Run) (L : Laws R) (t l g : List ℕ) (K : Cols R t l g) where
     -- a send whose message is dropped
     pub rel-drop : (q : ℕ) → kind (R .trace) e ≡ send q → orph R z e ≡ true → Inv R (sending R s z q e es)
         → Rel R (movedW l (dropW t l a z e) z e) (sending R s z q e es)
-    unfolding numberAt valueAt drops dropW
+    unfolding takenNumber takenValue drops dropW
     rel-drop q k o iu =
         let u = sending R s z q e es in
         let v = getD l (4 * e + 2) 0 in
@@ -241,7 +244,7 @@ module _ (R : Run) (L : Laws R) (t l g : List ℕ) (K : Cols R t l g) where
     -- a send whose message goes into the channel
     pub rel-send : (q : ℕ) → q < 64 → kind (R .trace) e ≡ send q → orph R z e ≡ false → s .left z q ≡ []
         → Rel R (movedW l (putInW l a (64 * z + q)) z e) (sending R s z q e es)
-    unfolding numberAt valueAt drops putInW
+    unfolding takenNumber takenValue drops putInW
     rel-send q hq k o lf =
         let u = sending R s z q e es in
         let c₀ = 64 * z + q in
@@ -317,7 +320,7 @@ module _ (R : Run) (L : Laws R) (t l g : List ℕ) (K : Cols R t l g) where
     -- a receive
     pub rel-recv : (p m : ℕ) (ms : List ℕ) → p < 64 → kind (R .trace) e ≡ recv p → s .chan p z ≡ m ∷ ms
         → Rel R (movedW l (takeOutW t l a (64 * p + z) e) z e) (taking R s z p es m ms)
-    unfolding numberAt valueAt drops takeOutW
+    unfolding takenNumber takenValue drops takeOutW
     rel-recv p m ms hp k cm =
         let u = taking R s z p es m ms in
         let n = at-next s i z e es h in
@@ -379,13 +382,13 @@ module _ (R : Run) (L : Laws R) (t l g : List ℕ) (K : Cols R t l g) where
           beyond = λ y h₁. far y (λ q. omega arith) (λ q. omega arith) (λ q. omega arith) ∙ r .beyond y h₁;
         })
       where
-        in-range : (y : ℕ) {c d : ℕ} → (0 < y → d ≡ c) → pick (ltb 0 y && leb y (size (R .trace))) c 0 ≡ pick (ltb 0 y && leb y (size (R .trace))) d 0
-        in-range y {c} {d} f = by (ltb 0 y) (λ t. rw t (ap (λ x. pick (leb y (size (R .trace))) x 0) (sym (f (ltb-true 0 y t))))) (λ t. rw t)
+        in-range : (y : ℕ) {c d : ℕ} → (0 < y → d ≡ c) → cond (ltb 0 y && leb y (size (R .trace))) c 0 ≡ cond (ltb 0 y && leb y (size (R .trace))) d 0
+        in-range y {c} {d} f = by (ltb 0 y) (λ t. rw t (ap (λ x. cond (leb y (size (R .trace))) x 0) (sym (f (ltb-true 0 y t))))) (λ t. rw t)
 
   -- a kept message is handed over
   pub rel-hand : (a : List ℕ) (s : State) → Rel R a s → Inv R s → (p q m : ℕ) (ms : List ℕ) → p < 64 → q < 64 → s .left p q ≡ m ∷ ms
       → Rel R (putInW l a (64 * p + q)) (handing R s p q m ms)
-  unfolding numberAt valueAt putInW ready
+  unfolding takenNumber takenValue putInW ready
   rel-hand a s r i p q m ms hp hq lf =
       let u = handing R s p q m ms in
       let c₀ = 64 * p + q in

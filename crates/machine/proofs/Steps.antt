@@ -11,8 +11,9 @@ use lib.Seq.{getD-set-same, getD-set-other}
 use lib.Dec.{ltb, eqb}
 use borrow.Author.Tests.{lt-ltb, le-ltb, eq-eqb, ne-eqb, ltb-true}
 use Rattle.words.proofs.Cases.{by-bool, by-lt, by-eq, clash}
-use Rattle.machine.specs.Words.{keptPhase, currentBase, orphanBase, lowPlace, noPhase, kindW, peerW, phaseW, curW, orpW, takeW, putW, lowW, sendOk, eventOk, processOk, handOk, allowedW, lowerW, lowOf, Bounded, noneFrom}
-use Rattle.machine.specs.Shapes.{LowIs}
+use Rattle.machine.specs.Inner.Words.{keptPhase, currentBase, orphanBase, lowPlace, noPhase, curW, orpW, takeW, putW, lowW, sendOk, eventOk, processOk, handOk, allowedW, lowerW, lowOf, Bounded, noneFrom}
+use Rattle.columns.specs.Inner.Full.{kindW, peerW, phaseW}
+use Rattle.machine.specs.Inner.Shapes.{LowIs}
 
 pub bound : (a : List ℕ) (k : ℕ) → Bounded a → currentBase ≤ k → k < lowPlace → getD a k 0 < 2049
 unfolding Bounded

@@ -1,4 +1,4 @@
 -- tests and steps by words; how words stand for a state; sizes and ranges
-pub mod Words
-pub mod Related
-pub mod Shapes
+pub mod Taken
+-- internal: no contract of a function that users call reaches these
+pub mod Inner

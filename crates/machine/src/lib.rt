@@ -6,8 +6,8 @@ ghost use mathlib.Core.Path.{_≡_};
 ghost use Prim.Native.Nat.{_≤_, _<_};
 ghost use lib.ListN.{length, getD};
 ghost use Rattle.words.specs.Area.{areaWords};
-ghost use Rattle.machine.specs.Words.{currentBase, lowPlace, sendOk, eventOk, processOk, handOk, allowedW, lesser, lowerW, lowOf, Bounded, noneFrom, keptPhase};
-ghost use Rattle.machine.specs.Shapes.{Readable};
+ghost use Rattle.machine.specs.Inner.Words.{currentBase, lowPlace, sendOk, eventOk, processOk, handOk, allowedW, lesser, lowerW, lowOf, Bounded, noneFrom, keptPhase};
+ghost use Rattle.machine.specs.Inner.Shapes.{Readable};
 use columns::PHASE_BASE;
 use trace::EVENT_BASE;
 

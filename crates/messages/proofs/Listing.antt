@@ -9,17 +9,16 @@ use borrow.Author.Tests.{ne-eqb}
 use Rattle.words.specs.Area.{areaWords, wordsFrom}
 use Rattle.words.proofs.Area.{length-words, getD-words}
 use Rattle.trace.specs.Trace.{Trace}
-use Rattle.theory.specs.Epochs.{past}
-use Rattle.theory.specs.Line.{Run, recorded}
+use Rattle.theory.specs.Line.{Run, runAt}
 use Rattle.theory.proofs.WellFormed.{valid}
 use Rattle.columns.proofs.Bounds.{well-few}
 use Rattle.listing.specs.Listing.{listWord}
-use Rattle.classes.specs.Classes.{Given as Listable}
+use Rattle.classes.specs.Inner.Classes.{GivenRestarts as Listable}
 use Rattle.listing.proofs.Whole.{rows-few}
 use Rattle.recovery_line.specs.declared.Line.{Line}
-use Rattle.links.specs.Given.{Given}
+use Rattle.links.specs.Inner.Given.{Given}
 use Rattle.messages.specs.declared.Counted.{Counted}
-use Rattle.preparing.specs.Faults.{runOf, faultOf}
+use Rattle.preparing.specs.Faults.{runOf, lineFaultOf}
 use Rattle.messages.specs.Messages.{countsOf, messagesRefusal, messagesAnswer, messagesArea}
 
 -- ---- Words that are cleared
@@ -48,7 +47,7 @@ module _ (t : Trace) (line : ℕ → ℕ) (cut : ℕ) (full gates : List ℕ) (G
   cut-fits = omega (arith, G .cut-le, well-few t (G .formed))
 
   abbrev R : Run
-  R = recorded t past cut line
+  R = runAt t cut line
 
   module _ (n : length gates ≡ 192) where
     -- the part of the gates from word 64 on
@@ -88,17 +87,17 @@ module _ (a area : List ℕ) (step set : ℕ) (l : Line) where
   Listed r w =
       (r ≡ messagesAnswer a area step set l) × ((w ≡ messagesArea a area step set l) × (r .orphans + (r .kept + r .lost) ≤ 2048))
 
-  pub refuses-messages : (n : ℕ) (r : Counted) → n ≡ faultOf a (length area) step set l → (n ≡ 0 → ⊥) → r ≡ messagesRefusal n → Listed r area
+  pub refuses-messages : (n : ℕ) (r : Counted) → n ≡ lineFaultOf a (length area) step set l → (n ≡ 0 → ⊥) → r ≡ messagesRefusal n → Listed r area
   unfolding messagesAnswer messagesArea
   refuses-messages n r f z e = (e ∙ rw (← f, ne-eqb n 0 z), (rw (← f, ne-eqb n 0 z), rw e (omega arith)))
 
-  pub lists : (n : ℕ) (r : Counted) (w : List ℕ) → n ≡ faultOf a (length area) step set l → n ≡ 0 → r ≡ countsOf (runOf a step l)
+  pub lists : (n : ℕ) (r : Counted) (w : List ℕ) → n ≡ lineFaultOf a (length area) step set l → n ≡ 0 → r ≡ countsOf (runOf a step l)
       → w ≡ wordsFrom (listWord (runOf a step l)) 0 areaWords → r .orphans + (r .kept + r .lost) ≤ 2048 → Listed r (w ++ drop areaWords area)
   unfolding messagesAnswer messagesArea
   lists n r w f z e q few = (e ∙ rw (← f, z), (ap (λ (x : List ℕ). x ++ drop 16384 area) q ∙ rw (← f, z), few))
 
   -- what `messages` answers and leaves where nothing is wrong
-  module _ (ok : faultOf a (length area) step set l ≡ 0) where
+  module _ (ok : lineFaultOf a (length area) step set l ≡ 0) where
     pub counts-are : (c : Counted) → c ≡ messagesAnswer a area step set l → c ≡ countsOf (runOf a step l)
     unfolding messagesAnswer
     counts-are c e = e ∙ rw ok

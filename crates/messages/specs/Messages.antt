@@ -5,13 +5,13 @@ use mathlib.Core.List.{List, _++_}
 use lib.ListN.{length, drop}
 use lib.Dec.{eqb}
 use Rattle.words.specs.Area.{areaWords, wordsFrom}
-use Rattle.theory.specs.Lists.{pick}
+use mathlib.Core.Bool.{cond}
 use Rattle.theory.specs.Line.{Run}
 use Rattle.theory.specs.Answers.{orphans, keptOnes, lostOnes}
 use Rattle.listing.specs.Listing.{listWord}
 use Rattle.recovery_line.specs.declared.Line.{Line}
 use Rattle.messages.specs.declared.Counted.{Counted}
-use Rattle.preparing.specs.Faults.{runOf, faultOf}
+use Rattle.preparing.specs.Faults.{runOf, lineFaultOf}
 
 abbrev pub messagesRefusal : ℕ → Counted
 messagesRefusal n = record { number = n; place = 0; orphans = 0; kept = 0; lost = 0 }
@@ -22,8 +22,8 @@ countsOf R = record { number = 0; place = 0; orphans = length (orphans R); kept 
 
 unfoldable pub messagesAnswer : List ℕ → List ℕ → ℕ → ℕ → Line → Counted
 messagesAnswer a area step set l =
-    pick (eqb (faultOf a (length area) step set l) 0) (countsOf (runOf a step l)) (messagesRefusal (faultOf a (length area) step set l))
+    cond (eqb (lineFaultOf a (length area) step set l) 0) (countsOf (runOf a step l)) (messagesRefusal (lineFaultOf a (length area) step set l))
 
 unfoldable pub messagesArea : List ℕ → List ℕ → ℕ → ℕ → Line → List ℕ
 messagesArea a area step set l =
-    pick (eqb (faultOf a (length area) step set l) 0) (wordsFrom (listWord (runOf a step l)) 0 areaWords ++ drop areaWords area) area
+    cond (eqb (lineFaultOf a (length area) step set l) 0) (wordsFrom (listWord (runOf a step l)) 0 areaWords ++ drop areaWords area) area

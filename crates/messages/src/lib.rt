@@ -6,10 +6,9 @@ ghost use Prim.Native.Nat.{ℕ, _+_, _≤_};
 ghost use lib.ListN.{length, replicate};
 ghost use Rattle.words.specs.Area.{areaWords, wordsFrom};
 ghost use Rattle.trace.specs.Trace.{Trace};
-ghost use Rattle.theory.specs.Epochs.{past};
-ghost use Rattle.theory.specs.Line.{recorded};
+ghost use Rattle.theory.specs.Line.{runAt};
 ghost use Rattle.listing.specs.Listing.{listWord};
-ghost use Rattle.links.specs.Given.{Given};
+ghost use Rattle.links.specs.Inner.Given.{Given};
 ghost use Rattle.messages.specs.Messages.{countsOf, messagesRefusal, messagesAnswer, messagesArea};
 use recovery_line::Line;
 use words::AREA_WORDS;
@@ -42,8 +41,8 @@ const RESTARTS: usize = 64;
 // many there are.
 pub fn list_from(full: &[u32], gates: &[u32], cut: usize, area: &mut [u32]) -> Counted
     requires { ⌜ (now area ≡ replicate areaWords 0) × (length (now gates) ≡ 192) × ((t : Trace) × (line : (ℕ → ℕ)) × Given t line cut (now full) (now gates)) ⌝ }
-    ensures answer { λ r. ⌜ ((t : Trace) (line : ℕ → ℕ) → Given t line cut (now (full .entry)) (now (gates .entry)) → r ≡ countsOf (recorded t past cut line)) ⌝ }
-    ensures words { λ _. ⌜ ((t : Trace) (line : ℕ → ℕ) → Given t line cut (now (full .entry)) (now (gates .entry)) → now (area .exit) ≡ wordsFrom (listWord (recorded t past cut line)) 0 areaWords) ⌝ }
+    ensures answer { λ r. ⌜ ((t : Trace) (line : ℕ → ℕ) → Given t line cut (now (full .entry)) (now (gates .entry)) → r ≡ countsOf (runAt t cut line)) ⌝ }
+    ensures words { λ _. ⌜ ((t : Trace) (line : ℕ → ℕ) → Given t line cut (now (full .entry)) (now (gates .entry)) → now (area .exit) ≡ wordsFrom (listWord (runAt t cut line)) 0 areaWords) ⌝ }
     ensures few { λ r. ⌜ r .orphans + (r .kept + r .lost) ≤ 2048 ⌝ }
 {
     listing::list(full, &gates[RESTARTS..], cut as u32, area);

@@ -4,8 +4,8 @@ ghost use mathlib.Core.Path.{_≡_};
 ghost use Prim.Native.Nat.{_≤_, _<_};
 ghost use lib.ListN.{length};
 ghost use Rattle.words.specs.Area.{areaWords};
-ghost use Rattle.machine.specs.Words.{lowOf, dropW, putInW, takeOutW, eventW, processW, applyW, Bounded};
-ghost use Rattle.machine.specs.Shapes.{Movable};
+ghost use Rattle.machine.specs.Inner.Words.{lowOf, dropW, putInW, takeOutW, eventStepW, processW, applyW, Bounded};
+ghost use Rattle.machine.specs.Inner.Shapes.{Movable};
 use columns::NUMBER_BASE;
 use machine::CURRENT;
 use machine::HANDS;
@@ -79,7 +79,7 @@ fn drop_orphan(full: &[u32], links: &[u16], area: &mut [u32], z: usize, e: usize
 // Process z does event e, which may be done.
 fn do_event(full: &[u32], links: &[u16], area: &mut [u32], z: usize, e: usize)
     requires { ⌜ (z < 64) × (e < 2049) × Movable (now full) (now links) (now area) ⌝ }
-    ensures { λ _. ⌜ now (area .exit) ≡ eventW (now (full .entry)) (now (links .entry)) (now (area .entry)) z e ⌝ }
+    ensures { λ _. ⌜ now (area .exit) ≡ eventStepW (now (full .entry)) (now (links .entry)) (now (area .entry)) z e ⌝ }
 {
     let w = full[EVENT_BASE + e];
     let kind = w / 4096 % 4;

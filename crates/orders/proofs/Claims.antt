@@ -9,12 +9,14 @@ use Prim.Native.Nat.{ℕ, _+_, _≤_, _<_}
 use lib.ListN.{length, getD}
 use Rattle.words.specs.Area.{wordsFrom}
 use Rattle.theory.specs.Line.{Run, LossFree}
-use Rattle.theory.specs.Replay.{State, SameRecord}
+use Rattle.theory.specs.Replay.{State}
+use Rattle.theory.specs.Inner.Record.{SameRecord}
 use Rattle.theory.specs.Order.{Outcome, carriedOut, refused, run, complete}
-use Rattle.theory.proofs.Flow.{Inv}
-use Rattle.machine.specs.Words.{currentBase, lowPlace, allowedW, applyW, noneFrom, Bounded}
-use Rattle.machine.specs.Related.{Rel, Started}
-use Rattle.orders.specs.Record.{recordAt, Live, faultlessAt}
+use Rattle.theory.specs.Inner.Flow.{Inv}
+use Rattle.machine.specs.Inner.Words.{currentBase, lowPlace, allowedW, applyW, noneFrom, Bounded}
+use Rattle.machine.specs.Inner.Related.{Rel, Started}
+use Rattle.orders.specs.Record.{recordAt, faultlessAt}
+use Rattle.orders.specs.Inner.Left.{Live}
 use Rattle.orders.proofs.Orders.{live-start, live-bad, live-next, live-end, none-same, rel-bounded, record-left}
 use Rattle.orders.proofs.Records.{order-record, complete-record}
 

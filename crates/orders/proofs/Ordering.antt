@@ -9,17 +9,16 @@ use lib.ListN.{length, getD, replicate}
 use Rattle.words.specs.Area.{areaWords}
 use Rattle.theory.specs.Line.{Run}
 use Rattle.theory.specs.Order.{Outcome, carriedOut, refused, run}
-use Rattle.machine.specs.Words.{currentBase, lowPlace, allowedW, applyW, Bounded, noneFrom}
-use Rattle.orders.specs.Record.{Live}
+use Rattle.machine.specs.Inner.Words.{currentBase, lowPlace, allowedW, applyW, Bounded, noneFrom}
+use Rattle.orders.specs.Inner.Left.{Live, Left}
 use Rattle.orders.proofs.Orders.{live-bad, live-next, live-end, live-start, none-same, rel-bounded, record-left}
 use Rattle.orders.specs.declared.Replayed.{Replayed}
-use Rattle.machine.specs.Related.{Rel, Started}
+use Rattle.machine.specs.Inner.Related.{Rel, Started}
 use Rattle.machine.proofs.Facts.{ready-low}
 use Rattle.theory.specs.Replay.{State}
-use Rattle.theory.proofs.Flow.{Inv}
-use Rattle.machine.specs.Shapes.{LowIs}
+use Rattle.theory.specs.Inner.Flow.{Inv}
+use Rattle.machine.specs.Inner.Shapes.{LowIs}
 use Rattle.machine.proofs.Steps.{low-same}
-use Rattle.orders.specs.Left.{Left}
 use Rattle.orders.specs.Answer.{answerOf, wordsOf}
 
 module _ (R : Run) (t l g a₀ : List ℕ) (S : Started R t l g a₀) where

@@ -17,13 +17,16 @@ use Rattle.theory.specs.Events.{size}
 use Rattle.theory.specs.Line.{Run}
 use Rattle.theory.specs.Replay.{State, start}
 use Rattle.theory.specs.Order.{Outcome, carriedOut, refused, isNone, choose, carry, run, complete}
-use Rattle.theory.specs.Laws.{Laws}
+use Rattle.theory.specs.Inner.Laws.{Laws}
 use Rattle.theory.proofs.Base.{on, clash, le?}
-use Rattle.theory.proofs.Flow.{Inv}
+use Rattle.theory.specs.Inner.Flow.{Inv}
 use Rattle.theory.proofs.Loss.{inv-start}
-use Rattle.machine.specs.Words.{takenBase, currentBase, orphanBase, takeBase, putBase, lowPlace, takeW, putW, allowedW, applyW, Bounded, noneFrom}
-use Rattle.machine.specs.Related.{head0, recordEnd, evs, orph, Cols, Chan, Rel}
-use Rattle.orders.specs.Record.{recordAt, Live}
+use Rattle.machine.specs.Taken.{takenBase, recordEnd}
+use Rattle.machine.specs.Inner.Words.{currentBase, orphanBase, takeBase, putBase, lowPlace, takeW, putW, allowedW, applyW, Bounded, noneFrom}
+use Rattle.theory.specs.Inner.Lists.{head0}
+use Rattle.machine.specs.Inner.Related.{evs, orph, Cols, Chan, Rel}
+use Rattle.orders.specs.Record.{recordAt}
+use Rattle.orders.specs.Inner.Left.{Live}
 use Rattle.machine.proofs.Facts.{evs-head, in-list}
 use Rattle.machine.proofs.Moves.{at-next}
 use Rattle.machine.proofs.Choices.{Agrees, refuses, allows, choice-agrees}

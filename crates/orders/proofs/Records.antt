@@ -18,16 +18,16 @@ use Rattle.trace.specs.Trace.{Trace}
 use Rattle.theory.specs.Lists.{iv}
 use Rattle.theory.specs.Events.{Kind, send, recv, other, size, eventAt, at, kind, rcvd, value}
 use Rattle.theory.specs.Line.{Run, LossFree}
-use Rattle.theory.specs.Replay.{State, entry, delivered, faultless, SameRecord}
+use Rattle.theory.specs.Replay.{State}
+use Rattle.theory.specs.Inner.Record.{entry, delivered, faultless, SameRecord}
 use Rattle.theory.specs.Order.{carriedOut, run, complete}
-use Rattle.theory.specs.Laws.{Laws}
+use Rattle.theory.specs.Inner.Laws.{Laws}
 use Rattle.theory.proofs.Base.{by, on, le?, both, length-iv}
 use Rattle.theory.proofs.Events.{recvs-is, recvs-of, recv-of, rcvd-le, rcvd-lt}
-use Rattle.theory.proofs.Flow.{Inv}
+use Rattle.theory.specs.Inner.Flow.{Inv}
 use Rattle.theory.proofs.Loss.{taken-iv, inv, same-numbers}
 use Rattle.theory.proofs.Orders.{run-reaches, complete-iff, order-iff}
-use Rattle.machine.specs.Words.{takenBase}
-use Rattle.machine.specs.Related.{tookNumber, tookValue, numberAt, valueAt}
+use Rattle.machine.specs.Taken.{takenBase, tookNumber, tookValue, takenNumber, takenValue}
 use Rattle.orders.specs.Record.{recordAt, receivedNumber, receivedValue, faultlessAt}
 use Rattle.links.proofs.Matches.{getD-iv, getD-map, getD-past}
 
@@ -93,8 +93,8 @@ module _ (R : Run) (L : Laws R) (s : State) where
       let g : getD (iv 0 m) (k - 1) 0 ≡ k = getD-iv 0 m (k - 1) (omega (arith, r .0, r .1)) ∙ omega (arith, r .0) in
       rw (h p (at t e)) (g, getD-map f (iv 0 m) (k - 1) (omega (arith, r .0, r .1, length-iv 0 m)) ∙ ap f g)
 
-  all-words : All → (e : ℕ) → (numberAt R s e ≡ receivedNumber t e (kind t e)) × (valueAt R s e ≡ receivedValue t e (kind t e))
-  unfolding numberAt valueAt
+  all-words : All → (e : ℕ) → (takenNumber R s e ≡ receivedNumber t e (kind t e)) × (takenValue R s e ≡ receivedValue t e (kind t e))
+  unfolding takenNumber takenValue
   all-words h e = by (ltb 0 e && leb e n)
       (λ b. let c = both (ltb 0 e) (leb e n) b in rw b (all-slot h e (ltb-true 0 e (c .0)) (leb-true e n (c .1)) (kind t e) refl))
       (λ b. rw (b, no-event t e b) (refl, refl))
@@ -106,7 +106,7 @@ module _ (R : Run) (L : Laws R) (s : State) where
   -- the other way: the words tell how many messages were received, and which
   module _ (few : n ≤ 2048) (i : Inv R s) (w : (k : ℕ) → k < takenBase → recordAt R s k ≡ faultlessAt t k) where
     told-number : (e : ℕ) → 0 < e → e ≤ n → tookNumber R (s .got) e (kind t e) ≡ receivedNumber t e (kind t e)
-    unfolding recordAt faultlessAt numberAt
+    unfolding recordAt faultlessAt takenNumber
     told-number e h k =
         let a : ltb e takenBase ≡ true = lt-ltb e takenBase (omega (arith, few)) in
         let b : (ltb 0 e && leb e n) ≡ true = rw (lt-ltb 0 e h, le-leb e n k) in

@@ -2,4 +2,5 @@
 pub mod Record
 pub mod Answer
 -- of single functions
-pub mod Left
+-- internal: no contract of a function that users call reaches these
+pub mod Inner

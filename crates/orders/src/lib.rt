@@ -4,14 +4,13 @@ ghost use mathlib.Core.Path.{_≡_};
 ghost use Prim.Native.Nat.{ℕ, _≤_, _<_};
 ghost use lib.ListN.{length, getD};
 ghost use Rattle.words.specs.Area.{areaWords};
-ghost use Rattle.machine.specs.Words.{currentBase, lowPlace, Small};
-ghost use Rattle.theory.specs.Line.{Run, recorded};
-ghost use Rattle.machine.specs.Related.{Started};
+ghost use Rattle.machine.specs.Inner.Words.{currentBase, lowPlace, Small};
+ghost use Rattle.theory.specs.Line.{Run, runAt};
+ghost use Rattle.machine.specs.Inner.Related.{Started};
 ghost use Rattle.theory.specs.Order.{run};
 ghost use Rattle.trace.specs.Trace.{Trace};
-ghost use Rattle.theory.specs.Epochs.{past};
-ghost use Rattle.orders.specs.Left.{Left};
-ghost use Rattle.links.specs.Given.{Given};
+ghost use Rattle.orders.specs.Inner.Left.{Left};
+ghost use Rattle.links.specs.Inner.Given.{Given};
 ghost use Rattle.orders.specs.Answer.{answerOf, wordsOf};
 use links::LINK_WORDS;
 use machine::CURRENT;
@@ -109,8 +108,8 @@ fn replay_in(
 // Replays an order from the line that the gates stand for, in an area of exactly 16,384 words.
 pub fn replay(full: &[u32], gates: &[u32], order: &[u16], area: &mut [u32], cut: usize) -> Replayed
     requires { ⌜ (length (now area) ≡ areaWords) × (128 ≤ length (now gates)) × ((t : Trace) × (line : (ℕ → ℕ)) × Given t line cut (now full) (now gates)) ⌝ }
-    ensures answer { λ r. ⌜ ((t : Trace) (line : ℕ → ℕ) → Given t line cut (now (full .entry)) (now (gates .entry)) → r ≡ answerOf (recorded t past cut line) (run (recorded t past cut line) (now (order .entry))) (length (now (order .entry)))) ⌝ }
-    ensures words { λ _. ⌜ ((t : Trace) (line : ℕ → ℕ) → Given t line cut (now (full .entry)) (now (gates .entry)) → now (area .exit) ≡ wordsOf (recorded t past cut line) (run (recorded t past cut line) (now (order .entry)))) ⌝ }
+    ensures answer { λ r. ⌜ ((t : Trace) (line : ℕ → ℕ) → Given t line cut (now (full .entry)) (now (gates .entry)) → r ≡ answerOf (runAt t cut line) (run (runAt t cut line) (now (order .entry))) (length (now (order .entry)))) ⌝ }
+    ensures words { λ _. ⌜ ((t : Trace) (line : ℕ → ℕ) → Given t line cut (now (full .entry)) (now (gates .entry)) → now (area .exit) ≡ wordsOf (runAt t cut line) (run (runAt t cut line) (now (order .entry)))) ⌝ }
 {
     let mut links = [0u16; LINK_WORDS];
     words::zero(area);

@@ -10,10 +10,9 @@ use Rattle.words.specs.Area.{areaWords}
 use Rattle.table.specs.Held.{held, holdsTrace}
 use Rattle.theory.specs.Events.{size}
 use Rattle.theory.proofs.Refusals.{failure-fit}
-use Rattle.columns.specs.Columns.{Columns}
+use Rattle.columns.specs.Inner.Columns.{Columns, Tabled}
 use Rattle.protocol.proofs.Passes.{held-formed}
-use Rattle.recovery_line.specs.Given.{Tabled}
-use Rattle.preparing.specs.Prepared.{Filled, failureFaultIn}
+use Rattle.preparing.specs.Inner.Prepared.{Tabulated, failureFaultIn}
 use Rattle.preparing.specs.Faults.{failureFaultOf}
 use Rattle.theory.specs.Refusals.{failureFault}
 
@@ -24,7 +23,7 @@ tabled-holds a full r l e = e ∙ ap (λ (b : Bool). b && holdsTrace a) (eq-eqb 
 pub tabled : (a full : List ℕ) → holdsTrace a ≡ true → Columns (held a) full → Tabled (held a) full
 tabled a full h C = record { formed = held-formed a h; columns = C }
 
-pub step-within : (a : List ℕ) (room step set : ℕ) (full : List ℕ) → Filled a room step set full → step ≤ size (held a)
+pub step-within : (a : List ℕ) (room step set : ℕ) (full : List ℕ) → Tabulated a room step set full → step ≤ size (held a)
 step-within a room step set full F = failure-fit (held a) step set .0 (F .fit) .step-most
 
 module _ (a : List ℕ) (room step set : ℕ) where

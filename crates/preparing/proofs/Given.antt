@@ -9,20 +9,19 @@ use Rattle.words.specs.Area.{wordsFrom}
 use Rattle.words.proofs.Area.{getD-words}
 use Rattle.trace.specs.Trace.{Trace}
 use Rattle.theory.specs.Events.{size}
-use Rattle.theory.specs.Epochs.{past}
-use Rattle.theory.specs.Line.{recorded, restartIn}
+use Rattle.theory.specs.Line.{restartIn, runAt}
 use Rattle.theory.specs.Replay.{gate}
 use Rattle.theory.proofs.WellFormed.{valid}
-use Rattle.recovery_line.specs.Given.{Tabled}
-use Rattle.gates.specs.Gates.{gateWord}
-use Rattle.links.specs.Given.{Given}
+use Rattle.columns.specs.Inner.Columns.{Tabled}
+use Rattle.gates.specs.Inner.Gates.{gateWord}
+use Rattle.links.specs.Inner.Given.{Given}
 
 module _ (t : Trace) (full : List ℕ) (G : Tabled t full) (cut : ℕ) (cl : cut ≤ size t) (line : ℕ → ℕ) (gates : List ℕ)
     (g : gates ≡ wordsFrom (gateWord t cut line) 0 192) where
   few : t .procs ≤ 64
   few = valid t (G .formed) .few
 
-  gate-is : (y : ℕ) → y < t .procs → getD gates y 0 ≡ gate (recorded t past cut line) y
+  gate-is : (y : ℕ) → y < t .procs → getD gates y 0 ≡ gate (runAt t cut line) y
   gate-is y ly =
       let m = few in
       ap (λ (w : List ℕ). getD w y 0) g ∙ getD-words (gateWord t cut line) 0 192 y (omega arith)

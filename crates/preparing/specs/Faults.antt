@@ -1,32 +1,30 @@
 -- What is wrong with what a call is given, for every input (document 01, "Numbers given by whoever causes them": the
 -- order is 12, 13, 8, 9, 10), and the run that it names.
 use Prim.Native.Nat.{ℕ}
-use mathlib.Core.Bool.{not}
+use mathlib.Core.Bool.{not, cond}
 use mathlib.Core.List.{List}
 use lib.ListN.{length}
 use lib.Dec.{ltb}
 use Rattle.words.specs.Area.{areaWords}
-use Rattle.trace.specs.Fit.{orElse}
 use Rattle.table.specs.Held.{held, holdsTrace}
-use Rattle.theory.specs.Epochs.{past}
-use Rattle.theory.specs.Line.{Run, recorded}
+use Rattle.theory.specs.Line.{Run, runAt}
 use Rattle.theory.specs.Refusals.{failureFault, lineFault}
 use Rattle.recovery_line.specs.declared.Line.{Line}
 use Rattle.recovery_line.specs.Given.{lineIn}
 
 -- what is wrong with the table area and the failure: 12, 13, 8, 9, or 0
 unfoldable pub failureFaultOf : List ℕ → ℕ → ℕ → ℕ
-failureFaultOf a step set = orElse (ltb (length a) areaWords) 12 (orElse (not (holdsTrace a)) 13 (failureFault (held a) step set))
+failureFaultOf a step set = cond (ltb (length a) areaWords) 12 (cond (not (holdsTrace a)) 13 (failureFault (held a) step set))
 
 -- the recorded run of the trace that a table area holds, with a failure and a line
 abbrev pub runOf : List ℕ → ℕ → Line → Run
-runOf a step l = recorded (held a) past step (lineIn l)
+runOf a step l = runAt (held a) step (lineIn l)
 
 -- what is wrong with the areas (`room` is how many words the run area has), the failure and the line: 12, 13, 8, 9, 10,
 -- or 0
-unfoldable pub faultOf : List ℕ → ℕ → ℕ → ℕ → Line → ℕ
-faultOf a room step set l =
-    orElse (ltb (length a) areaWords) 12
-    (orElse (ltb room areaWords) 12
-    (orElse (not (holdsTrace a)) 13
+unfoldable pub lineFaultOf : List ℕ → ℕ → ℕ → ℕ → Line → ℕ
+lineFaultOf a room step set l =
+    cond (ltb (length a) areaWords) 12
+    (cond (ltb room areaWords) 12
+    (cond (not (holdsTrace a)) 13
     (lineFault (held a) step set (l .count) (lineIn l))))

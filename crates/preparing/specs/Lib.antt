@@ -1,2 +1,3 @@
-pub mod Prepared
 pub mod Faults
+-- internal: no contract of a function that users call reaches these
+pub mod Inner

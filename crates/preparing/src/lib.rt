@@ -4,8 +4,8 @@
 ghost use mathlib.Core.Path.{_≡_};
 ghost use lib.ListN.{length};
 ghost use Rattle.words.specs.Area.{areaWords};
-ghost use Rattle.preparing.specs.Prepared.{failureFaultIn, Filled, Prepared};
-ghost use Rattle.preparing.specs.Faults.{faultOf};
+ghost use Rattle.preparing.specs.Inner.Prepared.{failureFaultIn, Tabulated, Prepared};
+ghost use Rattle.preparing.specs.Faults.{lineFaultOf};
 use recovery_line::Line;
 use words::AREA_WORDS;
 
@@ -14,7 +14,7 @@ use words::AREA_WORDS;
 pub fn fill_table(table: &[u32], room: usize, step: u64, set: u64, full: &mut [u32]) -> u32
     requires { ⌜ length (now full) ≡ areaWords ⌝ }
     ensures fault { λ r. ⌜ r ≡ failureFaultIn (now (table .entry)) room step set ⌝ }
-    ensures given { λ r. ⌜ (r ≡ 0 → Filled (now (table .entry)) room step set (now (full .exit))) ⌝ }
+    ensures given { λ r. ⌜ (r ≡ 0 → Tabulated (now (table .entry)) room step set (now (full .exit))) ⌝ }
 {
     if room < AREA_WORDS {
         return 12;
@@ -40,7 +40,7 @@ pub fn prepare(
     gates: &mut [u32],
 ) -> u32
     requires { ⌜ (length (now full) ≡ areaWords) × (length (now gates) ≡ 192) ⌝ }
-    ensures fault { λ r. ⌜ r ≡ faultOf (now (table .entry)) room step set line ⌝ }
+    ensures fault { λ r. ⌜ r ≡ lineFaultOf (now (table .entry)) room step set line ⌝ }
     ensures given { λ r. ⌜ (r ≡ 0 → Prepared (now (table .entry)) room step set line (now (full .exit)) (now (gates .exit))) ⌝ }
 {
     let failure = fill_table(table, room, step, set, full);

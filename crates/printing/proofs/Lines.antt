@@ -5,11 +5,11 @@ use mathlib.Core.Path.{_≡_, refl}
 use mathlib.Core.Bool.{Bool}
 use mathlib.Core.List.{List, [], _∷_, _++_}
 use Rattle.text.specs.Number.{decimal}
-use Rattle.writer.specs.Buffer.{Puts}
+use Rattle.writer.specs.Inner.Puts.{Puts}
 use Rattle.writer.proofs.Buffers.{then}
 use Rattle.printing.specs.Bytes.{bytesOf}
 use Rattle.printing.specs.Lines.{processLine, messageLine, refusalLine, totalLine}
-use Rattle.printing.specs.Rows.{rowBytes, messageKey, wordsRow}
+use Rattle.printing.specs.Inner.Rows.{rowBytes, messageKey, wordsRow}
 
 -- four keys with their numbers, and the end of the line
 pub row-put : (k l m n o₀ o₁ o₂ o₃ o₄ o₅ : List ℕ) (a b c d p₀ p₁ p₂ p₃ p₄ p₅ : ℕ)

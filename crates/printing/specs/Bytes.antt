@@ -1,5 +1,5 @@
 -- Quoted texts as bytes: those quoted here are ASCII, where the byte is the number of the character.
-use mathlib.Core.List.{List, [], _∷_, _++_}
+use mathlib.Core.List.{List, [], _∷_}
 use Prim.Native.Nat.{ℕ}
 use Prim.Native.Char.{code}
 use Prim.Native.String.{String, [] as empty, _∷_ as _then_}
@@ -7,8 +7,3 @@ use Prim.Native.String.{String, [] as empty, _∷_ as _then_}
 unfoldable pub bytesOf : String → List ℕ
 bytesOf empty = []
 bytesOf (c then s) = code c ∷ bytesOf s
-
--- "Lines end with LF (byte 10)."
-unfoldable pub linesOf : List String → List ℕ
-linesOf [] = []
-linesOf (l ∷ ls) = bytesOf l ++ 10 ∷ linesOf ls

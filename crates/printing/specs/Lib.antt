@@ -1,3 +1,4 @@
 pub mod Bytes
 pub mod Lines
-pub mod Rows
+-- internal: no contract of a function that users call reaches these
+pub mod Inner

@@ -1,8 +1,8 @@
 // The lines that the program prints, each from its numbers into a lent buffer, byte for byte by specs/Lines. Assumes
 // nothing.
-ghost use Rattle.writer.specs.Buffer.{Puts};
+ghost use Rattle.writer.specs.Inner.Puts.{Puts};
 ghost use Rattle.printing.specs.Lines.{processLine, totalLine, refusalLine};
-ghost use Rattle.printing.specs.Rows.{messageKey, wordsRow};
+ghost use Rattle.printing.specs.Inner.Rows.{messageKey, wordsRow};
 
 // The line of a process. Each line has a function with its own keys, and not one that is given them, so that the
 // compiler knows their lengths.

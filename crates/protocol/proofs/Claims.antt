@@ -10,9 +10,9 @@ use Rattle.table.specs.Held.{held, holdsTrace}
 use Rattle.theory.specs.Events.{size}
 use Rattle.theory.specs.Epochs.{Rule}
 use Rattle.theory.specs.Line.{recorded}
-use Rattle.theory.specs.Laws.{Laws}
+use Rattle.theory.specs.Inner.Laws.{Laws}
 use Rattle.theory.proofs.Epochs.{laws}
-use Rattle.columns.specs.Columns.{Columns, Others}
+use Rattle.columns.specs.Inner.Columns.{Columns, Others}
 use Rattle.columns.proofs.Others.{same-table}
 use Rattle.protocol.proofs.Passes.{held-formed, held-valid}
 

@@ -17,7 +17,7 @@ use Rattle.table.proofs.Places.{length-held}
 use Rattle.table.proofs.Holding.{held-self, words-of}
 use Rattle.theory.specs.Events.{size, eventAt}
 use Rattle.theory.proofs.WellFormed.{Valid, valid}
-use Rattle.columns.specs.Filling.{Filled}
+use Rattle.columns.specs.Inner.Filling.{Filled}
 use Rattle.columns.proofs.Bounds.{well-few}
 use Rattle.columns.proofs.Passes.{begin-filled}
 

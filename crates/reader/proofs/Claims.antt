@@ -15,8 +15,8 @@ use Rattle.trace.specs.Fit.{wellFormed}
 use Rattle.lines.specs.Line.{most, mostSet}
 use Rattle.reader.specs.Render.{render}
 use Rattle.lines.specs.Render.{renderFailure}
-use Rattle.reader.specs.Answer.{answerOf, readAnswer}
-use Rattle.reader.specs.Failure.{Failing, refused, failing, failureOf, failureAnswerOf, failureAnswer}
+use Rattle.reader.specs.Answer.{verdictAnswer, readAnswer}
+use Rattle.reader.specs.Failure.{Failing, refused, failing, lastFailure, failureAnswerOf, failureAnswer}
 use Rattle.reader.specs.Verdict.{Verdict, accepted, verdict}
 use Rattle.reader.proofs.Whole.{verdict-taken, render-taken, failing-taken, render-failing, refused-taken, verdict-numbered}
 
@@ -51,16 +51,16 @@ one-trace s t v w e =
 -- well formed, the failure's numbers are no more than their keys can hold, and the text is the rendering of both, byte
 -- for byte.
 pub canonical-failing : (text : List ℕ) (t : Trace) (step set : ℕ)
-    → (failureOf text ≡ failing t step set) ↔ ((wellFormed t ≡ true) × (step ≤ most) × (set ≤ mostSet) × (text ≡ render t ++ renderFailure step set))
-canonical-failing text t step set = (failing-taken text t step set, λ h. ap failureOf (h .3) ∙ render-failing t step set (h .0) (h .1) (h .2))
+    → (lastFailure text ≡ failing t step set) ↔ ((wellFormed t ≡ true) × (step ≤ most) × (set ≤ mostSet) × (text ≡ render t ++ renderFailure step set))
+canonical-failing text t step set = (failing-taken text t step set, λ h. ap lastFailure (h .3) ∙ render-failing t step set (h .0) (h .1) (h .2))
 
 -- The trace before a failure line is well formed.
-pub failing-fit : (text : List ℕ) (t : Trace) (step set : ℕ) → failureOf text ≡ failing t step set → wellFormed t ≡ true
+pub failing-fit : (text : List ℕ) (t : Trace) (step set : ℕ) → lastFailure text ≡ failing t step set → wellFormed t ≡ true
 failing-fit text t step set e = canonical-failing text t step set .0 e .0
 
 -- ---- Answers
 
-answered-of : (text : List ℕ) (v : Verdict) → verdict text ≡ v → answerOf v .number ≡ 0 → (t : Trace) × (verdict text ≡ accepted t)
+answered-of : (text : List ℕ) (v : Verdict) → verdict text ≡ v → verdictAnswer v .number ≡ 0 → (t : Trace) × (verdict text ≡ accepted t)
 answered-of text (Verdict.refused n k) e z = absurd (verdict-numbered text n k e z)
 answered-of text (Verdict.accepted t) e z = (t, e)
 
@@ -73,16 +73,16 @@ answered text a z =
     (λ low. let y : _≡_ {A = ℕ} 12 0 = (rw (lt-ltb (length a) areaWords low) at z) in absurd (let q : ⊥ = omega arith in q))
     (λ high. (high, answered-of text (verdict text) refl (rw (le-ltb (length a) areaWords high) at z)))
 
-failing-of : (text : List ℕ) (x : Failing) → failureOf text ≡ x → failureAnswerOf x .number ≡ 0
-    → (t : Trace) × (failureOf text ≡ failing t (failureAnswerOf x .step) (failureAnswerOf x .set))
+failing-of : (text : List ℕ) (x : Failing) → lastFailure text ≡ x → failureAnswerOf x .number ≡ 0
+    → (t : Trace) × (lastFailure text ≡ failing t (failureAnswerOf x .step) (failureAnswerOf x .set))
 failing-of text (Failing.refused n k) e z = absurd (refused-taken text n k e z)
 failing-of text (Failing.failing t step set) e z = (t, e)
 
 -- The same for a text with its failure line, of which the answer has the numbers.
 pub failing-answered : (text a : List ℕ) → (failureAnswer text a) .number ≡ 0
-    → (areaWords ≤ length a) × ((t : Trace) × (failureOf text ≡ failing t ((failureAnswer text a) .step) ((failureAnswer text a) .set)))
+    → (areaWords ≤ length a) × ((t : Trace) × (lastFailure text ≡ failing t ((failureAnswer text a) .step) ((failureAnswer text a) .set)))
 unfolding failureAnswer
 failing-answered text a z =
     by-lt (length a) areaWords
     (λ low. let y : _≡_ {A = ℕ} 12 0 = (rw (lt-ltb (length a) areaWords low) at z) in absurd (let q : ⊥ = omega arith in q))
-    (λ high. (high, rw (le-ltb (length a) areaWords high) (failing-of text (failureOf text) refl (rw (le-ltb (length a) areaWords high) at z))))
+    (λ high. (high, rw (le-ltb (length a) areaWords high) (failing-of text (lastFailure text) refl (rw (le-ltb (length a) areaWords high) at z))))

@@ -8,7 +8,7 @@ use lib.ListN.{length, take, drop, length-drop}
 use lib.Seq.{drop-drop}
 use Rattle.words.proofs.Cases.{by-bool}
 use Rattle.text.specs.declared.LineEnd.the-variants.{At, Missing}
-use Rattle.text.specs.Line.{lfFrom}
+use Rattle.text.specs.Inner.Line.{lfFrom}
 use Rattle.reader.specs.Verdict.{pieces}
 
 -- the bytes up to the first LF are the first piece

@@ -12,12 +12,11 @@ use Rattle.words.proofs.Cases.{by-eq, and-left, and-right, and-both}
 use Rattle.trace.specs.declared.Event.{Event}
 use Rattle.trace.specs.declared.Event.the-variants.{Send, Recv, Save}
 use Rattle.trace.specs.Trace.{Trace}
-use Rattle.trace.specs.Fit.{faultOf, valueFits, allFit}
+use Rattle.trace.specs.Fit.{eventFault, valueFits, allFit}
 use Rattle.lines.specs.declared.Line.{Line}
-use Rattle.lines.specs.declared.Line as line
 use Rattle.reader.specs.declared.Judged.{Judged}
 use Rattle.reader.specs.declared.Judged.the-variants.{Fit, Fails, Unfit}
-use Rattle.lines.specs.Line.{lineOf, most, mostSet}
+use Rattle.lines.specs.Line.{lineSaid, most, mostSet}
 use Rattle.lines.specs.Render.{renderEvent, renderFailure}
 use Rattle.reader.specs.Render.{renderEvents}
 use Rattle.reader.specs.Verdict.{pieces, extended, faultHere, judgeEvent, judge, Scan, afterLine, linesFrom}
@@ -26,6 +25,7 @@ use Rattle.reader.proofs.Judging.{fit-few}
 use Rattle.reader.proofs.Turns.{with-lf}
 use Rattle.lines.proofs.OneLine.{Small, Says, failure-text, line-says, lineFor, event-line}
 use Rattle.reader.proofs.Pieces.{joined, line-piece, plain-event}
+use Rattle.lines.specs.declared.Line as line
 
 -- the trace with more events
 abbrev pub longer : Trace → List Event → Trace
@@ -77,7 +77,7 @@ none-grown : (t : Trace) → length (t .events) ≤ 2048 → Grown t [] t
 unfolding allFit
 none-grown t h = (longer-none t, refl, omega arith)
 
-more-grown : (t u : Trace) (e : Event) (es : List Event) → faultOf (t .procs) (t .events) e ≡ 0 → valueFits e ≡ true → Grown (extended t e) es u → Grown t (e ∷ es) u
+more-grown : (t u : Trace) (e : Event) (es : List Event) → eventFault (t .procs) (t .events) e ≡ 0 → valueFits e ≡ true → Grown (extended t e) es u → Grown t (e ∷ es) u
 unfolding allFit
 more-grown t u e es z v g = (
   g .0 ∙ longer-more t e es,
@@ -85,7 +85,7 @@ more-grown t u e es z v g = (
   omega (arith, g .2, length-append (t .events) (e ∷ [])),
 )
 
-more-heard : (t : Trace) (l m : List ℕ) (ms : List (List ℕ)) (e : Event) → l ≡ renderEvent e → faultOf (t .procs) (t .events) e ≡ 0 → valueFits e ≡ true
+more-heard : (t : Trace) (l m : List ℕ) (ms : List (List ℕ)) (e : Event) → l ≡ renderEvent e → eventFault (t .procs) (t .events) e ≡ 0 → valueFits e ≡ true
     → (s : Scan) → Heard (extended t e) (m ∷ ms) s → Heard t (l ∷ (m ∷ ms)) s
 unfolding joined renderEvents
 more-heard t l m ms e q z v (Scan.refused n k) h = h
@@ -116,12 +116,12 @@ lines-heard t k ((b ∷ l) ∷ []) h = λ z. omega arith
 lines-heard t k (l ∷ (m ∷ ms)) h =
     after-heard t k l m ms (λ e. linesFrom (extended t e) (k + 1) (m ∷ ms)) h
     (λ e room. lines-heard (extended t e) (k + 1) (m ∷ ms) (omega (arith, length-append (t .events) (e ∷ []))))
-    (judge t (lineOf l)) (judge-told t l (lineOf l) (line-says l))
+    (judge t (lineSaid l)) (judge-told t l (lineSaid l) (line-says l))
 
 -- ---- from text to reading
 
 -- a fit event's processes are below 64
-fit-small : (n : ℕ) (before : List Event) (e : Event) → n ≤ 64 → faultOf n before e ≡ 0 → valueFits e ≡ true → Small e
+fit-small : (n : ℕ) (before : List Event) (e : Event) → n ≤ 64 → eventFault n before e ≡ 0 → valueFits e ≡ true → Small e
 fit-small n before (Send at to val) r z v = let f = send-fit n before at to val z in (omega arith, omega arith, leb-true val most v)
 fit-small n before (Recv at from) r z v = let f = recv-fit n before at from z in (omega arith, omega arith)
 fit-small n before (Save at) r z v = let f = save-fit n before at z in omega arith
@@ -132,8 +132,8 @@ judge-event t (Send at to val) = refl
 judge-event t (Recv at from) = refl
 judge-event t (Save at) = refl
 
-event-judged : (t : Trace) (e : Event) → t .procs ≤ 64 → length (t .events) < 2048 → faultOf (t .procs) (t .events) e ≡ 0 → valueFits e ≡ true
-    → judge t (lineOf (renderEvent e)) ≡ Fit e
+event-judged : (t : Trace) (e : Event) → t .procs ≤ 64 → length (t .events) < 2048 → eventFault (t .procs) (t .events) e ≡ 0 → valueFits e ≡ true
+    → judge t (lineSaid (renderEvent e)) ≡ Fit e
 unfolding judgeEvent faultHere
 event-judged t e r room fit v =
     ap (judge t) (event-line e (fit-small (t .procs) (t .events) e r fit v)) ∙ judge-event t e ∙ rw (lt-leb 2048 (length (t .events)) room, fit)
@@ -144,8 +144,8 @@ pub events-read : (t : Trace) (k : ℕ) (es : List Event) (rest : List ℕ) → 
 unfolding renderEvents allFit
 events-read t k [] rest r h f = (k, ap (λ (u : Trace). linesFrom u k (pieces rest)) (longer-none t))
 events-read t k (e ∷ es) rest r h f =
-    let fit : faultOf (t .procs) (t .events) e ≡ 0 = eqb-true (faultOf (t .procs) (t .events) e) 0 (and-left _ _ f) in
-    let values = and-right (eqb (faultOf (t .procs) (t .events) e) 0) _ f in
+    let fit : eventFault (t .procs) (t .events) e ≡ 0 = eqb-true (eventFault (t .procs) (t .events) e) 0 (and-left _ _ f) in
+    let values = and-right (eqb (eventFault (t .procs) (t .events) e) 0) _ f in
     let judged = event-judged t e r (omega arith) fit (and-left (valueFits e) _ values) in
     let after = renderEvents es ++ rest in
     let (j, more) = events-read (extended t e) (k + 1) es rest r (omega (arith, length-append (t .events) (e ∷ []))) (and-right (valueFits e) _ values) in (

@@ -2,7 +2,7 @@
 use Prim.Native.Nat.{ℕ}
 use mathlib.Core.Path.{_≡_, refl, sym, _∙_}
 use mathlib.Core.List.{List, [], _∷_}
-use mathlib.Core.Bool.{Bool, true, false}
+use mathlib.Core.Bool.{Bool, true, false, cond}
 use native.Mathlib.Omega.{arith}
 use lib.Dec.{eqb}
 use lib.ListN.{length}
@@ -14,8 +14,8 @@ use Rattle.text.specs.Number.{numberAt}
 use Rattle.text.specs.Key.{keyAt, startsWith, fieldAt}
 use Rattle.lines.specs.declared.Line.{Line}
 use Rattle.lines.specs.declared.Line.the-variants.{Procs, Send, Recv, Save, Failure, Malformed}
-use Rattle.lines.specs.Line.{kSend, kTo, kVal, kRecv, kFrom, kSave, kProcs, kFail, kSet, most, mostSet, thenLine, whenEnd, whenForm, procsOf, sendOf, recvOf, saveOf, failOf, lineOf}
-use Rattle.reader.specs.Reading.{countOnly}
+use Rattle.lines.specs.Line.{kSend, kTo, kVal, kRecv, kFrom, kSave, kProcs, kFail, kSet, most, mostSet, thenLine, whenEnd, procsSaid, sendSaid, recvSaid, saveSaid, failSaid, lineSaid}
+use Rattle.reader.specs.Inner.Reading.{countOnly}
 
 -- two keys that differ in their first byte do not stand in the same place
 other-key : (l : List ℕ) (a b : ℕ) (k m : List ℕ) → (a ≡ b → ⊥) → startsWith l (a ∷ k) ≡ true → startsWith l (b ∷ m) ≡ false
@@ -39,8 +39,8 @@ unfolding countOnly
 no-end true l h = h
 no-end false l h = record { is = refl }
 
-no-send : (l : List ℕ) → NoCount (sendOf l)
-unfolding sendOf countOnly
+no-send : (l : List ℕ) → NoCount (sendSaid l)
+unfolding sendSaid countOnly
 no-send l =
     no-count _
     (λ a p.
@@ -50,19 +50,19 @@ no-send l =
     (fieldAt l p kTo most))
     (numberAt l (length kSend) most)
 
-no-recv : (l : List ℕ) → NoCount (recvOf l)
-unfolding recvOf countOnly
+no-recv : (l : List ℕ) → NoCount (recvSaid l)
+unfolding recvSaid countOnly
 no-recv l =
     no-count _
     (λ a p. no-count _ (λ b q. no-end (eqb q (length l)) (Recv a b) (record { is = refl })) (fieldAt l p kFrom most))
     (numberAt l (length kRecv) most)
 
-no-save : (l : List ℕ) → NoCount (saveOf l)
-unfolding saveOf countOnly
+no-save : (l : List ℕ) → NoCount (saveSaid l)
+unfolding saveSaid countOnly
 no-save l = no-count _ (λ a p. no-end (eqb p (length l)) (Save a) (record { is = refl })) (numberAt l (length kSave) most)
 
-no-fail : (l : List ℕ) → NoCount (failOf l)
-unfolding failOf countOnly
+no-fail : (l : List ℕ) → NoCount (failSaid l)
+unfolding failSaid countOnly
 no-fail l =
     no-count _
     (λ k p. no-count _ (λ m q. no-end (eqb q (length l)) (Failure k m) (record { is = refl })) (fieldAt l p kSet mostSet))
@@ -79,28 +79,28 @@ unfolding countOnly
 then-count l (Value v p) = end-count (eqb p (length l)) v
 then-count l Refused = refl
 
-count-count : (l : List ℕ) → countOnly (procsOf l) ≡ procsOf l
-unfolding procsOf
+count-count : (l : List ℕ) → countOnly (procsSaid l) ≡ procsSaid l
+unfolding procsSaid
 count-count l = then-count l (numberAt l (length kProcs) most)
 
 -- a form that is no process count, or the rest
-no-form : (b : Bool) (l rest : Line) → NoCount l → NoCount rest → NoCount (whenForm b l rest)
+no-form : (b : Bool) (l rest : Line) → NoCount l → NoCount rest → NoCount (cond b l rest)
 no-form true l rest h g = h
 no-form false l rest h g = g
 
 -- each way out of `first_line`, over the test that the code has
 module _ (l : List ℕ) (b : Bool) (e : b ≡ keyAt l 0 kProcs) where
-  pub first-procs : b ≡ true → procsOf l ≡ countOnly (lineOf l)
-  unfolding lineOf
+  pub first-procs : b ≡ true → procsSaid l ≡ countOnly (lineSaid l)
+  unfolding lineSaid
   first-procs t =
       let k : startsWith l kProcs ≡ true = sym e ∙ t in
       rw (other-key l 112 101 _ (118 ∷ 61 ∷ 115 ∷ 101 ∷ 110 ∷ 100 ∷ 32 ∷ 97 ∷ 116 ∷ 61 ∷ []) (λ q. omega arith) k, other-key l 112 101 _ (118 ∷ 61 ∷ 114 ∷ 101 ∷ 99 ∷ 118 ∷ 32 ∷ 97 ∷ 116 ∷ 61 ∷ []) (λ q. omega arith) k, other-key l 112 101 _ (118 ∷ 61 ∷ 115 ∷ 97 ∷ 118 ∷ 101 ∷ 32 ∷ 97 ∷ 116 ∷ 61 ∷ []) (λ q. omega arith) k, k)
       (sym (count-count l))
 
-  pub first-none : b ≡ false → Malformed ≡ countOnly (lineOf l)
-  unfolding lineOf countOnly
+  pub first-none : b ≡ false → Malformed ≡ countOnly (lineSaid l)
+  unfolding lineSaid countOnly
   first-none t =
-      let rest : NoCount (whenForm (keyAt l 0 kProcs) (procsOf l) (whenForm (keyAt l 0 kFail) (failOf l) Malformed)) =
+      let rest : NoCount (cond (keyAt l 0 kProcs) (procsSaid l) (cond (keyAt l 0 kFail) (failSaid l) Malformed)) =
       rw (sym e ∙ t) (no-form (keyAt l 0 kFail) _ _ (no-fail l) (record { is = refl })) in
       sym
       (no-form (keyAt l 0 kSend) _ _ (no-send l)

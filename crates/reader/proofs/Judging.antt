@@ -9,13 +9,13 @@ use borrow.Author.Tests.{leb-false, le-leb, lt-leb, eq-eqb, ne-eqb}
 use Rattle.trace.specs.declared.Event.{Event}
 use Rattle.trace.specs.declared.Event.the-variants.{Send, Recv, Save}
 use Rattle.trace.specs.Trace.{Trace}
-use Rattle.trace.specs.Fit.{faultOf}
+use Rattle.trace.specs.Fit.{eventFault}
 use Rattle.words.proofs.Cases.{by-eq}
 use Rattle.lines.specs.declared.Line.{Line}
-use Rattle.lines.specs.declared.Line as line
 use Rattle.reader.specs.declared.Judged.the-variants.{Fit, Unfit}
 use Rattle.reader.specs.Verdict.{faultHere, judgeEvent, judge}
 use Rattle.trace.proofs.Faults.{or-zero}
+use Rattle.lines.specs.declared.Line as line
 
 -- each way out of `fault`
 module _ (n : ℕ) (es : List Event) (e : Event) where
@@ -23,7 +23,7 @@ module _ (n : ℕ) (es : List Event) (e : Event) where
   unfolding faultHere
   fault-1 h = rw (le-leb 2048 (length es) h)
 
-  pub fault-2 : length es < 2048 → faultOf n es e ≡ faultHere (record { procs = n; events = es }) e
+  pub fault-2 : length es < 2048 → eventFault n es e ≡ faultHere (record { procs = n; events = es }) e
   unfolding faultHere
   fault-2 h = rw (lt-leb 2048 (length es) h)
 
@@ -56,6 +56,6 @@ fit-line t (line.the-variants.Failure k m) d h = let z : _≡_ {A = ℕ} 0 1 = c
 fit-line t line.the-variants.Malformed d h = let z : _≡_ {A = ℕ} 0 1 = cc in omega arith
 
 -- a fit event comes after fewer than 2,048 and has nothing wrong with it
-pub fit-few : (t : Trace) (e : Event) → faultHere t e ≡ 0 → (length (t .events) < 2048) × (faultOf (t .procs) (t .events) e ≡ 0)
+pub fit-few : (t : Trace) (e : Event) → faultHere t e ≡ 0 → (length (t .events) < 2048) × (eventFault (t .procs) (t .events) e ≡ 0)
 unfolding faultHere
-fit-few t e h = let x = or-zero (leb 2048 (length (t .events))) 7 (faultOf (t .procs) (t .events) e) (omega arith) h in (leb-false 2048 (length (t .events)) (x .0), x .1)
+fit-few t e h = let x = or-zero (leb 2048 (length (t .events))) 7 (eventFault (t .procs) (t .events) e) (omega arith) h in (leb-false 2048 (length (t .events)) (x .0), x .1)

@@ -3,7 +3,7 @@ use Prim.Native.Nat.{ℕ, suc, _+_, _-_, _<_}
 use mathlib.Core.Path.{_≡_, refl, sym, ap, _∙_}
 use mathlib.Core.List.{List, [], _∷_, _++_, map}
 use native.Mathlib.Omega.{arith}
-use mathlib.Core.Bool.{Bool, true, false}
+use mathlib.Core.Bool.{Bool, true, false, cond}
 use lib.Dec.{eqb, leb}
 use lib.ListN.{length, getD, set, length-set, length-append, replicate, length-replicate, getD-replicate, List·getD-append, List·getD-eq-default}
 use lib.Seq.{getD-set-same, getD-set-other, getD-append-seam}
@@ -12,9 +12,9 @@ use Rattle.words.specs.Area.{areaWords}
 use Rattle.words.proofs.Cases.{by-eq, by-lt}
 use Rattle.trace.specs.declared.Event.{Event}
 use Rattle.trace.specs.Trace.{Trace}
-use Rattle.trace.specs.Table.{wordOf, valueWord, tableWord, pickWord}
+use Rattle.trace.specs.Table.{wordOf, valueWord, tableWord}
 use Rattle.reader.specs.Verdict.{extended}
-use Rattle.reader.specs.Reading.{Holds, appended}
+use Rattle.reader.specs.Inner.Reading.{Holds, appended}
 
 map-more : (f : Event → ℕ) (es : List Event) (e : Event) → map f (es ++ e ∷ []) ≡ map f es ++ f e ∷ []
 map-more f [] e = refl
@@ -90,7 +90,7 @@ module _ (t : Trace) (e : Event) where
             (λ n₁. getD-set-other table 1 k (n + 1) 0 n₁ ∙ h .words k lk ∙ sym (word-other k n₁ n₂ n₃))));
       }
 
-all-zero : (a b c : Bool) → pickWord a 0 (pickWord b 0 (pickWord c 0 0)) ≡ 0
+all-zero : (a b c : Bool) → cond {A = ℕ} a 0 (cond b 0 (cond c 0 0)) ≡ 0
 all-zero true b c = refl
 all-zero false true c = refl
 all-zero false false true = refl

@@ -8,22 +8,22 @@ use borrow.Author.Tests.{lt-ltb, le-ltb}
 use types.Run.{OneOf, miss}
 use denote.Enum.Declared.{tagOf}
 use Rattle.text.specs.declared.LineEnd.the-variants.{At, Missing}
-use Rattle.text.specs.Line.{lineEnd}
+use Rattle.text.specs.Inner.Line.{lineEnd}
 use Rattle.trace.specs.declared.Event.{Event}
 use Rattle.trace.specs.Trace.{Trace}
 use Rattle.lines.specs.declared.Line.{Line}
-use Rattle.lines.specs.declared.Line as line
 use Rattle.reader.specs.declared.Judged.{Judged}
-use Rattle.reader.proofs.Judged as judged
-use Rattle.lines.proofs.Line as lineType
 use Rattle.reader.specs.declared.Judged.the-variants.{Fit, Fails, Unfit}
 use Rattle.reader.specs.declared.Scanned.{Scanned}
 use Rattle.reader.specs.declared.Scanned.the-variants.{Refused, Ended}
-use Rattle.lines.specs.Line.{lineOf}
+use Rattle.lines.specs.Line.{lineSaid}
 use Rattle.reader.specs.Verdict.{Scan, refused, ended, pieces, extended, judge, afterLine, atEnd, linesFrom, firstLine, scanPieces, scan}
-use Rattle.reader.specs.Reading.{countOnly, Holds, stopOf, Outcome}
+use Rattle.reader.specs.Inner.Reading.{countOnly, Holds, stopOf, ScanOutcome}
 use Rattle.reader.proofs.Pieces.{first-piece}
 use Rattle.reader.proofs.Cutting.{cut-none, line-cut, first-cut}
+use Rattle.lines.specs.declared.Line as line
+use Rattle.reader.proofs.Judged as judged
+use Rattle.lines.proofs.Line as lineType
 
 -- a last piece that is something lacks its LF
 lacks : (l : List ℕ) (t : Trace) (k : ℕ) → 0 < length l → atEnd l t k ≡ refused 1 k
@@ -32,7 +32,7 @@ lacks (b ∷ bs) t k h = refl
 
 -- a line with its LF, whatever follows
 pub with-lf : (t : Trace) (k : ℕ) (l : List ℕ) (bs : List ℕ)
-    → linesFrom t k (l ∷ pieces bs) ≡ afterLine (judge t (lineOf l)) t k (pieces bs) (λ e. linesFrom (extended t e) (k + 1) (pieces bs))
+    → linesFrom t k (l ∷ pieces bs) ≡ afterLine (judge t (lineSaid l)) t k (pieces bs) (λ e. linesFrom (extended t e) (k + 1) (pieces bs))
 unfolding linesFrom
 with-lf t k l bs = let p = first-piece bs in rw (p .2)
 
@@ -45,37 +45,37 @@ module _ (text : List ℕ) (t : Trace) (k at : ℕ) where
   unfolding linesFrom
   turn-missing h e = rw (cut-none at (drop at text) e) (lacks (drop at text) t k (rw (length-drop at text) (omega arith)))
 
-  module _ (i : ℕ) (e : lineEnd text at ≡ At i) (j : Judged) (h : j ≡ judge t (lineOf (take (i - at) (drop at text)))) where
+  module _ (i : ℕ) (e : lineEnd text at ≡ At i) (j : Judged) (h : j ≡ judge t (lineSaid (take (i - at) (drop at text)))) where
     turn-line : linesFrom t k (pieces (drop at text)) ≡ afterLine j t k (pieces (drop (i + 1) text)) (λ d. linesFrom (extended t d) (k + 1) (pieces (drop (i + 1) text)))
     turn-line = ap (linesFrom t k) ((line-cut text at i e) .2) ∙ with-lf t k (take (i - at) (drop at text)) (drop (i + 1) text) ∙ rw (← h)
 
     pub turn-fit : (d : Event) → j ≡ Fit d → linesFrom t k (pieces (drop at text)) ≡ linesFrom (extended t d) (k + 1) (pieces (drop (i + 1) text))
     turn-fit d q = turn-line ∙ rw q
 
-    pub turn-stop : (table : List ℕ) → k ≤ 2050 → Holds table t → OneOf (1 ∷ 2 ∷ []) (tagOf judged.the-type j) → Outcome text (linesFrom t k (pieces (drop at text))) (stopOf j k (i + 1)) table
-    unfolding Outcome
+    pub turn-stop : (table : List ℕ) → k ≤ 2050 → Holds table t → OneOf (1 ∷ 2 ∷ []) (tagOf judged.the-type j) → ScanOutcome text (linesFrom t k (pieces (drop at text))) (stopOf j k (i + 1)) table
+    unfolding ScanOutcome
     turn-stop table b w o = rw turn-line (by-case j o)
       where
-        by-case : (x : Judged) → OneOf (1 ∷ 2 ∷ []) (tagOf judged.the-type x) → Outcome text (afterLine x t k (pieces (drop (i + 1) text)) (λ d. linesFrom (extended t d) (k + 1) (pieces (drop (i + 1) text)))) (stopOf x k (i + 1)) table
+        by-case : (x : Judged) → OneOf (1 ∷ 2 ∷ []) (tagOf judged.the-type x) → ScanOutcome text (afterLine x t k (pieces (drop (i + 1) text)) (λ d. linesFrom (extended t d) (k + 1) (pieces (drop (i + 1) text)))) (stopOf x k (i + 1)) table
         by-case (Fit d) o′ = absurd (miss (1 ∷ 2 ∷ []) 0 tt o′)
         by-case (Fails step set) o′ = (i + 1, refl, refl, w, b)
         by-case (Unfit n) o′ = (refl, w .size)
 
 -- an outcome that is known
 module _ (text : List ℕ) (s : Scan) (table : List ℕ) where
-  pub out-refused : (n k : ℕ) → s ≡ refused n k → length table ≡ 16384 → Outcome text s (Refused n k) table
-  unfolding Outcome
+  pub out-refused : (n k : ℕ) → s ≡ refused n k → length table ≡ 16384 → ScanOutcome text s (Refused n k) table
+  unfolding ScanOutcome
   out-refused n k e l = rw e (refl, l)
 
-  pub out-ended : (t : Trace) (k : ℕ) → s ≡ ended t k → Holds table t → Outcome text s (Ended k) table
-  unfolding Outcome
+  pub out-ended : (t : Trace) (k : ℕ) → s ≡ ended t k → Holds table t → ScanOutcome text s (Ended k) table
+  unfolding ScanOutcome
   out-ended t k e h = rw e (refl, h)
 
-  pub out-same : (z : Scan) (r : Scanned) → z ≡ s → Outcome text z r table → Outcome text s r table
+  pub out-same : (z : Scan) (r : Scanned) → z ≡ s → ScanOutcome text z r table → ScanOutcome text s r table
   out-same z r e o = rw (← e) o
 
 -- a first line with its LF, whatever follows
-first-lf : (l bs : List ℕ) → scanPieces (l ∷ pieces bs) ≡ firstLine (lineOf l) (λ n. linesFrom (record { procs = n; events = [] }) 2 (pieces bs))
+first-lf : (l bs : List ℕ) → scanPieces (l ∷ pieces bs) ≡ firstLine (lineSaid l) (λ n. linesFrom (record { procs = n; events = [] }) 2 (pieces bs))
 unfolding scanPieces
 first-lf l bs = let p = first-piece bs in rw (p .2)
 
@@ -95,7 +95,7 @@ module _ (text : List ℕ) where
   unfolding scan scanPieces
   scan-missing e = rw (cut-none 0 text e)
 
-  module _ (i : ℕ) (e : lineEnd text 0 ≡ At i) (l : Line) (h : l ≡ countOnly (lineOf (take i text))) where
+  module _ (i : ℕ) (e : lineEnd text 0 ≡ At i) (l : Line) (h : l ≡ countOnly (lineSaid (take i text))) where
     abbrev rest : ℕ → Scan
     rest n = linesFrom (record { procs = n; events = [] }) 2 (pieces (drop (i + 1) text))
 
@@ -104,7 +104,7 @@ module _ (text : List ℕ) where
     scan-line =
         ap scanPieces ((first-cut text i e) .1)
         ∙ first-lf (take i text) (drop (i + 1) text)
-        ∙ first-count (lineOf (take i text)) rest
+        ∙ first-count (lineSaid (take i text)) rest
         ∙ ap (λ (x : Line). firstLine x rest) (sym h)
 
     pub scan-other : OneOf (1 ∷ 2 ∷ 3 ∷ 4 ∷ 5 ∷ []) (tagOf lineType.the-type l) → scan text ≡ refused 1 1

@@ -16,10 +16,10 @@ use Rattle.reader.specs.declared.Scanned.the-variants.{Refused, Ended, S
 use Rattle.words.proofs.Cases.{by-bool}
 use Rattle.reader.specs.declared.FailureAnswer.{FailureAnswer}
 use Rattle.reader.specs.Verdict.{Scan, scan, pieces, verdict, verdictOf, Verdict, accepted}
-use Rattle.reader.specs.Failure.{Failing, lastLine, failingOf, failureOf, traceOf, failureAnswerOf, failureAnswer, failureArea}
+use Rattle.reader.specs.Failure.{Failing, lastLine, failingOf, lastFailure, traceOf, failureAnswerOf, failureAnswer, failureArea}
 use Rattle.reader.proofs.Pieces.{first-piece}
-use Rattle.reader.specs.Answer.{answerOf, ruleOf, readAnswer, readArea}
-use Rattle.reader.specs.Reading.{Holds, Outcome}
+use Rattle.reader.specs.Answer.{verdictAnswer, verdictWord, readAnswer, readArea}
+use Rattle.reader.specs.Inner.Reading.{Holds, ScanOutcome}
 
 -- no outcome is two
 apart {ℓ} : {A : Type ℓ} (r x y : Scanned) → r ≡ x → r ≡ y → ((x ≡ y) → _≡_ {A = ℕ} 0 1) → A
@@ -27,30 +27,30 @@ apart r x y p q f = absurd (let e : x ≡ y = cc in let z : _≡_ {A = ℕ} 0 1 
 
 -- ---- What an outcome tells of the scan
 
-module _ (text : List ℕ) (r : Scanned) (table : List ℕ) (o : Outcome text (scan text) r table) where
+module _ (text : List ℕ) (r : Scanned) (table : List ℕ) (o : ScanOutcome text (scan text) r table) where
   told-refused : (n k : ℕ) → r ≡ Refused n k → (scan text ≡ Scan.refused n k) × (length table ≡ areaWords)
-  unfolding Outcome
+  unfolding ScanOutcome
   told-refused n k e = go (scan text) refl o
     where
-      go : (s : Scan) → scan text ≡ s → Outcome text s r table → (scan text ≡ Scan.refused n k) × (length table ≡ areaWords)
+      go : (s : Scan) → scan text ≡ s → ScanOutcome text s r table → (scan text ≡ Scan.refused n k) × (length table ≡ areaWords)
       go (Scan.refused m j) q p = let a : m ≡ n = cc in let b : j ≡ k = cc in (q ∙ rw (a, b), p .1)
       go (Scan.ended t j) q p = apart r (Refused n k) (Ended j) e (p .0) (λ f. cc)
       go (Scan.stopped t step set j rest) q p = apart r (Refused n k) (Stopped step set j (p .0)) e (p .1) (λ f. cc)
 
   told-ended : (k : ℕ) → r ≡ Ended k → (t : Trace) × (scan text ≡ Scan.ended t k) × Holds table t
-  unfolding Outcome
+  unfolding ScanOutcome
   told-ended k e = go (scan text) refl o
     where
-      go : (s : Scan) → scan text ≡ s → Outcome text s r table → (t : Trace) × (scan text ≡ Scan.ended t k) × Holds table t
+      go : (s : Scan) → scan text ≡ s → ScanOutcome text s r table → (t : Trace) × (scan text ≡ Scan.ended t k) × Holds table t
       go (Scan.refused m j) q p = apart r (Ended k) (Refused m j) e (p .0) (λ f. cc)
       go (Scan.ended t j) q p = let a : j ≡ k = cc in (t, q ∙ rw a, p .1)
       go (Scan.stopped t step set j rest) q p = apart r (Ended k) (Stopped step set j (p .0)) e (p .1) (λ f. cc)
 
   pub told-stopped : (a b k at : ℕ) → r ≡ Stopped a b k at → (t : Trace) × (scan text ≡ Scan.stopped t a b k (pieces (drop at text))) × Holds table t × (k ≤ 2050)
-  unfolding Outcome
+  unfolding ScanOutcome
   told-stopped a b k at e = go (scan text) refl o
     where
-      go : (s : Scan) → scan text ≡ s → Outcome text s r table → (t : Trace) × (scan text ≡ Scan.stopped t a b k (pieces (drop at text))) × Holds table t × (k ≤ 2050)
+      go : (s : Scan) → scan text ≡ s → ScanOutcome text s r table → (t : Trace) × (scan text ≡ Scan.stopped t a b k (pieces (drop at text))) × Holds table t × (k ≤ 2050)
       go (Scan.refused m j) q p = apart r (Stopped a b k at) (Refused m j) e (p .0) (λ f. cc)
       go (Scan.ended t j) q p = apart r (Stopped a b k at) (Ended j) e (p .0) (λ f. cc)
       go (Scan.stopped t step set j rest) q p =
@@ -63,27 +63,27 @@ module _ (text : List ℕ) (r : Scanned) (table : List ℕ) (o : Outcome text (s
 -- ---- The words that a verdict leaves
 
 zeros : (v : Verdict) (n k : ℕ) (before after : List ℕ) → v ≡ Verdict.refused n k → length before ≡ areaWords → after ≡ replicate (length before) 0
-    → after ≡ wordsFrom (ruleOf v) 0 areaWords
+    → after ≡ wordsFrom (verdictWord v) 0 areaWords
 zeros v n k before after e l z =
     let y : after ≡ replicate 16384 0 = z ∙ ap (λ (i : ℕ). replicate i 0) l in
     rw e (words-ext (λ i. 0) 16384 after (ap length y ∙ length-replicate {A = ℕ} 16384 0) (λ i q. ap (λ (w : List ℕ). getD w i 0) y ∙ getD-replicate {A = ℕ} 16384 i 0 0 q))
 
-held : (v : Verdict) (t : Trace) (table : List ℕ) → v ≡ accepted t → Holds table t → table ≡ wordsFrom (ruleOf v) 0 areaWords
+held : (v : Verdict) (t : Trace) (table : List ℕ) → v ≡ accepted t → Holds table t → table ≡ wordsFrom (verdictWord v) 0 areaWords
 held v t table e h = rw e (words-ext (tableWord t) 16384 table (h .size) (h .words))
 
 -- ---- `read_in`: what it answers, and the words it leaves; each way out
 
 abbrev pub Left : List ℕ → Answer → List ℕ → Type 0
-Left text r table = (r ≡ answerOf (verdict text)) × (table ≡ wordsFrom (ruleOf (verdict text)) 0 areaWords)
+Left text r table = (r ≡ verdictAnswer (verdict text)) × (table ≡ wordsFrom (verdictWord (verdict text)) 0 areaWords)
 
-module _ (text : List ℕ) (r : Scanned) (table : List ℕ) (o : Outcome text (scan text) r table) where
+module _ (text : List ℕ) (r : Scanned) (table : List ℕ) (o : ScanOutcome text (scan text) r table) where
   pub left-refused : (n k : ℕ) (a : Answer) (after : List ℕ) → r ≡ Refused n k → a ≡ (record { number = n; place = k })
       → after ≡ replicate (length table) 0 → Left text a after
   unfolding verdict
   left-refused n k a after e h z =
       let q = told-refused text r table o n k e in
       let v : verdict text ≡ Verdict.refused n k = ap verdictOf (q .0) in
-      (h ∙ sym (ap answerOf v), zeros (verdict text) n k table after v (q .1) z)
+      (h ∙ sym (ap verdictAnswer v), zeros (verdict text) n k table after v (q .1) z)
 
   pub left-stopped : (x y k at : ℕ) (a : Answer) (after : List ℕ) → r ≡ Stopped x y k at → a ≡ (record { number = 1; place = k })
       → after ≡ replicate (length table) 0 → Left text a after
@@ -91,19 +91,19 @@ module _ (text : List ℕ) (r : Scanned) (table : List ℕ) (o : Outcome text (s
   left-stopped x y k at a after e h z =
       let q = told-stopped text r table o x y k at e in
       let v : verdict text ≡ Verdict.refused 1 k = ap verdictOf (q .1) in
-      (h ∙ sym (ap answerOf v), zeros (verdict text) 1 k table after v (q .2 .size) z)
+      (h ∙ sym (ap verdictAnswer v), zeros (verdict text) 1 k table after v (q .2 .size) z)
 
   pub left-ended : (k : ℕ) → r ≡ Ended k → Left text (record { number = 0; place = 0 }) table
   unfolding verdict
   left-ended k e =
       let q = told-ended text r table o k e in
       let v : verdict text ≡ accepted (q .0) = ap verdictOf (q .1) in
-      (sym (ap answerOf v), held (verdict text) (q .0) table v (q .2))
+      (sym (ap verdictAnswer v), held (verdict text) (q .0) table v (q .2))
 
 -- ---- `read_failure_in`: the same
 
 abbrev pub LeftFailing : List ℕ → FailureAnswer → List ℕ → Type 0
-LeftFailing text r table = (r ≡ failureAnswerOf (failureOf text)) × (table ≡ wordsFrom (ruleOf (traceOf (failureOf text))) 0 areaWords)
+LeftFailing text r table = (r ≡ failureAnswerOf (lastFailure text)) × (table ≡ wordsFrom (verdictWord (traceOf (lastFailure text))) 0 areaWords)
 
 -- something follows the failure line, or nothing
 follows : (l : List ℕ) (k : ℕ) (f : Failing) → 0 < length l → lastLine (pieces l) k f ≡ Failing.refused 1 (k + 1)
@@ -115,36 +115,36 @@ nothing : (text : List ℕ) (at k : ℕ) (f : Failing) → length text ≤ at �
 unfolding pieces
 nothing text at k f h = rw (drop-of-length-le text {i = at} h)
 
-module _ (text : List ℕ) (r : Scanned) (table : List ℕ) (o : Outcome text (scan text) r table) where
+module _ (text : List ℕ) (r : Scanned) (table : List ℕ) (o : ScanOutcome text (scan text) r table) where
   -- a refusal, where the table is zero afterwards
-  no-failure : (n k : ℕ) (a : FailureAnswer) (after : List ℕ) → failureOf text ≡ Failing.refused n k → length table ≡ areaWords
+  no-failure : (n k : ℕ) (a : FailureAnswer) (after : List ℕ) → lastFailure text ≡ Failing.refused n k → length table ≡ areaWords
       → a ≡ (record { number = n; place = k; step = 0; set = 0 }) → after ≡ replicate (length table) 0 → LeftFailing text a after
-  no-failure n k a after v l h z = (h ∙ sym (ap failureAnswerOf v), zeros (traceOf (failureOf text)) n k table after (ap traceOf v) l z)
+  no-failure n k a after v l h z = (h ∙ sym (ap failureAnswerOf v), zeros (traceOf (lastFailure text)) n k table after (ap traceOf v) l z)
 
   pub failing-refused : (n k : ℕ) (a : FailureAnswer) (after : List ℕ) → r ≡ Refused n k → a ≡ (record { number = n; place = k; step = 0; set = 0 })
       → after ≡ replicate (length table) 0 → LeftFailing text a after
-  unfolding failureOf
+  unfolding lastFailure
   failing-refused n k a after e h z = let q = told-refused text r table o n k e in no-failure n k a after (ap failingOf (q .0)) (q .1) h z
 
   pub failing-ended : (k : ℕ) (a : FailureAnswer) (after : List ℕ) → r ≡ Ended k → a ≡ (record { number = 1; place = k; step = 0; set = 0 })
       → after ≡ replicate (length table) 0 → LeftFailing text a after
-  unfolding failureOf
+  unfolding lastFailure
   failing-ended k a after e h z = let q = told-ended text r table o k e in no-failure 1 k a after (ap failingOf (q .1)) (q .2 .size) h z
 
   module _ (x y k at : ℕ) (e : r ≡ Stopped x y k at) where
     pub failing-follows : (a : FailureAnswer) (after : List ℕ) → at < length text → a ≡ (record { number = 1; place = k + 1; step = 0; set = 0 })
         → after ≡ replicate (length table) 0 → LeftFailing text a after
-    unfolding failureOf
+    unfolding lastFailure
     failing-follows a after g h z =
         let q = told-stopped text r table o x y k at e in
         no-failure 1 (k + 1) a after (ap failingOf (q .1) ∙ follows (drop at text) k (Failing.failing (q .0) x y) (rw (length-drop at text) (omega arith))) (q .2 .size) h z
 
     pub failing-last : length text ≤ at → LeftFailing text (record { number = 0; place = 0; step = x; set = y }) table
-    unfolding failureOf
+    unfolding lastFailure
     failing-last g =
         let q = told-stopped text r table o x y k at e in
-        let v : failureOf text ≡ Failing.failing (q .0) x y = ap failingOf (q .1) ∙ nothing text at k (Failing.failing (q .0) x y) g in
-        (sym (ap failureAnswerOf v), held (traceOf (failureOf text)) (q .0) table (ap traceOf v) (q .2))
+        let v : lastFailure text ≡ Failing.failing (q .0) x y = ap failingOf (q .1) ∙ nothing text at k (Failing.failing (q .0) x y) g in
+        (sym (ap failureAnswerOf v), held (traceOf (lastFailure text)) (q .0) table (ap traceOf v) (q .2))
 
 -- each way out of `read`
 pub short : (text a : List ℕ) → length a < areaWords → (record { number = 12; place = 0 } ≡ readAnswer text a) × (a ≡ readArea text a)

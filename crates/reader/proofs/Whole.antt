@@ -14,16 +14,16 @@ use Rattle.trace.specs.declared.Event.{Event}
 use Rattle.trace.specs.Trace.{Trace}
 use Rattle.trace.specs.Fit.{wellFormed}
 use Rattle.lines.specs.declared.Line.{Line}
-use Rattle.lines.specs.declared.Line as line
-use Rattle.lines.specs.Line.{kProcs, lineOf, most, mostSet}
+use Rattle.lines.specs.Line.{kProcs, lineSaid, most, mostSet}
 use Rattle.reader.specs.Render.{renderEvents, render}
 use Rattle.lines.specs.Render.{renderFailure}
-use Rattle.reader.specs.Failure.{Failing, refused, failing, lastLine, failingOf, failureOf}
+use Rattle.reader.specs.Failure.{Failing, refused, failing, lastLine, failingOf, lastFailure}
 use Rattle.reader.specs.Verdict.{pieces, judge, Scan, linesFrom, firstLine, scanPieces, scan, Verdict, verdictOf, verdict}
 use Rattle.reader.proofs.Turns.{with-lf}
 use Rattle.lines.proofs.OneLine.{Says, failureText, failure-text, line-says, procs-line, failure-line}
 use Rattle.reader.proofs.Pieces.{joined, first-piece, joined-pieces, line-piece, plain-procs, plain-failure}
 use Rattle.reader.proofs.Events.{Grown, Heard, lines-heard, events-read}
+use Rattle.lines.specs.declared.Line as line
 
 -- what reading says of the text: a refusal has a number, a trace is well formed, and the text is its rendering, up to a
 -- failure line that is rendered too
@@ -72,7 +72,7 @@ pieces-taken : (ps : List (List ℕ)) → Taken (joined ps) (scanPieces ps)
 unfolding scanPieces
 pieces-taken [] = λ z. omega arith
 pieces-taken (l ∷ []) = λ z. omega arith
-pieces-taken (l ∷ (m ∷ ms)) = first-taken l m ms (lineOf l) (line-says l)
+pieces-taken (l ∷ (m ∷ ms)) = first-taken l m ms (lineSaid l) (line-says l)
 
 pub scan-taken : (text : List ℕ) → Taken text (scan text)
 unfolding scan
@@ -143,8 +143,8 @@ failing-of text t step set (Scan.stopped u i m k rest) h e =
     let c : m ≡ set = cc in
     rw (a, b, c, none, append-nil (renderFailure step set)) at h
 
-pub failing-taken : (text : List ℕ) (t : Trace) (step set : ℕ) → failureOf text ≡ failing t step set → Rendered text t step set
-unfolding failureOf
+pub failing-taken : (text : List ℕ) (t : Trace) (step set : ℕ) → lastFailure text ≡ failing t step set → Rendered text t step set
+unfolding lastFailure
 failing-taken text t step set e = failing-of text t step set (scan text) (scan-taken text) e
 
 failure-read : (t : Trace) (k step set : ℕ) → step ≤ most → set ≤ mostSet
@@ -158,8 +158,8 @@ failure-read t k step set h i =
     ∙ rw (failure-line step set h i)
 
 pub render-failing : (t : Trace) (step set : ℕ) → wellFormed t ≡ true → step ≤ most → set ≤ mostSet
-    → failureOf (render t ++ renderFailure step set) ≡ failing t step set
-unfolding failureOf pieces
+    → lastFailure (render t ++ renderFailure step set) ≡ failing t step set
+unfolding lastFailure pieces
 render-failing t step set w h i =
     let (k, read) = rendered-read t (renderFailure step set) w in
     ap failingOf (read ∙ failure-read t k step set h i)
@@ -175,8 +175,8 @@ refused-of text n j (Scan.refused m k) h e z = let y : m ≡ n = cc in h (y ∙ 
 refused-of text n j (Scan.ended u k) h e z = let y : _≡_ {A = ℕ} 1 n = cc in omega arith
 refused-of text n j (Scan.stopped u i m k rest) h e z = last-refused rest k u i m n j e z
 
-pub refused-taken : (text : List ℕ) (n k : ℕ) → failureOf text ≡ refused n k → n ≡ 0 → ⊥
-unfolding failureOf
+pub refused-taken : (text : List ℕ) (n k : ℕ) → lastFailure text ≡ refused n k → n ≡ 0 → ⊥
+unfolding lastFailure
 refused-taken text n k e = refused-of text n k (scan text) (scan-taken text) e
 
 numbered-of : (text : List ℕ) (n j : ℕ) (s : Scan) → Taken text s → verdictOf s ≡ Verdict.refused n j → n ≡ 0 → ⊥

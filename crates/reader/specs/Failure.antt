@@ -7,8 +7,8 @@ use Rattle.words.specs.Area.{areaWords, ruled}
 use Rattle.trace.specs.Trace.{Trace}
 use Rattle.reader.specs.declared.FailureAnswer.{FailureAnswer}
 use Rattle.reader.specs.Verdict.{Scan, scan, Verdict, accepted}
-use Rattle.reader.specs.Answer.{pickArea, ruleOf}
-use mathlib.Core.Bool.{Bool, true, false}
+use mathlib.Core.Bool.{cond}
+use Rattle.reader.specs.Answer.{verdictWord}
 
 -- a refusal's number and place, or the trace and the failure line's numbers
 pub data Failing : Type 0 where
@@ -28,8 +28,8 @@ failingOf (Scan.refused n k) = refused n k
 failingOf (Scan.ended t k) = refused 1 k
 failingOf (Scan.stopped t step set k rest) = lastLine rest k (failing t step set)
 
-unfoldable pub failureOf : List ℕ → Failing
-failureOf text = failingOf (scan text)
+unfoldable pub lastFailure : List ℕ → Failing
+lastFailure text = failingOf (scan text)
 
 -- as a verdict on the trace, by which the table area goes
 abbrev pub traceOf : Failing → Verdict
@@ -41,12 +41,8 @@ abbrev pub failureAnswerOf : Failing → FailureAnswer
 failureAnswerOf (refused n k) = record { number = n; place = k; step = 0; set = 0 }
 failureAnswerOf (failing t step set) = record { number = 0; place = 0; step = step; set = set }
 
-abbrev pub pickFailure : Bool → FailureAnswer → FailureAnswer → FailureAnswer
-pickFailure true a b = a
-pickFailure false a b = b
-
 unfoldable pub failureAnswer : List ℕ → List ℕ → FailureAnswer
-failureAnswer text a = pickFailure (ltb (length a) areaWords) (record { number = 12; place = 0; step = 0; set = 0 }) (failureAnswerOf (failureOf text))
+failureAnswer text a = cond (ltb (length a) areaWords) (record { number = 12; place = 0; step = 0; set = 0 }) (failureAnswerOf (lastFailure text))
 
 unfoldable pub failureArea : List ℕ → List ℕ → List ℕ
-failureArea text a = pickArea (ltb (length a) areaWords) a (ruled (ruleOf (traceOf (failureOf text))) areaWords a)
+failureArea text a = cond (ltb (length a) areaWords) a (ruled (verdictWord (traceOf (lastFailure text))) areaWords a)

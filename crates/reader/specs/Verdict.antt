@@ -2,22 +2,18 @@
 -- by whoever causes them": "for text line by line 1, 7, 2, 3, 4, 5, 6").
 use Prim.Native.Nat.{ℕ, _+_}
 use mathlib.Core.List.{List, [], _∷_, _++_}
-use mathlib.Core.Bool.{Bool, true, false}
+use mathlib.Core.Bool.{cond}
 use lib.ListN.{length}
 use lib.Dec.{leb, ltb, eqb}
 use Rattle.trace.specs.declared.Event.{Event}
 use Rattle.trace.specs.declared.Event.the-variants.{Send, Recv, Save}
 use Rattle.trace.specs.Trace.{Trace}
-use Rattle.trace.specs.Fit.{orElse, faultOf}
+use Rattle.trace.specs.Fit.{eventFault}
 use Rattle.lines.specs.declared.Line.{Line}
-use Rattle.lines.specs.declared.Line as line
 use Rattle.reader.specs.declared.Judged.{Judged}
 use Rattle.reader.specs.declared.Judged.the-variants.{Fit, Fails, Unfit}
-use Rattle.lines.specs.Line.{lineOf}
-
-abbrev pub pickPieces : Bool → List (List ℕ) → List (List ℕ) → List (List ℕ)
-pickPieces true a b = a
-pickPieces false a b = b
+use Rattle.lines.specs.Line.{lineSaid}
+use Rattle.lines.specs.declared.Line as line
 
 -- a byte before the first piece
 abbrev pub grow : ℕ → List (List ℕ) → List (List ℕ)
@@ -28,23 +24,19 @@ grow b (l ∷ ls) = (b ∷ l) ∷ ls
 -- line ends with LF.
 unfoldable pub pieces : List ℕ → List (List ℕ)
 pieces [] = [] ∷ []
-pieces (b ∷ bs) = pickPieces (eqb b 10) ([] ∷ pieces bs) (grow b (pieces bs))
+pieces (b ∷ bs) = cond (eqb b 10) ([] ∷ pieces bs) (grow b (pieces bs))
 
 -- the trace with one event more
 abbrev pub extended : Trace → Event → Trace
 extended t e = record { procs = t .procs; events = t .events ++ e ∷ [] }
 
-abbrev pub pickJudged : Bool → Judged → Judged → Judged
-pickJudged true a b = a
-pickJudged false a b = b
-
 -- what is wrong with an event as the next of a trace, or 0: a 2,049th is 7, before its processes are looked at; then 3,
 -- 4, 5, 6
 unfoldable pub faultHere : Trace → Event → ℕ
-faultHere t e = orElse (leb 2048 (length (t .events))) 7 (faultOf (t .procs) (t .events) e)
+faultHere t e = cond (leb 2048 (length (t .events))) 7 (eventFault (t .procs) (t .events) e)
 
 unfoldable pub judgeEvent : Trace → Event → Judged
-judgeEvent t e = pickJudged (eqb (faultHere t e) 0) (Fit e) (Unfit (faultHere t e))
+judgeEvent t e = cond (eqb (faultHere t e) 0) (Fit e) (Unfit (faultHere t e))
 
 -- a line after the first: an event, a failure line, or none that is due there
 unfoldable pub judge : Trace → Line → Judged
@@ -76,15 +68,11 @@ atEnd (b ∷ bs) t k = refused 1 k
 unfoldable pub linesFrom : Trace → ℕ → List (List ℕ) → Scan
 linesFrom t k [] = refused 1 k
 linesFrom t k (l ∷ []) = atEnd l t k
-linesFrom t k (l ∷ (m ∷ ms)) = afterLine (judge t (lineOf l)) t k (m ∷ ms) (λ e. linesFrom (extended t e) (k + 1) (m ∷ ms))
-
-abbrev pub pickScan : Bool → Scan → Scan → Scan
-pickScan true a b = a
-pickScan false a b = b
+linesFrom t k (l ∷ (m ∷ ms)) = afterLine (judge t (lineSaid l)) t k (m ∷ ms) (λ e. linesFrom (extended t e) (k + 1) (m ∷ ms))
 
 -- line 1: the process count, 2 to 64
 abbrev pub firstLine : Line → (ℕ → Scan) → Scan
-firstLine (line.the-variants.Procs n) next = pickScan (ltb n 2) (refused 2 1) (pickScan (ltb 64 n) (refused 2 1) (next n))
+firstLine (line.the-variants.Procs n) next = cond (ltb n 2) (refused 2 1) (cond (ltb 64 n) (refused 2 1) (next n))
 firstLine (line.the-variants.Send at to val) next = refused 1 1
 firstLine (line.the-variants.Recv at from) next = refused 1 1
 firstLine (line.the-variants.Save at) next = refused 1 1
@@ -94,7 +82,7 @@ firstLine line.the-variants.Malformed next = refused 1 1
 unfoldable pub scanPieces : List (List ℕ) → Scan
 scanPieces [] = refused 1 1
 scanPieces (l ∷ []) = refused 1 1
-scanPieces (l ∷ (m ∷ ms)) = firstLine (lineOf l) (λ n. linesFrom (record { procs = n; events = [] }) 2 (m ∷ ms))
+scanPieces (l ∷ (m ∷ ms)) = firstLine (lineSaid l) (λ n. linesFrom (record { procs = n; events = [] }) 2 (m ∷ ms))
 
 unfoldable pub scan : List ℕ → Scan
 scan text = scanPieces (pieces text)

@@ -6,14 +6,14 @@ ghost use mathlib.Core.Path.{_≡_};
 ghost use mathlib.Core.List.{List, []};
 ghost use Prim.Native.Nat.{_≤_, _<_};
 ghost use lib.ListN.{length, drop, replicate};
-ghost use Rattle.lines.specs.Line.{lineOf};
-ghost use Rattle.reader.specs.Answer.{answerOf, ruleOf, readAnswer, readArea};
-ghost use Rattle.reader.specs.Failure.{failureOf, traceOf, failureAnswerOf, failureAnswer, failureArea};
+ghost use Rattle.lines.specs.Line.{lineSaid};
+ghost use Rattle.reader.specs.Answer.{verdictAnswer, verdictWord, readAnswer, readArea};
+ghost use Rattle.reader.specs.Failure.{lastFailure, traceOf, failureAnswerOf, failureAnswer, failureArea};
 ghost use Rattle.words.specs.Area.{areaWords, wordsFrom};
-ghost use Rattle.trace.specs.Tally.{Tally};
+ghost use Rattle.trace.specs.Inner.Tally.{Tally};
 ghost use Rattle.trace.specs.declared.Event.{Event};
 ghost use Rattle.reader.specs.Verdict.{faultHere, judgeEvent, judge, linesFrom, pieces, scan, verdict};
-ghost use Rattle.reader.specs.Reading.{countOnly, Holds, appended, stopOf, Outcome};
+ghost use Rattle.reader.specs.Inner.Reading.{countOnly, Holds, appended, stopOf, ScanOutcome};
 use lines::Line;
 use text::LineEnd;
 use trace::Event;
@@ -51,7 +51,7 @@ pub struct FailureAnswer {
 // What the first line of a text says, where only a process count is due. (So `read_line` has one caller, whose loop it
 // can become part of.)
 fn first_line(line: &[u8]) -> Line
-    ensures { λ r. ⌜ r ≡ countOnly (lineOf (now (line .entry))) ⌝ }
+    ensures { λ r. ⌜ r ≡ countOnly (lineSaid (now (line .entry))) ⌝ }
 {
     if text::key(line, 0, b"procs=") {
         return lines::procs_line(line);
@@ -135,7 +135,7 @@ fn read_events(
     counts: &mut [u16],
 ) -> Scanned
     requires { ⌜ (procs ≤ 64) × (from ≤ length (now text)) × Holds (now table) (record { procs = procs; events = [] }) × Tally (now counts) [] ⌝ }
-    ensures { λ r. ⌜ Outcome (now (text .entry)) (linesFrom (record { procs = procs; events = [] }) 2 (pieces (drop from (now (text .entry))))) r (now (table .exit)) ⌝ }
+    ensures { λ r. ⌜ ScanOutcome (now (text .entry)) (linesFrom (record { procs = procs; events = [] }) 2 (pieces (drop from (now (text .entry))))) r (now (table .exit)) ⌝ }
 {
     let mut at = from;
     let mut n: usize = 0;
@@ -158,7 +158,7 @@ fn read_events(
 // The lines of a text, where the table has 16,384 words.
 fn scan_text(text: &[u8], table: &mut [u32]) -> Scanned
     requires { ⌜ length (now table) ≡ areaWords ⌝ }
-    ensures { λ r. ⌜ Outcome (now (text .entry)) (scan (now (text .entry))) r (now (table .exit)) ⌝ }
+    ensures { λ r. ⌜ ScanOutcome (now (text .entry)) (scan (now (text .entry))) r (now (table .exit)) ⌝ }
 {
     let LineEnd::At(end) = text::line_end(text, 0) else {
         return Scanned::Refused(1, 1);
@@ -194,8 +194,8 @@ fn refuse(table: &mut [u32], number: u32, place: usize) -> Answer
 // Reads a text into a table of 16,384 words.
 fn read_in(text: &[u8], table: &mut [u32]) -> Answer
     requires { ⌜ length (now table) ≡ areaWords ⌝ }
-    ensures answer { λ r. ⌜ r ≡ answerOf (verdict (now (text .entry))) ⌝ }
-    ensures words { λ _. ⌜ now (table .exit) ≡ wordsFrom (ruleOf (verdict (now (text .entry)))) 0 areaWords ⌝ }
+    ensures answer { λ r. ⌜ r ≡ verdictAnswer (verdict (now (text .entry))) ⌝ }
+    ensures words { λ _. ⌜ now (table .exit) ≡ wordsFrom (verdictWord (verdict (now (text .entry)))) 0 areaWords ⌝ }
 {
     let s = scan_text(text, table);
     match s {
@@ -239,8 +239,8 @@ fn refuse_failure(table: &mut [u32], number: u32, place: usize) -> FailureAnswer
 // Reads a text that ends with a failure line into a table of 16,384 words.
 fn read_failure_in(text: &[u8], table: &mut [u32]) -> FailureAnswer
     requires { ⌜ length (now table) ≡ areaWords ⌝ }
-    ensures answer { λ r. ⌜ r ≡ failureAnswerOf (failureOf (now (text .entry))) ⌝ }
-    ensures words { λ _. ⌜ now (table .exit) ≡ wordsFrom (ruleOf (traceOf (failureOf (now (text .entry))))) 0 areaWords ⌝ }
+    ensures answer { λ r. ⌜ r ≡ failureAnswerOf (lastFailure (now (text .entry))) ⌝ }
+    ensures words { λ _. ⌜ now (table .exit) ≡ wordsFrom (verdictWord (traceOf (lastFailure (now (text .entry))))) 0 areaWords ⌝ }
 {
     let s = scan_text(text, table);
     match s {

@@ -10,7 +10,7 @@ use Rattle.words.specs.Area.{areaWords}
 use Rattle.words.proofs.Area.{length-words, getD-words}
 use Rattle.theory.specs.Line.{Run}
 use Rattle.theory.specs.Order.{Outcome, carriedOut, refused}
-use Rattle.machine.specs.Related.{recordEnd}
+use Rattle.machine.specs.Taken.{recordEnd}
 use Rattle.orders.specs.Record.{recordAt}
 use Rattle.orders.specs.Answer.{wordsOf}
 

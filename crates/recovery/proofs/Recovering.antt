@@ -15,9 +15,9 @@ use Rattle.recovery.specs.declared.Recovered.{Recovered}
 use Rattle.preparing.specs.Faults.{runOf, failureFaultOf}
 use Rattle.recovery.specs.Answers.{replayAnswer}
 use Rattle.messages.specs.Messages.{messagesAnswer, messagesArea}
-use Rattle.preparing.specs.Prepared.{failureFaultIn, Filled}
-use Rattle.recovery.specs.Recovering.{Recovering}
-use Rattle.recovery.specs.Recover.{recoverRefusal, Succeeds}
+use Rattle.preparing.specs.Inner.Prepared.{failureFaultIn, Tabulated}
+use Rattle.recovery.specs.Inner.Recovering.{Recovering, recoverRefusal}
+use Rattle.recovery.specs.Recover.{Succeeds}
 use Rattle.restart.specs.Restart.{restartAnswer}
 use Rattle.preparing.proofs.Filling.{step-within, short-area, by-failure, short}
 use Rattle.preparing.proofs.Preparing.{failure-first}
@@ -55,7 +55,7 @@ module _ (a : List ℕ) (step set : ℕ) where
         ),
       )
 
-  pub recovers : (n room : ℕ) (full : List ℕ) (r : Recovered) (w : List ℕ) → n ≡ failureFaultOf a step set → n ≡ 0 → Filled a room step set full
+  pub recovers : (n room : ℕ) (full : List ℕ) (r : Recovered) (w : List ℕ) → n ≡ failureFaultOf a step set → n ≡ 0 → Tabulated a room step set full
       → Recovering (held a) step set r w → Answered r (w ++ drop areaWords a)
   unfolding replayAnswer
   recovers n room full r w f z F D =

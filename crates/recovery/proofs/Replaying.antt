@@ -12,8 +12,8 @@ use Rattle.words.specs.Area.{areaWords, wordsFrom}
 use Rattle.words.proofs.Area.{length-words}
 use Rattle.table.specs.Held.{held, holdsTrace}
 use Rattle.theory.specs.Events.{size}
-use Rattle.theory.specs.Epochs.{past}
-use Rattle.theory.specs.Laws.{Laws}
+use Rattle.theory.specs.Epochs.{ruleOf}
+use Rattle.theory.specs.Inner.Laws.{Laws}
 use Rattle.theory.specs.Line.{Run}
 use Rattle.theory.specs.Order.{Outcome, carriedOut, refused, run, lowestOrder}
 use Rattle.theory.proofs.Epochs.{laws}
@@ -27,7 +27,7 @@ use Rattle.orders.specs.Record.{recordAt}
 use Rattle.orders.proofs.Records.{complete-record}
 use Rattle.orders.specs.declared.Replayed.{Replayed}
 use Rattle.orders.specs.Answer.{answerOf, wordsOf}
-use Rattle.preparing.specs.Faults.{runOf, faultOf}
+use Rattle.preparing.specs.Faults.{runOf, lineFaultOf}
 use Rattle.recovery.specs.Answers.{refusal, replayAnswer, replayArea, Equal, CarriesOut, StepsExact, StepsAtMost, Completed}
 
 module _ (a area : List ℕ) (step set : ℕ) (l : Line) (order : List ℕ) where
@@ -37,14 +37,14 @@ module _ (a area : List ℕ) (step set : ℕ) (l : Line) (order : List ℕ) wher
       × ((w ≡ replayArea a area step set l order) × (Equal a step l r w × (StepsExact a step l r × (StepsAtMost a step l r × CarriesOut a step l order r))))
 
   -- a refusal changes nothing
-  pub refuses : (n : ℕ) (r : Replayed) → n ≡ faultOf a (length area) step set l → (n ≡ 0 → ⊥) → r ≡ refusal n → Answered r area
+  pub refuses : (n : ℕ) (r : Replayed) → n ≡ lineFaultOf a (length area) step set l → (n ≡ 0 → ⊥) → r ≡ refusal n → Answered r area
   unfolding replayAnswer replayArea
   refuses n r f z e =
       let not-0 : r .number ≡ 0 → ⊥ = λ h. z (sym (ap (λ (x : Replayed). x .number) e) ∙ h) in
       let none : r .steps ≡ 0 = ap (λ (x : Replayed). x .steps) e in
       (e ∙ rw (← f, ne-eqb n 0 z), (rw (← f, ne-eqb n 0 z), (λ h c. absurd (not-0 h), (λ h c k. absurd (not-0 h), ((omega arith, omega arith), λ h. absurd (not-0 h))))))
 
-  pub not-completed : (n : ℕ) (r : Replayed) → n ≡ faultOf a (length area) step set l → (n ≡ 0 → ⊥) → Completed a (length area) step set l r
+  pub not-completed : (n : ℕ) (r : Replayed) → n ≡ lineFaultOf a (length area) step set l → (n ≡ 0 → ⊥) → Completed a (length area) step set l r
   not-completed n r f z h = absurd (z (f ∙ h))
 
   module _ (holds : holdsTrace a ≡ true) (cl : step ≤ size (held a)) where
@@ -52,7 +52,7 @@ module _ (a area : List ℕ) (step set : ℕ) (l : Line) (order : List ℕ) wher
     R = runOf a step l
 
     L : Laws R
-    L = laws (held a) past (held-valid a holds) step (lineIn l) cl
+    L = laws (held a) (ruleOf (held a)) (held-valid a holds) step (lineIn l) cl
 
     equal : (o : Outcome) → run R order ≡ o → (w : List ℕ) → w ≡ wordsOf R o → Equal a step l (answerOf R o (length order)) (w ++ drop areaWords area)
     unfolding answerOf wordsOf
@@ -82,7 +82,7 @@ module _ (a area : List ℕ) (step set : ℕ) (l : Line) (order : List ℕ) wher
         let (s, c, d) = lowest-order R L in
         rw (e, c) (refl, complete-iff R s .1 d, refl)
 
-    pub carried : (n : ℕ) (r : Replayed) (w : List ℕ) → n ≡ faultOf a (length area) step set l → n ≡ 0 → r ≡ answerOf R (run R order) (length order)
+    pub carried : (n : ℕ) (r : Replayed) (w : List ℕ) → n ≡ lineFaultOf a (length area) step set l → n ≡ 0 → r ≡ answerOf R (run R order) (length order)
         → w ≡ wordsOf R (run R order) → Answered r (w ++ drop areaWords area)
     unfolding replayAnswer replayArea
     carried n r w f z e q =

@@ -7,13 +7,13 @@ use Rattle.table.specs.Held.{held}
 use Rattle.theory.proofs.Refusals.{failure-fit, line-fit}
 use Rattle.recovery_line.specs.Given.{lineIn}
 use Rattle.restart.specs.declared.Restarted.{Restarted}
-use Rattle.preparing.specs.Faults.{faultOf}
+use Rattle.preparing.specs.Faults.{lineFaultOf}
 use Rattle.preparing.proofs.Preparing.{line-number}
 use Rattle.restart.proofs.Restarting.{Ready, count-in}
 
 module _ (a : List ℕ) (step set : ℕ) (r : Restarted) (G : Ready a step set r) where
   -- nothing is wrong with the engine's line, so that neither `messages` nor `lowest` refuses it
-  pub not-refused : (room : ℕ) → areaWords ≤ room → faultOf a room step set (r .line) ≡ 0
+  pub not-refused : (room : ℕ) → areaWords ≤ room → lineFaultOf a room step set (r .line) ≡ 0
   not-refused room h =
       line-number a room step set (r .line) h (G .holds)
       ∙ line-fit (held a) step set (r .line .count) (lineIn (r .line)) .1

@@ -4,13 +4,12 @@
 use Prim.Native.Nat.{ℕ, _≤_}
 use mathlib.Core.Path.{_≡_}
 use mathlib.Core.Logic.{_↔_}
-use mathlib.Core.Bool.{true, false}
+use mathlib.Core.Bool.{true, false, cond}
 use mathlib.Core.List.{List, _++_}
 use lib.ListN.{length, take, drop}
 use lib.Dec.{eqb}
 use Rattle.words.specs.Area.{areaWords, wordsFrom}
 use Rattle.table.specs.Held.{held}
-use Rattle.theory.specs.Lists.{pick}
 use Rattle.theory.specs.Line.{LossFree}
 use Rattle.theory.specs.Replay.{State}
 use Rattle.theory.specs.Order.{carriedOut, run, steps, mostSteps, Complete, lowestOrder}
@@ -19,7 +18,7 @@ use Rattle.recovery_line.specs.declared.Line.{Line}
 use Rattle.orders.specs.Record.{faultlessAt}
 use Rattle.orders.specs.declared.Replayed.{Replayed}
 use Rattle.orders.specs.Answer.{answerOf, wordsOf}
-use Rattle.preparing.specs.Faults.{runOf, faultOf}
+use Rattle.preparing.specs.Faults.{runOf, lineFaultOf}
 
 abbrev pub refusal : ℕ → Replayed
 refusal n = record { number = n; place = 0; steps = 0; complete = false }
@@ -28,11 +27,11 @@ refusal n = record { number = n; place = 0; steps = 0; complete = false }
 -- zero.
 unfoldable pub replayAnswer : List ℕ → List ℕ → ℕ → ℕ → Line → List ℕ → Replayed
 replayAnswer a area step set l order =
-    pick (eqb (faultOf a (length area) step set l) 0) (answerOf (runOf a step l) (run (runOf a step l) order) (length order)) (refusal (faultOf a (length area) step set l))
+    cond (eqb (lineFaultOf a (length area) step set l) 0) (answerOf (runOf a step l) (run (runOf a step l) order) (length order)) (refusal (lineFaultOf a (length area) step set l))
 
 unfoldable pub replayArea : List ℕ → List ℕ → ℕ → ℕ → Line → List ℕ → List ℕ
 replayArea a area step set l order =
-    pick (eqb (faultOf a (length area) step set l) 0) (wordsOf (runOf a step l) (run (runOf a step l) order) ++ drop areaWords area) area
+    cond (eqb (lineFaultOf a (length area) step set l) 0) (wordsOf (runOf a step l) (run (runOf a step l) order) ++ drop areaWords area) area
 
 -- Demand 3: after a complete order the record in the run area is that of the run without failure exactly if the line
 -- loses no message.
@@ -62,4 +61,4 @@ StepsAtMost a step l r = (r .steps ≤ mostSteps (held a)) × (r .steps ≤ exac
 -- steps as choices.
 abbrev pub Completed : List ℕ → ℕ → ℕ → ℕ → Line → Replayed → Type 0
 Completed a room step set l r =
-    faultOf a room step set l ≡ 0 → (r .number ≡ 0) × (r .complete ≡ true) × (r .steps ≡ steps (lowestOrder (runOf a step l)))
+    lineFaultOf a room step set l ≡ 0 → (r .number ≡ 0) × (r .complete ≡ true) × (r .steps ≡ steps (lowestOrder (runOf a step l)))

@@ -1,3 +1,4 @@
 pub mod Answers
-pub mod Recovering
 pub mod Recover
+-- internal: no contract of a function that users call reaches these
+pub mod Inner

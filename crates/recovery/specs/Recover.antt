@@ -7,20 +7,15 @@ use lib.ListN.{length}
 use Rattle.table.specs.Held.{held}
 use Rattle.recovery.specs.declared.Recovered.{Recovered}
 use Rattle.theory.specs.Answers.{exactSteps}
-use Rattle.preparing.specs.Faults.{faultOf, runOf}
-use Rattle.recovery.specs.Answers.{refusal, StepsAtMost, Completed}
-use Rattle.messages.specs.Messages.{messagesRefusal}
-use Rattle.restart.specs.Restart.{restartRefusal, Restarts}
-
--- What is wrong with the table or the failure is wrong whatever the line, so that a refusal has its number three times.
-abbrev pub recoverRefusal : ℕ → Recovered
-recoverRefusal n = record { restarted = restartRefusal n; replayed = refusal n; counted = messagesRefusal n }
+use Rattle.preparing.specs.Faults.{lineFaultOf, runOf}
+use Rattle.recovery.specs.Answers.{StepsAtMost, Completed}
+use Rattle.restart.specs.Restart.{Restarts}
 
 -- of an answer that is no refusal: demand 2; the engine's line is not refused; the lowest order is carried out to its
 -- end, with as many steps as `exactSteps` says, since that line loses no message
 pub record Succeeds (a : List ℕ) (step set : ℕ) (r : Recovered) : Type 0 where
   pub restarts : Restarts (held a) step set (r .restarted)
-  pub taken : faultOf a (length a) step set (r .restarted .line) ≡ 0
+  pub taken : lineFaultOf a (length a) step set (r .restarted .line) ≡ 0
   pub completed : Completed a (length a) step set (r .restarted .line) (r .replayed)
   pub exact : r .replayed .steps ≡ exactSteps (runOf a step (r .restarted .line))
   pub at-most : StepsAtMost a step (r .restarted .line) (r .replayed)

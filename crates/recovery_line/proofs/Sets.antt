@@ -2,7 +2,7 @@
 use Prim.Native.Nat.{ℕ, suc, zero, _+_, _-_, _*_, _/_, _%_, _^_, _<_, _≤_}
 use mathlib.Core.Path.{_≡_, refl, sym, ap, ap₂, _∙_}
 use mathlib.Core.List.{List, [], _∷_}
-use mathlib.Core.Bool.{Bool, true, false, _&&_, not}
+use mathlib.Core.Bool.{Bool, true, false, _&&_, not, cond}
 use native.Mathlib.Omega.{arith}
 use native.Mathlib.Nat.{pow-suc, lt-of-lt-of-le, zero-div}
 use native.Mathlib.Numerals.{one-add}
@@ -13,12 +13,12 @@ use lib.Pow.{pow-mono, shr-shr}
 use lib.Count.{ones, ones-step}
 use borrow.Author.Tests.{eq-eqb, ne-eqb, lt-ltb, le-ltb}
 use Rattle.words.proofs.Cases.{by-bool, by-lt, getD-any}
-use Rattle.theory.specs.Lists.{pick, keep}
+use Rattle.theory.specs.Lists.{keep}
 use Rattle.theory.specs.Line.{inSet, staysIn}
 use Rattle.recovery_line.specs.declared.Line.{Line}
 use Rattle.recovery_line.specs.Given.{lineIn, numbersOf, backBit, backOf, backOnes}
 
-bit-lt : (b : Bool) → pick b 0 1 < 2
+bit-lt : (b : Bool) → cond b 0 1 < 2
 bit-lt true = omega arith
 bit-lt false = omega arith
 
@@ -71,7 +71,7 @@ back-bit (e ∷ l) (suc z) =
     ∙ ap (λ (x : ℕ). x / 2 ^ z % 2) (half (backBit e) (backOf l) (bit-lt (eqb e 32)))
     ∙ back-bit l z
 
-named : (b : Bool) → eqb (pick b 0 1) 1 ≡ not b
+named : (b : Bool) → eqb (cond b 0 1) 1 ≡ not b
 named true = refl
 named false = refl
 

@@ -13,10 +13,11 @@ use Rattle.trace.specs.declared.Event.{Event}
 use Rattle.trace.specs.declared.Event.the-variants.{Send, Recv, Save}
 use Rattle.trace.specs.Trace.{Trace, isRecv}
 use Rattle.theory.specs.Events.{size, eventAt, at, recvs, checkpoints, rcvd}
-use Rattle.theory.specs.Epochs.{past, epochAt, phaseAt}
+use Rattle.theory.specs.Epochs.{epochAt, phaseAt, ruleOf}
 use Rattle.columns.proofs.Moves.{send-epoch, send-phase, recv-at, recv-epoch, recv-phase-other, save-at, save-epoch-other, save-phase-other}
-use Rattle.recovery_line.specs.Given.{Tabled}
-use Rattle.recovery_line.specs.Words.{atW, peerW, kindW, Sized}
+use Rattle.columns.specs.Inner.Columns.{Tabled}
+use Rattle.columns.specs.Inner.Full.{atW, peerW, kindW}
+use Rattle.recovery_line.specs.Inner.Words.{Sized}
 use Rattle.trace.specs.Table.{wordOf, tableWord}
 use Rattle.theory.proofs.Base.{eqb-self}
 use Rattle.theory.proofs.Events.{sends-is, partner}
@@ -25,14 +26,14 @@ use Rattle.columns.proofs.Bounds.{sendOf-most, well-few}
 
 -- an event changes the epoch and the phase of its own process only
 module _ (t : Trace) (x z : ℕ) (n : z ≢ at t (suc x)) where
-  else-of : (v : Event) → eventAt t (suc x) ≡ v → (epochAt t past z (suc x) ≡ epochAt t past z x) × (phaseAt t past z (suc x) ≡ phaseAt t past z x)
+  else-of : (v : Event) → eventAt t (suc x) ≡ v → (epochAt t (ruleOf t) z (suc x) ≡ epochAt t (ruleOf t) z x) × (phaseAt t (ruleOf t) z (suc x) ≡ phaseAt t (ruleOf t) z x)
   else-of (Send a b v) h = (send-epoch t x a b v h z, send-phase t x a b v h z)
   else-of (Recv a b) h = (recv-epoch t x a b h z, recv-phase-other t x a b h z (λ i. n (i ∙ sym (recv-at t x a b h))))
   else-of (Save a) h =
       let m : z ≢ a = λ i. n (i ∙ sym (save-at t x a h)) in
       (save-epoch-other t x a h z m, save-phase-other t x a h z m)
 
-  pub else-same : (epochAt t past z (suc x) ≡ epochAt t past z x) × (phaseAt t past z (suc x) ≡ phaseAt t past z x)
+  pub else-same : (epochAt t (ruleOf t) z (suc x) ≡ epochAt t (ruleOf t) z x) × (phaseAt t (ruleOf t) z (suc x) ≡ phaseAt t (ruleOf t) z x)
   else-same = else-of (eventAt t (suc x)) refl
 
 mapped : (f : Event → ℕ) (es : List Event) (j : ℕ) (d : Event) → j < length es → getD (map f es) j 0 ≡ f (getD es j d)

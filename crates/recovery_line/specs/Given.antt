@@ -1,31 +1,23 @@
 -- What the functions of this crate are given, and what they give: the full table of a trace, and a line as a struct.
-use Prim.Native.Nat.{ℕ, _+_, _-_, _*_}
-use mathlib.Core.Path.{_≡_}
-use mathlib.Core.Bool.{true, not}
+use Prim.Native.Nat.{ℕ, _+_, _*_}
+use mathlib.Core.Bool.{not, cond}
 use mathlib.Core.List.{List, [], _∷_}
 use lib.ListN.{getD, take}
 use lib.Dec.{ltb, eqb}
 use Rattle.words.specs.Area.{wordsFrom}
 use Rattle.trace.specs.Trace.{Trace}
-use Rattle.trace.specs.Fit.{wellFormed}
-use Rattle.columns.specs.Columns.{Columns}
-use Rattle.theory.specs.Lists.{pick, keep}
-use Rattle.theory.specs.Epochs.{past, phaseAt}
+use Rattle.theory.specs.Lists.{keep}
+use Rattle.theory.specs.Epochs.{phaseAt, ruleOf}
 use Rattle.theory.specs.Line.{restartIn}
 use Rattle.recovery_line.specs.declared.Line.{Line}
 
--- the full table of a well-formed trace
-pub record Tabled (t : Trace) (full : List ℕ) : Type 0 where
-  pub formed : wellFormed t ≡ true
-  pub columns : Columns t full
-
 -- what a rule says of each process of the trace, and 0 past the last
 abbrev pub each : Trace → (ℕ → ℕ) → ℕ → ℕ
-each t f z = pick (ltb z (t .procs)) (f z) 0
+each t f z = cond (ltb z (t .procs)) (f z) 0
 
 -- "A restart line holds one number for each zone": the numbers of a line. Places past its count aren't read.
 abbrev pub lineIn : Line → ℕ → ℕ
-lineIn l z = pick (ltb z (l .count)) (getD (l .epochs) z 0) 0
+lineIn l z = cond (ltb z (l .count)) (getD (l .epochs) z 0) 0
 
 -- the line of a trace with these numbers; places past them are 0
 abbrev pub lineTo : Trace → (ℕ → ℕ) → Line
@@ -33,7 +25,7 @@ lineTo t f = record { epochs = wordsFrom (each t f) 0 64; count = t .procs }
 
 -- "phase is at the restart, or at the cut for 32"
 abbrev pub restartPhaseIn : Trace → ℕ → (ℕ → ℕ) → ℕ → ℕ
-restartPhaseIn t cut line z = phaseAt t past z (restartIn t cut line z)
+restartPhaseIn t cut line z = phaseAt t (ruleOf t) z (restartIn t cut line z)
 
 -- ---- "The zones that go back form a set of the same kind, and back is its size."
 
@@ -42,7 +34,7 @@ abbrev pub numbersOf : Line → List ℕ
 numbersOf l = take (l .count) (l .epochs)
 
 abbrev pub backBit : ℕ → ℕ
-backBit e = pick (eqb e 32) 0 1
+backBit e = cond (eqb e 32) 0 1
 
 -- the set of those not at 32, as a number whose bit z says that process z goes back
 unfoldable pub backOf : List ℕ → ℕ

@@ -2,17 +2,15 @@
 // stays; and the set of those that go back. specs/Given says how a line stands in words, and when a table is the full
 // one of a trace (`Tabled`); the crates above, lowering, greatest, gates and faults, ask for that. Assumes nothing.
 ghost use mathlib.Core.Path.{_≡_};
-ghost use mathlib.Core.Bool.{_&&_, not};
+ghost use mathlib.Core.Bool.{_&&_, not, cond};
 ghost use lib.Count.{ones};
 ghost use lib.Dec.{ltb};
 ghost use Prim.Native.Nat.{ℕ, _/_, _%_, _≤_, _<_};
 ghost use lib.ListN.{length, getD, set};
 ghost use Rattle.words.specs.Area.{areaWords};
-ghost use Rattle.theory.specs.Lists.{pick};
-ghost use Rattle.theory.specs.Events.{size};
 ghost use Rattle.theory.specs.Line.{inSet, staysIn};
 ghost use Rattle.recovery_line.specs.Given.{lineIn, numbersOf, backOf, backOnes};
-ghost use Rattle.recovery_line.specs.Words.{matchW};
+ghost use Rattle.columns.specs.Inner.Full.{matchW};
 use columns::MATCH_BASE;
 
 // A recovery line: for each process the epoch that it restarts in, or STAYS, and how many processes there are.
@@ -41,13 +39,13 @@ pub fn processes(full: &[u32]) -> usize
 }
 
 pub fn one_if(yes: bool) -> u32
-    ensures { λ r. ⌜ r ≡ pick yes 1 0 ⌝ }
+    ensures { λ r. ⌜ r ≡ cond yes 1 0 ⌝ }
 {
     if yes { 1 } else { 0 }
 }
 
 pub fn or_zero(yes: bool, v: u32) -> u32
-    ensures { λ r. ⌜ r ≡ pick yes v 0 ⌝ }
+    ensures { λ r. ⌜ r ≡ cond yes v 0 ⌝ }
 {
     if yes { v } else { 0 }
 }

@@ -16,11 +16,12 @@ use Rattle.trace.specs.Trace.{Trace}
 use Rattle.lines.specs.Line.{most, mostSet}
 use Rattle.lines.specs.Render.{renderFailure}
 use Rattle.reader.specs.Answer.{readAnswer, readArea}
-use Rattle.reader.specs.Failure.{failing, failureOf, failureAnswer, failureArea}
+use Rattle.reader.specs.Failure.{failing, lastFailure, failureAnswer, failureArea}
 use Rattle.reader.specs.Verdict.{accepted, verdict}
 use Rattle.reader.specs.Render.{render}
 use Rattle.reader.proofs.Claims.{canonical, canonical-failing, fit-accepted, answered, failing-answered}
-use Rattle.table.specs.Held.{held, holdsTrace, heldTrace}
+use Rattle.table.specs.Held.{held, holdsTrace}
+use Rattle.table.specs.Inner.Held.{heldTrace}
 use Rattle.table.proofs.Holding.{told, held-self, same-front}
 use Rattle.table.proofs.Claims.{held-iff, read-held, failing-held}
 use Rattle.rendering.specs.declared.WriteAnswer.{WriteAnswer}
@@ -44,7 +45,7 @@ restores a h =
       same = λ b l. held-iff (readArea text b) (held a) .0 (read-held text b (held a) e l) .2 ∙ sym words;
     }
 
-failing-zero : (text b : List ℕ) (t : Trace) (step set : ℕ) → failureOf text ≡ failing t step set → areaWords ≤ length b
+failing-zero : (text b : List ℕ) (t : Trace) (step set : ℕ) → lastFailure text ≡ failing t step set → areaWords ≤ length b
     → failureAnswer text b ≡ record { number = 0; place = 0; step = step; set = set }
 unfolding failureAnswer
 failing-zero text b t step set e l = rw (le-ltb (length b) areaWords l, e)

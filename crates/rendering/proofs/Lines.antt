@@ -13,7 +13,7 @@ use Rattle.lines.specs.Line.{kProcs, kSend, kTo, kVal, kRecv, kFrom, kSave}
 use Rattle.lines.specs.Render.{renderEvent}
 use Rattle.reader.specs.Render.{renderEvents, render}
 use Rattle.table.specs.Held.{eventOf, heldEvent, heldEvents, held}
-use Rattle.writer.specs.Buffer.{Puts}
+use Rattle.writer.specs.Inner.Puts.{Puts}
 use Rattle.writer.proofs.Buffers.{none, then, same-bytes}
 use Rattle.rendering.specs.Write.{textOf}
 

@@ -10,7 +10,8 @@ use borrow.Author.Tests.{not-false, ne-eqb}
 use Rattle.words.specs.Area.{areaWords}
 use Rattle.table.specs.Held.{holdsTrace}
 use Rattle.table.proofs.Testing.{holds-facts}
-use Rattle.writer.specs.Buffer.{Puts, room, written}
+use Rattle.writer.specs.Inner.Puts.{Puts}
+use Rattle.writer.specs.Buffer.{room, written}
 use Rattle.writer.proofs.Buffers.{whole}
 use Rattle.rendering.specs.declared.WriteAnswer.{WriteAnswer}
 use Rattle.rendering.specs.Write.{textOf, writeFault, writeAnswer, writeBuffer, textBytes}

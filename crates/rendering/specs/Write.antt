@@ -6,7 +6,6 @@ use mathlib.Core.List.{List, _++_}
 use lib.ListN.{length, drop}
 use lib.Dec.{ltb, eqb}
 use Rattle.words.specs.Area.{areaWords}
-use Rattle.trace.specs.Fit.{orElse}
 use Rattle.reader.specs.Render.{render}
 use Rattle.table.specs.Held.{held, holdsTrace}
 use Rattle.rendering.specs.declared.WriteAnswer.{WriteAnswer}
@@ -18,7 +17,7 @@ textOf a = render (held a)
 -- what is wrong with a table area, and with a buffer of n bytes: 12, 13, "14 when the byte buffer is shorter than the
 -- text, checked after 13", or 0
 unfoldable pub writeFault : List ℕ → ℕ → ℕ
-writeFault a n = orElse (ltb (length a) areaWords) 12 (orElse (not (holdsTrace a)) 13 (orElse (ltb n (length (textOf a))) 14 0))
+writeFault a n = cond (ltb (length a) areaWords) 12 (cond (not (holdsTrace a)) 13 (cond (ltb n (length (textOf a))) 14 0))
 
 -- "its length in the answer"; document 01: "In a refused answer every other number is 0"
 unfoldable pub writeAnswer : List ℕ → ℕ → WriteAnswer

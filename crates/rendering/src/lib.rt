@@ -10,7 +10,7 @@ ghost use Rattle.trace.specs.declared.Event.the-variants.{Send, Recv, Save};
 ghost use Rattle.table.specs.Held.{heldEvents};
 ghost use Rattle.lines.specs.Render.{renderEvent};
 ghost use Rattle.reader.specs.Render.{renderEvents};
-ghost use Rattle.writer.specs.Buffer.{Puts};
+ghost use Rattle.writer.specs.Inner.Puts.{Puts};
 ghost use Rattle.rendering.specs.Write.{textOf, writeAnswer, writeBuffer};
 ghost use Rattle.rendering.specs.Meaning.{RoundTrip};
 use trace::EVENT_BASE;

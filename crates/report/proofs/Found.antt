@@ -15,8 +15,8 @@ use Rattle.words.proofs.Cases.{by-lt}
 use Rattle.trace.specs.Trace.{Trace}
 use Rattle.table.specs.Held.{held}
 use Rattle.theory.specs.Lists.{keep}
-use Rattle.theory.specs.Epochs.{past, phaseAt}
-use Rattle.theory.specs.Line.{inSet, Run, recorded, restartIn, current, reached, greatestLine}
+use Rattle.theory.specs.Epochs.{phaseAt, ruleOf}
+use Rattle.theory.specs.Line.{inSet, Run, restartIn, current, runAt, engineLine}
 use Rattle.theory.specs.Order.{steps, lowestOrder}
 use Rattle.theory.specs.Answers.{lineOf, gather, orphans, keptOnes, lostOnes}
 use Rattle.theory.proofs.WellFormed.{valid}
@@ -30,13 +30,13 @@ use Rattle.messages.specs.declared.Counted.{Counted}
 use Rattle.orders.specs.declared.Replayed.{Replayed}
 use Rattle.messages.specs.Messages.{countsOf, messagesAnswer, messagesArea}
 use Rattle.recovery.specs.Recover.{Succeeds}
-use Rattle.preparing.specs.Faults.{faultOf, runOf as codeRun}
+use Rattle.preparing.specs.Faults.{lineFaultOf, runOf as codeRun}
 use Rattle.recovery.specs.Answers.{Completed}
-use Rattle.restart.specs.Restart.{ofEach, restartOf, engineLine as codeLine}
+use Rattle.restart.specs.Restart.{ofEach, restartOf, engineLineOf as codeLine}
 use Rattle.messages.proofs.Listing.{counts-are, listed-at}
 use Rattle.restart.proofs.Restarting.{Ready, line-is, count-in}
-use Rattle.report.specs.Report.{given, Failure, runOf, Recovery, tabled, engineLine, recoveryBy, processLineOf, printedOf, reportBytes}
-use Rattle.report.specs.Rows.{processRow, recoveryRows}
+use Rattle.report.specs.Report.{given, Failure, runWith, Recovery, tabled, lineListed, recoveryBy, processLineOf, printedOf, reportBytes}
+use Rattle.report.specs.Inner.Rows.{processRow, recoveryRows}
 use Rattle.report.proofs.Lengths.{found-few}
 use Rattle.report.proofs.Messages.{orphan-lines, kept-lines}
 
@@ -71,7 +71,7 @@ module _ (a : List ℕ) (step set : ℕ) (r : Restarted) (G : Ready a step set r
   f = record { trace = t; step = step; failed = set }
 
   abbrev g : ℕ → ℕ
-  g = greatestLine t past step (reached t past step) (inSet set)
+  g = engineLine t step set
 
   pub few : t .procs ≤ 64
   few = valid t (held-formed a (G .holds)) .few
@@ -87,42 +87,42 @@ module _ (a : List ℕ) (step set : ℕ) (r : Restarted) (G : Ready a step set r
   in-line : (z : ℕ) → z < t .procs → lineIn (r .line) z ≡ g z
   in-line z h = rw at-line (rw (lt-ltb z (t .procs) h) (each-at t g z few h))
 
-  same-at : (z : ℕ) → lineIn (r .line) z ≡ lineOf (engineLine f) z
-  unfolding engineLine
+  same-at : (z : ℕ) → lineIn (r .line) z ≡ lineOf (lineListed f) z
+  unfolding lineListed
   same-at z =
       by-lt z (t .procs)
       (λ h. in-line z h ∙ sym (tabled-at g (t .procs) z h))
       (λ h. rw at-line (rw (le-ltb z (t .procs) h)) ∙ sym (List·getD-eq-default (tabled g (t .procs)) 0 (rw (tabled-length g (t .procs)) h)))
 
-  pub run-same : codeRun a step (r .line) ≡ runOf f (engineLine f)
-  run-same = ap (recorded t past step) (fun-ext same-at)
+  pub run-same : codeRun a step (r .line) ≡ runWith f (lineListed f)
+  run-same = ap (runAt t step) (fun-ext same-at)
 
   -- ---- The processes
 
   abbrev found : Recovery
-  found = recoveryBy f (engineLine f)
+  found = recoveryBy f (lineListed f)
 
   pub epochs-at : (z : ℕ) → z < t .procs → getD (r .epochs) z 0 ≡ getD (found .epochs) z 0
   unfolding restartOf recoveryBy
   epochs-at z h =
-      ap (λ (x : Restarted). getD (x .epochs) z 0) (G .answer) ∙ each-at t (current t past step) z few h ∙ sym (tabled-at (current t past step) (t .procs) z h)
+      ap (λ (x : Restarted). getD (x .epochs) z 0) (G .answer) ∙ each-at t (current t (ruleOf t) step) z few h ∙ sym (tabled-at (current t (ruleOf t) step) (t .procs) z h)
 
   numbers-at : (z : ℕ) → z < t .procs → getD (r .line .epochs) z 0 ≡ getD (found .line) z 0
-  unfolding recoveryBy engineLine
+  unfolding recoveryBy lineListed
   numbers-at z h = ap (λ (l : Line). getD (l .epochs) z 0) at-line ∙ each-at t g z few h ∙ sym (tabled-at g (t .procs) z h)
 
   pub phases-at : (z : ℕ) → z < t .procs → getD (r .phases) z 0 ≡ getD (found .phases) z 0
   unfolding restartOf recoveryBy
   phases-at z h =
-      let p : (ℕ → ℕ) → ℕ → ℕ = λ l y. phaseAt t past y (restartIn t step l y) in
+      let p : (ℕ → ℕ) → ℕ → ℕ = λ l y. phaseAt t (ruleOf t) y (restartIn t step l y) in
       ap (λ (x : Restarted). getD (x .phases) z 0) (G .answer)
       ∙ each-at t (p (lineIn (codeLine t step set))) z few h
       ∙ ap (λ (l : Line). p (lineIn l) z) (sym (ap (λ (x : Restarted). x .line) (G .answer)))
       ∙ ap (λ (l : ℕ → ℕ). p l z) (fun-ext same-at)
-      ∙ sym (tabled-at (p (lineOf (engineLine f))) (t .procs) z h)
+      ∙ sym (tabled-at (p (lineOf (lineListed f))) (t .procs) z h)
 
   found-length : length (found .line) ≡ t .procs
-  unfolding recoveryBy engineLine
+  unfolding recoveryBy lineListed
   found-length = tabled-length g (t .procs)
 
   process-lines : gather (processRow r) (r .line .count) ≡ gather (processLineOf found) (length (found .line))
@@ -134,7 +134,7 @@ module _ (a : List ℕ) (step set : ℕ) (r : Restarted) (G : Ready a step set r
   -- ---- Who goes back
 
   pub numbers-are : numbersOf (r .line) ≡ found .line
-  unfolding recoveryBy engineLine
+  unfolding recoveryBy lineListed
   numbers-are =
       rw at-line
       (words-ext g (t .procs) (take (t .procs) (wordsFrom (each t g) 0 64)) (length-take-le (t .procs) (wordsFrom (each t g) 0 64) (omega (arith, length-words (each t g) 0 64, few)))
@@ -148,10 +148,10 @@ module _ (a : List ℕ) (step set : ℕ) (r : Restarted) (G : Ready a step set r
   -- ---- The steps, the messages, and the whole
 
   abbrev R : Run
-  R = runOf f (engineLine f)
+  R = runWith f (lineListed f)
 
   -- the steps of the lowest order, as `lowest` and `recover` answer them
-  pub steps-are : (room : ℕ) (y : Replayed) → faultOf a room step set (r .line) ≡ 0 → Completed a room step set (r .line) y → y .steps ≡ steps (lowestOrder R)
+  pub steps-are : (room : ℕ) (y : Replayed) → lineFaultOf a room step set (r .line) ≡ 0 → Completed a room step set (r .line) y → y .steps ≡ steps (lowestOrder R)
   steps-are room y ok c = c ok .2 ∙ ap (λ (Q : Run). steps (lowestOrder Q)) run-same
 
   module _ (y : Replayed) (c : Counted) (run : List ℕ) (hc : c ≡ messagesAnswer a a step set (r .line))

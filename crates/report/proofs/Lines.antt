@@ -7,12 +7,12 @@ use native.Mathlib.Numerals.{add-one}
 use lib.ListN.{getD}
 use Rattle.theory.specs.Answers.{gather}
 use Rattle.recovery.specs.declared.Recovered.{Recovered}
-use Rattle.writer.specs.Buffer.{Puts}
+use Rattle.writer.specs.Inner.Puts.{Puts}
 use Rattle.writer.proofs.Buffers.{none, then}
 use Rattle.printing.specs.Bytes.{bytesOf}
 use Rattle.printing.specs.Lines.{totalLine, keyOrphan, keyKept}
-use Rattle.printing.specs.Rows.{wordsRow}
-use Rattle.report.specs.Rows.{processRow, messageRow, recoveryRows}
+use Rattle.printing.specs.Inner.Rows.{wordsRow}
+use Rattle.report.specs.Inner.Rows.{processRow, messageRow, recoveryRows}
 
 -- ---- Lines f 0, f 1, ..
 

@@ -16,9 +16,9 @@ use Rattle.listing.proofs.Channels.{gather-cong}
 use Rattle.printing.specs.Bytes.{bytesOf}
 use Rattle.printing.specs.Lines.{messageLine, keyOrphan, keyKept}
 use Rattle.report.specs.Report.{messageLines}
-use Rattle.printing.specs.Rows.{wordsRow}
+use Rattle.printing.specs.Inner.Rows.{wordsRow}
 use Rattle.printing.proofs.Lines.{words-line}
-use Rattle.report.specs.Rows.{messageRow}
+use Rattle.report.specs.Inner.Rows.{messageRow}
 
 -- ---- Lists gathered from the first
 

@@ -8,11 +8,11 @@ use lib.ListN.{length}
 use borrow.Author.Tests.{le-ltb}
 use Rattle.trace.specs.Trace.{Trace}
 use Rattle.trace.specs.Fit.{wellFormed}
-use Rattle.reader.specs.Failure.{Failing, failureOf as lastFailure}
+use Rattle.reader.specs.Failure.{Failing, lastFailure}
 use Rattle.reader.proofs.Claims.{failing-fit}
 use Rattle.theory.specs.Events.{size}
-use Rattle.theory.specs.Epochs.{past}
-use Rattle.theory.specs.Line.{inSet, Run, LossFree, reached, greatestLine}
+use Rattle.theory.specs.Epochs.{ruleOf}
+use Rattle.theory.specs.Line.{inSet, Run, LossFree, usableAt, engineLine}
 use Rattle.theory.specs.Order.{mostSteps, lowestOrder}
 use Rattle.theory.specs.Answers.{lineOf, gather, exactSteps}
 use Rattle.theory.specs.Refusals.{failureFault}
@@ -23,7 +23,7 @@ use Rattle.theory.proofs.Claims.{reached-usable, greatest-line, lowest-complete
 use Rattle.text.specs.Number.{decimal}
 use Rattle.printing.specs.Bytes.{bytesOf}
 use Rattle.printing.specs.Lines.{keyOrphan, keyKept, totalLine}
-use Rattle.report.specs.Report.{given, checked, Failure, failureIn, failureOf, runOf, engineLine, recoveryBy, recoveryOf, recovery, processLineOf, messageLines, printedOf, printed, EndsExactly, StepsPrinted}
+use Rattle.report.specs.Report.{given, checked, Failure, failureIn, failureOf, runWith, lineListed, recoveryBy, recoveryOf, recovery, processLineOf, messageLines, printedOf, printed, EndsExactly, StepsPrinted}
 use Rattle.report.proofs.Answers.{not-given, unless-given}
 use Rattle.report.proofs.Found.{tabled-at}
 
@@ -32,21 +32,21 @@ module _ (f : Failure) (w : wellFormed (f .trace) ≡ true) (cl : f .step ≤ si
   t = f .trace
 
   abbrev R : Run
-  R = runOf f (engineLine f)
+  R = runWith f (lineListed f)
 
   none-lost : LossFree R
-  unfolding engineLine
+  unfolding lineListed
   none-lost =
-      let g = greatestLine t past (f .step) (reached t past (f .step)) (inSet (f .failed)) in
-      loss-same t past (valid t w) (f .step) cl g (lineOf (engineLine f)) (λ z h. sym (tabled-at g (t .procs) z h))
-      (greatest-line t w past (f .step) cl (reached t past (f .step)) (reached-usable t w past (f .step) cl) (inSet (f .failed)) .loss-free)
+      let g = engineLine t (f .step) (f .failed) in
+      loss-same t (ruleOf t) (valid t w) (f .step) cl g (lineOf (lineListed f)) (λ z h. sym (tabled-at g (t .procs) z h))
+      (greatest-line t w (ruleOf t) (f .step) cl (usableAt t (f .step)) (reached-usable t w (ruleOf t) (f .step) cl) (inSet (f .failed)) .loss-free)
 
   exactly : (recoveryOf f .steps ≡ exactSteps R) × (recoveryOf f .steps ≤ mostSteps t)
   unfolding recoveryBy
   exactly =
-      let l = lineOf (engineLine f) in
-      let (s, h, c) = lowest-completes t w past (f .step) cl l in
-      (steps-exactly t w past (f .step) cl l (lowestOrder R) s h none-lost c, steps-at-most t w past (f .step) cl l (lowestOrder R) s h)
+      let l = lineOf (lineListed f) in
+      let (s, h, c) = lowest-completes t w (ruleOf t) (f .step) cl l in
+      (steps-exactly t w (ruleOf t) (f .step) cl l (lowestOrder R) s h none-lost c, steps-at-most t w (ruleOf t) (f .step) cl l (lowestOrder R) s h)
 
   ends-exactly : EndsExactly f (printedOf (given (recoveryOf f)))
   unfolding printedOf totalLine

@@ -10,9 +10,10 @@ use borrow.Author.Tests.{lt-ltb, le-ltb, ne-eqb}
 use Rattle.words.proofs.Cases.{by-eq}
 use Rattle.trace.specs.Trace.{Trace}
 use Rattle.reader.specs.declared.FailureAnswer.{FailureAnswer}
-use Rattle.reader.specs.Failure.{Failing, failureAnswerOf, failureAnswer, failureArea, failureOf as lastFailure}
+use Rattle.reader.specs.Failure.{Failing, failureAnswerOf, failureAnswer, failureArea, lastFailure}
 use Rattle.reader.proofs.Claims.{failing-answered}
-use Rattle.table.specs.Held.{held, holdsTrace, heldTrace}
+use Rattle.table.specs.Held.{held, holdsTrace}
+use Rattle.table.specs.Inner.Held.{heldTrace}
 use Rattle.table.proofs.Holding.{told}
 use Rattle.table.proofs.Claims.{failing-held, held-iff}
 use Rattle.theory.specs.Refusals.{failureFault}
@@ -20,9 +21,11 @@ use Rattle.restart.specs.declared.Restarted.{Restarted}
 use Rattle.preparing.specs.Faults.{failureFaultOf}
 use Rattle.restart.specs.Restart.{restartOf, restartRefusal, restartAnswer, Restarts}
 use Rattle.restart.proofs.Restarting.{Ready}
-use Rattle.writer.specs.Buffer.{Puts, room, written}
+use Rattle.writer.specs.Inner.Puts.{Puts}
+use Rattle.writer.specs.Buffer.{room, written}
 use Rattle.writer.proofs.Buffers.{same-bytes, whole}
-use Rattle.report.specs.Report.{refused, given, failureOf, recoveryFor, recovery, printedOf, printed, StepsPrinted, reportBytes}
+use Rattle.report.specs.Report.{refused, given, failureOf, recovery, printedOf, printed, StepsPrinted, reportBytes}
+use Rattle.report.specs.Inner.Rows.{recoveryFor}
 use Rattle.printing.specs.Lines.{refusalLine}
 use Rattle.report.proofs.Answers.{unless-some}
 use Rattle.report.proofs.Steps.{steps-printed}

@@ -1,2 +1,3 @@
 pub mod Report
-pub mod Rows
+-- internal: no contract of a function that users call reaches these
+pub mod Inner

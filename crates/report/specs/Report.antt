@@ -2,16 +2,16 @@
 -- with all that is said of it, or a refusal's number and place.
 use mathlib.Core.Path.{_≡_}
 use mathlib.Core.List.{List, [], _∷_, _++_}
-use mathlib.Core.Bool.{not}
+use mathlib.Core.Bool.{not, cond}
 use Prim.Native.Nat.{ℕ, zero, suc, _≤_}
 use Prim.Native.String.{String}
 use lib.ListN.{length, getD}
 use lib.Dec.{ltb, eqb}
 use Rattle.trace.specs.Trace.{Trace}
-use Rattle.reader.specs.Failure.{Failing, failureOf as lastFailure}
-use Rattle.theory.specs.Lists.{pick, keep}
-use Rattle.theory.specs.Epochs.{past}
-use Rattle.theory.specs.Line.{inSet, Run, recorded, current, reached, greatestLine}
+use Rattle.reader.specs.Failure.{Failing, lastFailure}
+use Rattle.theory.specs.Lists.{keep}
+use Rattle.theory.specs.Epochs.{ruleOf}
+use Rattle.theory.specs.Line.{Run, current, runAt, engineLine}
 use Rattle.theory.specs.Order.{steps, mostSteps, lowestOrder}
 use Rattle.theory.specs.Answers.{lineOf, Listed, gather, orphans, keptOnes, exactSteps}
 use Rattle.theory.specs.Refusals.{failureFault}
@@ -56,8 +56,8 @@ then (given a) f = f a
 -- ---- The engine's line
 
 -- the recorded run with a failure and a line
-abbrev pub runOf : Failure → List ℕ → Run
-runOf f l = recorded (f .trace) past (f .step) (lineOf l)
+abbrev pub runWith : Failure → List ℕ → Run
+runWith f l = runAt (f .trace) (f .step) (lineOf l)
 
 -- of each process its epoch at the cut, its number in the line and its phase at the restart, "or at the cut for 32"
 pub record Recovery : Type 0 where
@@ -73,16 +73,16 @@ pub record Recovery : Type 0 where
 abbrev pub tabled : (ℕ → ℕ) → ℕ → List ℕ
 tabled f n = gather (λ z. f z ∷ []) n
 
-unfoldable pub engineLine : Failure → List ℕ
-engineLine f = tabled (greatestLine (f .trace) past (f .step) (reached (f .trace) past (f .step)) (inSet (f .failed))) (f .trace .procs)
+unfoldable pub lineListed : Failure → List ℕ
+lineListed f = tabled (engineLine (f .trace) (f .step) (f .failed)) (f .trace .procs)
 
 -- "back is its size", that of the set of processes that go back; "Steps are those of the order that always picks the
 -- lowest allowed choice."
 unfoldable pub recoveryBy : Failure → List ℕ → Recovery
 recoveryBy f l =
-    let R = runOf f l in
+    let R = runWith f l in
     record {
-      epochs = tabled (current (f .trace) past (f .step)) (f .trace .procs);
+      epochs = tabled (current (f .trace) (ruleOf (f .trace)) (f .step)) (f .trace .procs);
       line = l;
       phases = tabled (λ z. R .phase z (R .restart z)) (f .trace .procs);
       orphans = orphans R;
@@ -92,10 +92,7 @@ recoveryBy f l =
     }
 
 abbrev pub recoveryOf : Failure → Recovery
-recoveryOf f = recoveryBy f (engineLine f)
-
-abbrev pub recoveryFor : Trace → ℕ → ℕ → Recovery
-recoveryFor t step set = recoveryOf (record { trace = t; step = step; failed = set })
+recoveryOf f = recoveryBy f (lineListed f)
 
 unfoldable pub recovery : List ℕ → Answer Recovery
 recovery text = then (failureOf text) (λ f. given (recoveryOf f))
@@ -119,13 +116,13 @@ abbrev pub textMost : ℕ
 textMost = 65536
 
 unfoldable pub printed : List ℕ → List ℕ
-printed text = printedOf (pick (ltb textMost (length text)) (refused 1 0) (recovery text))
+printed text = printedOf (cond (ltb textMost (length text)) (refused 1 0) (recovery text))
 
 -- Document 02, item 2, of what is printed: the engine's line loses no message and the lowest order is complete, so that
 -- `steps=` in the last line is exact; and at most twice the number of events
 abbrev pub EndsExactly : Failure → List ℕ → Type 0
 EndsExactly f bytes =
-    let n = exactSteps (runOf f (engineLine f)) in
+    let n = exactSteps (runWith f (lineListed f)) in
     ((front : List ℕ) × (bytes ≡ front ++ (bytesOf " steps=" ++ decimal n ++ 10 ∷ []))) × (n ≤ mostSteps (f .trace))
 
 abbrev pub StepsPrinted : List ℕ → Type 0

@@ -11,34 +11,35 @@ use borrow.Author.Tests.{ne-eqb}
 use Rattle.trace.specs.Trace.{Trace}
 use Rattle.table.specs.Held.{held, holdsTrace}
 use Rattle.theory.specs.Events.{size}
-use Rattle.theory.specs.Epochs.{past}
-use Rattle.theory.specs.Line.{inSet, staysIn, current, reached, Greatest, greatestLine}
+use Rattle.theory.specs.Epochs.{ruleOf}
+use Rattle.theory.specs.Line.{inSet, staysIn, current, Greatest, usableAt, engineLine}
 use Rattle.theory.specs.Refusals.{failureFault}
 use Rattle.theory.proofs.Claims.{floor-failed}
 use Rattle.theory.proofs.WellFormed.{valid}
 use Rattle.recovery_line.specs.declared.Line.{Line}
-use Rattle.recovery_line.specs.Given.{Tabled, lineIn, lineTo, restartPhaseIn, numbersOf, backOf, backOnes}
+use Rattle.columns.specs.Inner.Columns.{Tabled}
+use Rattle.recovery_line.specs.Given.{lineIn, lineTo, restartPhaseIn, numbersOf, backOf, backOnes}
 use Rattle.restart.specs.declared.Restarted.{Restarted}
 use Rattle.preparing.specs.Faults.{failureFaultOf}
-use Rattle.restart.specs.Restart.{engineLine, ofEach, restartBy, restartOf, restartRefusal, restartAnswer, Restarts}
+use Rattle.restart.specs.Restart.{engineLineOf, ofEach, restartBy, restartOf, restartRefusal, restartAnswer, Restarts}
 
 -- ---- From the full table
 
 module _ (t : Trace) (full : List ℕ) (G : Tabled t full) (cut set : ℕ) (cl : cut ≤ size t) (l : Line)
-    (e : l ≡ lineTo t (greatestLine t past cut (reached t past cut) (inSet set))) where
+    (e : l ≡ lineTo t (engineLine t cut set)) where
   pub count-of : l .count ≡ t .procs
   count-of = ap (λ (x : Line). x .count) e
 
   pub count-few : l .count ≤ 64
   count-few = omega (arith, count-of, valid t (G .formed) .few)
 
-  pub made : (s b : ℕ) (x p : List ℕ) → s ≡ backOf (numbersOf l) → b ≡ ones (backOf (numbersOf l)) → x ≡ ofEach t (current t past cut)
+  pub made : (s b : ℕ) (x p : List ℕ) → s ≡ backOf (numbersOf l) → b ≡ ones (backOf (numbersOf l)) → x ≡ ofEach t (current t (ruleOf t) cut)
       → p ≡ ofEach t (restartPhaseIn t cut (lineIn l))
       → record { number = 0; place = 0; line = l; going = s; back = b; epochs = x; phases = p } ≡ restartOf t cut set
-  unfolding restartOf engineLine
+  unfolding restartOf engineLineOf
   made s b x p hs hb hx hp = rw (hs, hb, hx, hp) (ap (restartBy t cut) e)
 
-  pub means : (s b : ℕ) (x p : List ℕ) → Greatest t past cut (reached t past cut) (inSet set) (lineIn l)
+  pub means : (s b : ℕ) (x p : List ℕ) → Greatest t (ruleOf t) cut (usableAt t cut) (inSet set) (lineIn l)
       → s ≡ backOf (numbersOf l) → ((z : ℕ) → inSet s z ≡ (ltb z (l .count) && not (staysIn (lineIn l) z)))
       → b ≡ ones (backOf (numbersOf l)) → b ≡ length (backOnes (numbersOf l))
       → Restarts t cut set (record { number = 0; place = 0; line = l; going = s; back = b; epochs = x; phases = p })
@@ -74,8 +75,8 @@ pub record Ready (a : List ℕ) (step set : ℕ) (r : Restarted) : Type 0 where
   pub means : Restarts (held a) step set r
 
 module _ (t : Trace) (step set : ℕ) (r : Restarted) (e : r ≡ restartOf t step set) where
-  pub line-is : r .line ≡ lineTo t (greatestLine t past step (reached t past step) (inSet set))
-  unfolding restartOf engineLine
+  pub line-is : r .line ≡ lineTo t (engineLine t step set)
+  unfolding restartOf engineLineOf
   line-is = ap (λ (x : Restarted). x .line) e
 
   pub count-in : r .line .count ≡ t .procs

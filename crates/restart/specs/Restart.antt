@@ -1,7 +1,7 @@
 -- What `restart` answers: the engine's line for a failure, who goes back, and what the program prints of each process.
 use Prim.Native.Nat.{ℕ, _<_, _≤_}
 use mathlib.Core.Path.{_≡_}
-use mathlib.Core.Bool.{true, _&&_, not}
+use mathlib.Core.Bool.{true, _&&_, not, cond}
 use mathlib.Core.List.{List}
 use lib.Count.{ones}
 use lib.ListN.{length, replicate}
@@ -9,9 +9,8 @@ use lib.Dec.{ltb, eqb}
 use Rattle.words.specs.Area.{wordsFrom}
 use Rattle.trace.specs.Trace.{Trace}
 use Rattle.table.specs.Held.{held}
-use Rattle.theory.specs.Lists.{pick}
-use Rattle.theory.specs.Epochs.{past}
-use Rattle.theory.specs.Line.{inSet, staysIn, current, reached, Greatest, greatestLine}
+use Rattle.theory.specs.Epochs.{ruleOf}
+use Rattle.theory.specs.Line.{inSet, staysIn, current, Greatest, usableAt, engineLine}
 use Rattle.recovery_line.specs.declared.Line.{Line}
 use Rattle.recovery_line.specs.Given.{each, lineIn, lineTo, restartPhaseIn, numbersOf, backOf, backOnes}
 use Rattle.restart.specs.declared.Restarted.{Restarted}
@@ -19,8 +18,8 @@ use Rattle.preparing.specs.Faults.{failureFaultOf}
 
 -- "The engine's line is the greatest without a lost message." "Places of a line past its N numbers are 0 when the
 -- engine gives it."
-unfoldable pub engineLine : Trace → ℕ → ℕ → Line
-engineLine t step set = lineTo t (greatestLine t past step (reached t past step) (inSet set))
+unfoldable pub engineLineOf : Trace → ℕ → ℕ → Line
+engineLineOf t step set = lineTo t (engineLine t step set)
 
 -- Of each process what a rule says, and 0 past the last: the 64 words of an array in the answer.
 abbrev pub ofEach : Trace → (ℕ → ℕ) → List ℕ
@@ -36,12 +35,12 @@ restartBy t step l =
       line = l;
       going = backOf (numbersOf l);
       back = ones (backOf (numbersOf l));
-      epochs = ofEach t (current t past step);
+      epochs = ofEach t (current t (ruleOf t) step);
       phases = ofEach t (restartPhaseIn t step (lineIn l));
     }
 
 unfoldable pub restartOf : Trace → ℕ → ℕ → Restarted
-restartOf t step set = restartBy t step (engineLine t step set)
+restartOf t step set = restartBy t step (engineLineOf t step set)
 
 -- "In a refused answer every other number is 0"
 abbrev pub restartRefusal : ℕ → Restarted
@@ -58,16 +57,16 @@ restartRefusal n =
 
 unfoldable pub restartAnswer : List ℕ → ℕ → ℕ → Restarted
 restartAnswer a step set =
-    pick (eqb (failureFaultOf a step set) 0) (restartOf (held a) step set) (restartRefusal (failureFaultOf a step set))
+    cond (eqb (failureFaultOf a step set) 0) (restartOf (held a) step set) (restartRefusal (failureFaultOf a step set))
 
 -- Demand 2, of an answer that is no refusal: permitted, loss-free, at or above every permitted line without loss, for
 -- every process; "No zone in it restarts in an epoch below the smallest current epoch of a failed zone"; the set of
 -- those that go back, and its size twice over.
 pub record Restarts (t : Trace) (step set : ℕ) (r : Restarted) : Type 0 where
-  pub greatest : Greatest t past step (reached t past step) (inSet set) (lineIn (r .line))
+  pub greatest : Greatest t (ruleOf t) step (usableAt t step) (inSet set) (lineIn (r .line))
   pub floor : (y : ℕ) → y < t .procs → inSet set y ≡ true
-      → ((z : ℕ) → z < t .procs → inSet set z ≡ true → current t past step y ≤ current t past step z)
-      → (z : ℕ) → z < t .procs → current t past step y ≤ lineIn (r .line) z
+      → ((z : ℕ) → z < t .procs → inSet set z ≡ true → current t (ruleOf t) step y ≤ current t (ruleOf t) step z)
+      → (z : ℕ) → z < t .procs → current t (ruleOf t) step y ≤ lineIn (r .line) z
   pub goes : (z : ℕ) → inSet (r .going) z ≡ (ltb z (t .procs) && not (staysIn (lineIn (r .line)) z))
   pub ones-are : r .back ≡ ones (r .going)
   pub numbers-are : r .back ≡ length (backOnes (numbersOf (r .line)))

@@ -7,7 +7,7 @@ ghost use Prim.Native.Nat.{_≤_};
 ghost use Rattle.trace.specs.Trace.{Trace};
 ghost use Rattle.table.specs.Held.{held};
 ghost use Rattle.theory.specs.Events.{size};
-ghost use Rattle.recovery_line.specs.Given.{Tabled};
+ghost use Rattle.columns.specs.Inner.Columns.{Tabled};
 ghost use Rattle.restart.specs.Restart.{restartRefusal, restartOf, restartAnswer, Restarts};
 use recovery_line::Line;
 use words::AREA_WORDS;

@@ -16,15 +16,17 @@ use Rattle.words.proofs.Cases.{by-lt}
 use Rattle.trace.specs.Trace.{Trace}
 use Rattle.reader.specs.Verdict.{Verdict, accepted, verdict}
 use Rattle.reader.specs.Answer.{readAnswer, readArea}
-use Rattle.reader.specs.Failure.{Failing, failureAnswer, failureArea, failureOf as lastFailure}
-use Rattle.table.specs.Held.{held, holdsTrace, heldTrace}
+use Rattle.reader.specs.Failure.{Failing, failureAnswer, failureArea, lastFailure}
+use Rattle.table.specs.Held.{held, holdsTrace}
+use Rattle.table.specs.Inner.Held.{heldTrace}
 use Rattle.table.proofs.Holding.{told}
 use Rattle.table.proofs.Claims.{read-held, failing-held}
-use Rattle.theory.specs.Epochs.{past}
-use Rattle.theory.specs.Laws.{Laws}
-use Rattle.theory.specs.Line.{Run, recorded, LossFree}
+use Rattle.theory.specs.Epochs.{ruleOf}
+use Rattle.theory.specs.Inner.Laws.{Laws}
+use Rattle.theory.specs.Line.{Run, LossFree, runAt}
 use Rattle.theory.specs.Order.{Outcome, carriedOut, run, complete, lowestOrder}
-use Rattle.theory.specs.Answers.{lineOf, Listed, orphans, keptOnes, lostOnes, exactSteps, sameRecord}
+use Rattle.theory.specs.Answers.{lineOf, Listed, orphans, keptOnes, lostOnes, exactSteps}
+use Rattle.theory.specs.Inner.Tests.{sameRecord}
 use Rattle.theory.specs.Refusals.{failureFault, lineFault}
 use Rattle.theory.proofs.Answers.{lost-none}
 use Rattle.theory.proofs.Claims.{record-iff, record-test, complete-test}
@@ -39,7 +41,7 @@ use Rattle.orders.specs.declared.Replayed.{Replayed}
 use Rattle.orders.specs.Answer.{answerOf, wordsOf}
 use Rattle.messages.specs.declared.Counted.{Counted}
 use Rattle.restart.specs.declared.Restarted.{Restarted}
-use Rattle.preparing.specs.Faults.{faultOf, runOf as codeRun, failureFaultOf}
+use Rattle.preparing.specs.Faults.{lineFaultOf, runOf as codeRun, failureFaultOf}
 use Rattle.recovery.specs.Answers.{replayAnswer, replayArea, Completed}
 use Rattle.messages.specs.Messages.{countsOf}
 use Rattle.restart.specs.Restart.{restartOf, restartRefusal, restartAnswer}
@@ -47,7 +49,7 @@ use Rattle.messages.proofs.Listing.{Listed as Messages, counts-are, listed-at}
 use Rattle.recovery.proofs.Replaying.{Answered as Replay}
 use Rattle.restart.proofs.Restarting.{Answered as Restart, Ready}
 use Rattle.recovery.proofs.Taking.{not-refused}
-use Rattle.report.specs.Report.{Answer, refused, given, unless, then, Failure, runOf, Recovery, recoveryBy, engineLine, recoveryOf, recovery, failureOf}
+use Rattle.report.specs.Report.{Answer, refused, given, unless, then, Failure, runWith, Recovery, recoveryBy, lineListed, recoveryOf, recovery, failureOf}
 use Rattle.report.proofs.Found.{tabled-length, run-same, steps-are, epochs-at, phases-at, numbers-are, back-is}
 use Rattle.report.proofs.Answers.{not-given, unless-given}
 use Rattle.report.proofs.Messages.{blank, At, front-row, later-row, word-in, number-in, phase-in, orphan-row, kept-row}
@@ -127,7 +129,7 @@ Refuses step set n t a run = (r : Restarted) → Restart a step set r → r ≡ 
 -- `messages` with a line
 abbrev pub Loses : ℕ → ℕ → List ℕ → List Listed → Claim
 Loses step set l ms t a run =
-    let R = recorded t past step (lineOf l) in
+    let R = runAt t step (lineOf l) in
     (c : Counted) (w : List ℕ) → Messages a run step set (lineFrom l) c w → Lists (orphans R) (keptOnes R) ms c w
 
 -- `replay` with a line: every complete order, whatever its choices, has so many steps
@@ -167,7 +169,7 @@ unless-placed (suc n) y m i h = absurd (let z : _≡_ {A = ℕ} 0 (suc i) = cc i
 -- ---- The messages of a line that is not refused
 
 module _ (a run : List ℕ) (step set : ℕ) (l : Line) (R : Run) (same : codeRun a step l ≡ R) (few : R .trace .procs ≤ 64)
-    (ok : faultOf a (length run) step set l ≡ 0) (c : Counted) (w : List ℕ) (M : Messages a run step set l c w) where
+    (ok : lineFaultOf a (length run) step set l ≡ 0) (c : Counted) (w : List ℕ) (M : Messages a run step set l c w) where
   counts : c ≡ countsOf R
   counts = counts-are a run step set l ok c (M .0) ∙ ap countsOf same
 
@@ -276,14 +278,14 @@ module _ (text a : List ℕ) (step set : ℕ) (holds : holdsTrace a ≡ true) (e
         front-is (t .procs) (r .phases) (recoveryOf f .phases) (omega (arith, few-processes)) (tabled-length _ (t .procs)) (phases-at a step set r ready)
 
     abbrev R : Run
-    R = runOf f (engineLine f)
+    R = runWith f (lineListed f)
 
     loss-free : LossFree R
     loss-free = subst LossFree (run-same a step set r ready) (ready .means .greatest .loss-free)
 
     none-lost : lostOnes R ≡ []
     none-lost =
-        let L : Laws R = laws t past (held-valid a holds) step (lineOf (engineLine f)) (failure-fit t step set .0 (taken .0) .step-most) in
+        let L : Laws R = laws t (ruleOf t) (held-valid a holds) step (lineOf (lineListed f)) (failure-fit t step set .0 (taken .0) .step-most) in
         lost-none R L .1 loss-free
 
     restarts : Restored t x r
@@ -293,7 +295,7 @@ module _ (text a : List ℕ) (step set : ℕ) (holds : holdsTrace a ≡ true) (e
         (record { number = number-is; line = numbers-are a step set r ready; epochs = epochs-are; phases = phases-are; back = back-is a step set r ready })
 
     module _ (run₀ : List ℕ) (long : areaWords ≤ length run₀) where
-      ok : faultOf a (length run₀) step set (r .line) ≡ 0
+      ok : lineFaultOf a (length run₀) step set (r .line) ≡ 0
       ok = not-refused a step set r ready (length run₀) long
 
       listed : (c : Counted) (w : List ℕ) → Messages a run₀ step set (r .line) c w → Lists (x .orphans) (x .kept) [] c w
@@ -327,42 +329,42 @@ module _ (text a : List ℕ) (step set : ℕ) (holds : holdsTrace a ≡ true) (e
         (λ h. rw (lt-ltb z (length l) h) (getD-words (lineOf l) 0 64 z (omega arith) ∙ ap (lineOf l) (let q : 0 + z ≡ z = omega arith in q)))
         (λ h. rw (le-ltb z (length l) h) (sym (List·getD-eq-default l 0 h)))
 
-    run-is : codeRun a step (lineFrom l) ≡ runOf f l
-    run-is = ap (recorded t past step) (fun-ext line-at)
+    run-is : codeRun a step (lineFrom l) ≡ runWith f l
+    run-is = ap (runAt t step) (fun-ext line-at)
 
-    fault-is : faultOf a (length run₀) step set (lineFrom l) ≡ fault f l
-    unfolding faultOf
+    fault-is : lineFaultOf a (length run₀) step set (lineFrom l) ≡ fault f l
+    unfolding lineFaultOf
     fault-is =
         rw (le-ltb (length a) 16384 (held-long a holds), le-ltb (length run₀) 16384 long, holds)
         (ap (lineFault t step set (length l)) (fun-ext line-at))
 
     -- what `losses` tells: nothing is wrong with the failure and the line, and these are the lost messages
-    told-lost : (ms : List Listed) → losses text l ≡ given ms → (failureFault t step set ≡ 0) × (fault f l ≡ 0) × (lostOnes (runOf f l) ≡ ms)
+    told-lost : (ms : List Listed) → losses text l ≡ given ms → (failureFault t step set ≡ 0) × (fault f l ≡ 0) × (lostOnes (runWith f l) ≡ ms)
     unfolding losses failureOf
     told-lost ms h =
-        let u = then-given (failureFault t step set) f (λ g. unless (fault g l) (given (lostOnes (runOf g l)))) ms (rw e at h) in
-        let v = unless-given (fault f l) (given (lostOnes (runOf f l))) ms (u .1) in
-        let q : lostOnes (runOf f l) ≡ ms = let p = v .1 in cc in
+        let u = then-given (failureFault t step set) f (λ g. unless (fault g l) (given (lostOnes (runWith g l)))) ms (rw e at h) in
+        let v = unless-given (fault f l) (given (lostOnes (runWith f l))) ms (u .1) in
+        let q : lostOnes (runWith f l) ≡ ms = let p = v .1 in cc in
         (u .0, v .0, q)
 
     lost-are : (ms : List Listed) → losses text l ≡ given ms → (c : Counted) (w : List ℕ) → Messages a run₀ step set (lineFrom l) c w
-        → Lists (orphans (runOf f l)) (keptOnes (runOf f l)) ms c w
+        → Lists (orphans (runWith f l)) (keptOnes (runWith f l)) ms c w
     lost-are ms h c w M =
         let (_, z, q) = told-lost ms h in
-        subst (λ (ls : List Listed). Lists (orphans (runOf f l)) (keptOnes (runOf f l)) ls c w) q
-        (lists a run₀ step set (lineFrom l) (runOf f l) run-is few-processes (fault-is ∙ z) c w M)
+        subst (λ (ls : List Listed). Lists (orphans (runWith f l)) (keptOnes (runWith f l)) ls c w) q
+        (lists a run₀ step set (lineFrom l) (runWith f l) run-is few-processes (fault-is ∙ z) c w M)
 
     -- a line that loses no message, and the steps of its complete orders
-    lost-nothing : losses text l ≡ given [] → LossFree (runOf f l)
+    lost-nothing : losses text l ≡ given [] → LossFree (runWith f l)
     lost-nothing h =
         let (z, _, n) = told-lost [] h in
-        lost-none (runOf f l) (laws t past (held-valid a holds) step (lineOf l) (failure-fit t step set .0 z .step-most)) .0 n
+        lost-none (runWith f l) (laws t (ruleOf t) (held-valid a holds) step (lineOf l) (failure-fit t step set .0 z .step-most)) .0 n
 
-    exact-is : (n : ℕ) → exactStepsOf text l ≡ given n → exactSteps (runOf f l) ≡ n
+    exact-is : (n : ℕ) → exactStepsOf text l ≡ given n → exactSteps (runWith f l) ≡ n
     unfolding exactStepsOf failureOf
     exact-is n h =
-        let u = then-given (failureFault t step set) f (λ g. unless (fault g l) (given (exactSteps (runOf g l)))) n (rw e at h) in
-        let v = unless-given (fault f l) (given (exactSteps (runOf f l))) n (u .1) in
+        let u = then-given (failureFault t step set) f (λ g. unless (fault g l) (given (exactSteps (runWith g l)))) n (rw e at h) in
+        let v = unless-given (fault f l) (given (exactSteps (runWith f l))) n (u .1) in
         let p = v .1 in cc
 
     steps-so-many : (n : ℕ) → losses text l ≡ given [] → exactStepsOf text l ≡ given n → AllHaveSteps step set l n t a run₀
@@ -371,7 +373,7 @@ module _ (text a : List ℕ) (step set : ℕ) (holds : holdsTrace a ≡ true) (e
 
     module _ (order : List ℕ) (y : Replayed) (v : List ℕ) (P : Replay a run₀ step set (lineFrom l) order y v) where
       abbrev S : Run
-      S = runOf f l
+      S = runWith f l
 
       answer-by : (o : Outcome) → run S order ≡ o → fault f l ≡ 0 → y ≡ answerOf S o (length order)
       unfolding replayAnswer
@@ -394,10 +396,10 @@ module _ (text a : List ℕ) (step set : ℕ) (holds : holdsTrace a ≡ true) (e
           let cl = line-fit t step set (length l) (lineOf l) .0 z .failure .step-most in (
             i,
             λ all equal.
-                let d = complete-test t w past step cl (lineOf l) s .0 (ap (λ (u : Told). u .complete) p ∙ all) in
-                let same = record-test t w past step cl (lineOf l) order s q .0 (ap (λ (u : Told). u .equal) p ∙ equal) in
+                let d = complete-test t w (ruleOf t) step cl (lineOf l) s .0 (ap (λ (u : Told). u .complete) p ∙ all) in
+                let same = record-test t w (ruleOf t) step cl (lineOf l) order s q .0 (ap (λ (u : Told). u .equal) p ∙ equal) in
                 P .1 .1 .0 (ap (λ (u : Replayed). u .number) i) (ap (λ (u : Replayed). u .complete) i ∙ all) .1
-                (subst LossFree (sym run-is) (record-iff t w past step cl (lineOf l) order s q d .0 same)),
+                (subst LossFree (sym run-is) (record-iff t w (ruleOf t) step cl (lineOf l) order s q d .0 same)),
           )
       carried x (Outcome.refused i) q z h = absurd (not-given 11 i x h)
 
@@ -405,7 +407,7 @@ module _ (text a : List ℕ) (step set : ℕ) (holds : holdsTrace a ≡ true) (e
           → (y ≡ record { number = 0; place = 0; steps = x .steps; complete = x .complete }) × (x .complete ≡ true → x .equal ≡ true → Faultless t v)
       unfolding replay failureOf
       replayed x h =
-          let u = then-given (failureFault t step set) f (λ g. unless (fault g l) (replayOf (runOf g l) order (run (runOf g l) order))) x (rw e at h) in
+          let u = then-given (failureFault t step set) f (λ g. unless (fault g l) (replayOf (runWith g l) order (run (runWith g l) order))) x (rw e at h) in
           let k = unless-given (fault f l) (replayOf S order (run S order)) x (u .1) in
           carried x (run S order) refl (k .0) (k .1)
 
@@ -420,7 +422,7 @@ module _ (text a : List ℕ) (step set : ℕ) (holds : holdsTrace a ≡ true) (e
           → (y ≡ record { number = 11; place = suc i; steps = 0; complete = false }) × (v ≡ cleared run₀)
       unfolding replay failureOf
       stopped m i h =
-          let u = then-placed (failureFault t step set) f (λ g. unless (fault g l) (replayOf (runOf g l) order (run (runOf g l) order))) m i (rw e at h) in
+          let u = then-placed (failureFault t step set) f (λ g. unless (fault g l) (replayOf (runWith g l) order (run (runWith g l) order))) m i (rw e at h) in
           let k = unless-placed (fault f l) (replayOf S order (run S order)) m i u in
           stops-at m (suc i) (run S order) refl (k .0) (k .1)
 

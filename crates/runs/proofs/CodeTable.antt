@@ -11,13 +11,13 @@ use native.Mathlib.Omega.{arith}
 use lib.ListN.{length}
 use Rattle.words.specs.Area.{areaWords}
 use Rattle.reader.specs.Answer.{readAnswer, readArea}
-use Rattle.reader.specs.Failure.{Failing, failureAnswer, failureArea, failureOf as lastFailure}
+use Rattle.reader.specs.Failure.{Failing, failureAnswer, failureArea, lastFailure}
 use Rattle.theory.proofs.Runs.{opens}
 use Rattle.recovery_line.specs.Given.{numbersOf}
 use Rattle.restart.specs.declared.Restarted.{Restarted}
 use Rattle.restart.proofs.Restarting.{Answered as Restart}
 use Rattle.writer.specs.Buffer.{room, written}
-use Rattle.printing.specs.Bytes.{linesOf}
+use Rattle.printing.specs.Inner.Texts.{linesOf}
 use Rattle.report.specs.Report.{printed}
 use Rattle.runs.specs.Texts.{linesH, linesL, linesS, linesT, linesFirst, failing, textH}
 use Rattle.runs.proofs.Table.{reads, message, traceH, traceL, traceS, traceT, printed1, recovery1, recovery4, recovery5, recovery7, recovery8, recovery9, recovery10, table}

@@ -12,25 +12,26 @@ use Rattle.trace.specs.declared.Event.{Event}
 use Rattle.trace.specs.declared.Event.the-variants.{Send, Recv, Save}
 use Rattle.trace.specs.Trace.{Trace}
 use Rattle.trace.specs.Fit.{wellFormed}
-use Rattle.lines.specs.Line.{procsOf, sendOf, recvOf, saveOf, failOf, lineOf as lineIn}
-use Rattle.reader.specs.Failure.{failureOf as lastFailure}
+use Rattle.lines.specs.Line.{procsSaid, sendSaid, recvSaid, saveSaid, failSaid, lineSaid as lineIn}
+use Rattle.reader.specs.Failure.{lastFailure}
 use Rattle.reader.specs.Verdict.{pieces, faultHere, judgeEvent, judge, linesFrom, scanPieces, scan, Verdict, accepted, verdict}
 use Rattle.theory.specs.Events.{size}
-use Rattle.theory.specs.Epochs.{past}
-use Rattle.theory.specs.Line.{inSet, reached, Greatest, greatestLine}
+use Rattle.theory.specs.Epochs.{ruleOf}
+use Rattle.theory.specs.Line.{inSet, Greatest, greatestLine, usableAt}
 use Rattle.theory.specs.Answers.{lineOf, Listed}
 use Rattle.theory.specs.Refusals.{failureFault, permits, lineFault}
 use Rattle.theory.proofs.Runs.{opens}
 use Rattle.theory.proofs.Claims.{reached-usable, greatest-line, greatest-only}
-use Rattle.printing.specs.Bytes.{bytesOf, linesOf}
+use Rattle.printing.specs.Bytes.{bytesOf}
+use Rattle.printing.specs.Inner.Texts.{linesOf}
 use Rattle.runs.specs.Texts.{linesH, linesL, linesS, linesT, linesFirst, failing, textH}
-use Rattle.report.specs.Report.{Answer, refused, given, Failure, failureOf, Recovery, engineLine, recoveryBy, recovery, messageLines, printedOf, printed}
+use Rattle.report.specs.Report.{Answer, refused, given, Failure, failureOf, Recovery, lineListed, recoveryBy, recovery, messageLines, printedOf, printed}
 use Rattle.printing.specs.Lines.{processLine, messageLine, totalLine, refusalLine}
 use Rattle.runs.specs.Answers.{losses, Replayed, replay, exactStepsOf}
 
 -- all that a row computes with, beside what the theory's rows do: `opens`
 unfoldable pub reads : ℕ
-unfolding bytesOf linesOf failing startsWith fieldAt isDigit pushed digitsFrom numberAt lastDigits procsOf sendOf recvOf saveOf failOf lineIn pieces faultHere judgeEvent judge linesFrom scanPieces scan verdict lastFailure failureFault permits lineFault failureOf losses replay exactStepsOf engineLine recoveryBy recovery processLine messageLine messageLines totalLine refusalLine printedOf printed
+unfolding bytesOf linesOf failing startsWith fieldAt isDigit pushed digitsFrom numberAt lastDigits procsSaid sendSaid recvSaid saveSaid failSaid lineIn pieces faultHere judgeEvent judge linesFrom scanPieces scan verdict lastFailure failureFault permits lineFault failureOf losses replay exactStepsOf lineListed recoveryBy recovery processLine messageLine messageLines totalLine refusalLine printedOf printed
 reads = 0
 
 -- a trace of two processes
@@ -48,7 +49,7 @@ Of (given f) P = P f
 
 -- a line is the greatest of a failure
 abbrev pub GreatestOf : List ℕ → Failure → Type 0
-GreatestOf l f = Greatest (f .trace) past (f .step) (reached (f .trace) past (f .step)) (inSet (f .failed)) (lineOf l)
+GreatestOf l f = Greatest (f .trace) (ruleOf (f .trace)) (f .step) (usableAt (f .trace) (f .step)) (inSet (f .failed)) (lineOf l)
 
 -- an order of so many steps that is complete and leaves the record of the run without failure
 abbrev pub completed : ℕ → Answer Replayed
@@ -117,11 +118,11 @@ unfolding opens
 not-greatest g =
     let w : wellFormed traceH ≡ true = refl in
     let c : 9 ≤ size traceH = omega arith in
-    let usable = reached traceH past 9 in
-    let U = reached-usable traceH w past 9 c in
-    let l = greatestLine traceH past 9 usable (inSet 2) in
-    let top = greatest-line traceH w past 9 c usable U (inSet 2) in
-    let e : _≡_ {A = ℕ} 1 2 = greatest-only traceH w past 9 c usable U (inSet 2) (lineOf (1 ∷ 1 ∷ 32 ∷ [])) l g top 0 (omega arith) in
+    let usable = usableAt traceH 9 in
+    let U = reached-usable traceH w (ruleOf traceH) 9 c in
+    let l = greatestLine traceH (ruleOf traceH) 9 usable (inSet 2) in
+    let top = greatest-line traceH w (ruleOf traceH) 9 c usable U (inSet 2) in
+    let e : _≡_ {A = ℕ} 1 2 = greatest-only traceH w (ruleOf traceH) 9 c usable U (inSet 2) (lineOf (1 ∷ 1 ∷ 32 ∷ [])) l g top 0 (omega arith) in
     omega arith
 
 r3 : R3

@@ -6,9 +6,10 @@ use Prim.Native.Nat.{ℕ}
 use lib.ListN.{length}
 use Rattle.theory.specs.Line.{Run}
 use Rattle.theory.specs.Order.{Outcome, carriedOut, run, steps, complete}
-use Rattle.theory.specs.Answers.{lineOf, Listed, lostOnes, exactSteps, sameRecord}
+use Rattle.theory.specs.Answers.{lineOf, Listed, lostOnes, exactSteps}
+use Rattle.theory.specs.Inner.Tests.{sameRecord}
 use Rattle.theory.specs.Refusals.{lineFault, orderFault}
-use Rattle.report.specs.Report.{Answer, refused, given, unless, then, Failure, failureOf, runOf}
+use Rattle.report.specs.Report.{Answer, refused, given, unless, then, Failure, failureOf, runWith}
 
 -- ---- Another line: the messages that it loses
 
@@ -17,7 +18,7 @@ abbrev pub fault : Failure → List ℕ → ℕ
 fault f l = lineFault (f .trace) (f .step) (f .failed) (length l) (lineOf l)
 
 unfoldable pub losses : List ℕ → List ℕ → Answer (List Listed)
-losses text l = then (failureOf text) (λ f. unless (fault f l) (given (lostOnes (runOf f l))))
+losses text l = then (failureOf text) (λ f. unless (fault f l) (given (lostOnes (runWith f l))))
 
 -- ---- An order from a line: whether it is complete, whether the record that it leaves equals that of the run without
 -- failure, its steps
@@ -32,9 +33,9 @@ replayOf R order (carriedOut s) = given (record { complete = complete R s; equal
 replayOf R order (Outcome.refused i) = refused (orderFault (Outcome.refused i)) i
 
 unfoldable pub replay : List ℕ → List ℕ → List ℕ → Answer Replayed
-replay text l order = then (failureOf text) (λ f. unless (fault f l) (replayOf (runOf f l) order (run (runOf f l) order)))
+replay text l order = then (failureOf text) (λ f. unless (fault f l) (replayOf (runWith f l) order (run (runWith f l) order)))
 
 -- ---- Document 02, item 2: how many steps every complete order from a line has, if it loses no message
 
 unfoldable pub exactStepsOf : List ℕ → List ℕ → Answer ℕ
-exactStepsOf text l = then (failureOf text) (λ f. unless (fault f l) (given (exactSteps (runOf f l))))
+exactStepsOf text l = then (failureOf text) (λ f. unless (fault f l) (given (exactSteps (runWith f l))))

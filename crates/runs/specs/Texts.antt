@@ -3,7 +3,7 @@
 use mathlib.Core.List.{List, [], _∷_, _++_}
 use Prim.Native.Nat.{ℕ}
 use Prim.Native.String.{String}
-use Rattle.printing.specs.Bytes.{linesOf}
+use Rattle.printing.specs.Inner.Texts.{linesOf}
 
 -- "The library's reader takes the text without a failure line. The program wants one more line, the last": the text
 -- with that line

@@ -12,18 +12,18 @@ use Rattle.theory.specs.Events.{size}
 use Rattle.theory.specs.Line.{Run}
 use Rattle.theory.specs.Replay.{State, start}
 use Rattle.theory.specs.Order.{carriedOut, choose, carry, run, lowest, lowestFrom, lowestOrder}
-use Rattle.theory.proofs.Flow.{Inv}
+use Rattle.theory.specs.Inner.Flow.{Inv}
 use Rattle.theory.proofs.Base.{on, le?, clash}
 use Rattle.theory.proofs.Loss.{inv-start}
 use Rattle.theory.proofs.Orders.{none-high, choose-none, complete-iff}
 use Rattle.theory.proofs.Lowest.{lowest-none, lowest-some, lowest-iff, lowest-order}
-use Rattle.machine.specs.Words.{currentBase, lowPlace, allowedW, applyW, Bounded}
-use Rattle.machine.specs.Related.{Rel, Started}
+use Rattle.machine.specs.Inner.Words.{currentBase, lowPlace, allowedW, applyW, Bounded}
+use Rattle.machine.specs.Inner.Related.{Rel, Started}
 use Rattle.machine.proofs.Choices.{Agrees, refuses, allows, choice-agrees}
 use Rattle.orders.proofs.Orders.{rel-bounded, record-left}
 use Rattle.orders.specs.declared.Replayed.{Replayed}
 use Rattle.orders.specs.Answer.{answerOf, wordsOf}
-use Rattle.search.specs.Lowest.{noChoice, NoneBefore, Lowered}
+use Rattle.search.specs.Inner.Lowest.{noChoice, NoneBefore, LowestDone}
 
 -- ---- The lowest choice
 
@@ -108,7 +108,7 @@ module _ (R : Run) (t l g a₀ : List ℕ) (S : Started R t l g a₀) where
     unfolding carry
     carry-some s u i c cs e = rw e
 
-    ended : (a : List ℕ) (i : ℕ) (v : Going a i) → lowestFrom R (most - i) (v .0) ≡ [] → Lowered R a most i
+    ended : (a : List ℕ) (i : ℕ) (v : Going a i) → lowestFrom R (most - i) (v .0) ≡ [] → LowestDone R a most i
     ended a i v e =
         (v .0, v .1, v .2, sym (v .3) ∙ ap (carry R (v .0) (suc i)) e ∙ carry-none (v .0) (suc i), (let w = v .4 in let q : length (lowestFrom R (most - i) (v .0)) ≡ 0 = ap length e in omega (arith, w, q)))
 
@@ -116,11 +116,11 @@ module _ (R : Run) (t l g a₀ : List ℕ) (S : Started R t l g a₀) where
     going-bound a i v = rel-bounded R (S .laws) t l g (S .cols) a (v .0) (v .1) (v .2)
 
     -- no choice is left
-    pub going-end : (a : List ℕ) (i : ℕ) → Going a i → NoneBefore t g a noChoice → Lowered R a most i
+    pub going-end : (a : List ℕ) (i : ℕ) → Going a i → NoneBefore t g a noChoice → LowestDone R a most i
     going-end a i v h = ended a i v (from-none (most - i) (v .0) (none-lowest a (v .0) (v .1) (v .2) h))
 
     -- as many as there may be are done
-    pub going-out : (a : List ℕ) (i : ℕ) → Going a i → most ≤ i → Lowered R a most i
+    pub going-out : (a : List ℕ) (i : ℕ) → Going a i → most ≤ i → LowestDone R a most i
     going-out a i v h = ended a i v (let e : most - i ≡ 0 = omega arith in rw e (from-zero (v .0)))
 
     pub going-next : (a b : List ℕ) (i c : ℕ) → Going a i → i < most → NoneBefore t g a c → allowedW t g a c ≡ true → b ≡ applyW t l a c → Going b (i + 1)
@@ -144,14 +144,14 @@ module _ (R : Run) (t l g a₀ : List ℕ) (S : Started R t l g a₀) where
       whole : order ≡ lowestOrder R
       whole = ap (λ m. lowestFrom R m (start R)) all
 
-      pub lowered-answer : (a : List ℕ) (n : ℕ) (x : Replayed) → Lowered R a most n → x ≡ (record { number = 0; place = 0; steps = n; complete = true })
+      pub lowered-answer : (a : List ℕ) (n : ℕ) (x : Replayed) → LowestDone R a most n → x ≡ (record { number = 0; place = 0; steps = n; complete = true })
           → x ≡ answerOf R (run R (lowestOrder R)) (length (lowestOrder R))
       unfolding answerOf
       lowered-answer a n x v e =
           let o = lowest-order R (S .laws) in
           e ∙ rw (o .1, complete-iff R (o .0) .1 (o .2), v .4 ∙ ap length whole)
 
-      pub lowered-words : (a b : List ℕ) (n : ℕ) → Lowered R a most n → length b ≡ areaWords
+      pub lowered-words : (a b : List ℕ) (n : ℕ) → LowestDone R a most n → length b ≡ areaWords
           → ((k : ℕ) → (currentBase ≤ k → lowPlace < k) → getD b k 0 ≡ getD a k 0) → ((k : ℕ) → currentBase ≤ k → k ≤ lowPlace → getD b k 0 ≡ 0) → b ≡ wordsOf R (run R (lowestOrder R))
       unfolding wordsOf
       lowered-words a b n v j others zeros = rw (← whole, v .3) (record-left R (S .laws) t l g (S .cols) a b (v .0) (v .1) j others zeros)

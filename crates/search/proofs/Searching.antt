@@ -14,14 +14,18 @@ use borrow.Author.Tests.{lt-ltb, le-ltb, eq-eqb, ne-eqb, eqb-true}
 use Rattle.words.proofs.Cases.{by-bool, by-lt, by-eq, clash}
 use Rattle.theory.specs.Line.{Run, inSet}
 use Rattle.theory.specs.Replay.{process, State}
-use Rattle.theory.proofs.Flow.{Inv, Did, did-other, did-send, did-recv, view}
+use Rattle.theory.proofs.Flow.{Did, did-other, did-send, did-recv, view}
+use Rattle.theory.specs.Inner.Flow.{Inv}
 use Rattle.theory.proofs.Orders.{choice-process, choose-of}
-use Rattle.machine.specs.Words.{takenBase, currentBase, orphanBase, takeBase, putBase, lowPlace, noPhase, kindW, peerW, valueW, numberW, phaseW, curW, orpW, takeW, putW, lowW, sendOk, eventOk, processOk, handOk, allowedW, lowOf, lesser, movedW, dropW, putInW, takeOutW, eventW, processW, applyW, Bounded, keptPhase}
-use Rattle.machine.specs.Related.{head0, Rel, Started}
+use Rattle.machine.specs.Taken.{takenBase}
+use Rattle.machine.specs.Inner.Words.{currentBase, orphanBase, takeBase, putBase, lowPlace, noPhase, curW, orpW, takeW, putW, lowW, sendOk, eventOk, processOk, handOk, allowedW, lowOf, lesser, movedW, dropW, putInW, takeOutW, eventStepW, processW, applyW, Bounded, keptPhase}
+use Rattle.columns.specs.Inner.Full.{kindW, peerW, valueW, numberW, phaseW}
+use Rattle.theory.specs.Inner.Lists.{head0}
+use Rattle.machine.specs.Inner.Related.{Rel, Started}
 use Rattle.machine.proofs.Facts.{left-none, left-some}
 use Rattle.machine.proofs.Moves.{at-next}
-use Rattle.sets.specs.Sets.{everyone, firstIn, restOf, withIn, Outside}
-use Rattle.search.specs.Lowest.{Idle, Shut, NoneTo, Under, Keeps, ToRun, ToKeep, NoneBefore, unlessNew, Lowered}
+use Rattle.sets.specs.Inner.Sets.{everyone, firstIn, restOf, withIn, Outside}
+use Rattle.search.specs.Inner.Lowest.{Idle, Shut, NoneTo, Under, Keeps, ToRun, ToKeep, NoneBefore, unlessNew, LowestDone}
 use Rattle.machine.proofs.Steps.{process-none, allowed-process, allowed-hand}
 use Rattle.moves.proofs.Steps.{apply-process, apply-hand}
 use Rattle.sets.proofs.Sets.{none-in, everyone-in, lower-out, first-lt, first-in, rest-out, with-out, with-lt, Pruned, pruned-start, pruned-next, rest-outside}
@@ -50,8 +54,8 @@ module _ (t l a : List ℕ) where
 
   -- a word after the record that is no pointer of process z or of its peer's channels, nor the least phase
   event-other : (z e k : ℕ) → e < 2049 → currentBase ≤ k → k ≢ orphanBase + z → k ≢ lowPlace → (kindW t e ≡ 1 → k ≢ putBase + (64 * z + peerW t e))
-      → k ≢ takeBase + (64 * peerW t e + z) → getD (eventW t l a z e) k 0 ≡ getD a k 0
-  unfolding eventW
+      → k ≢ takeBase + (64 * peerW t e + z) → getD (eventStepW t l a z e) k 0 ≡ getD a k 0
+  unfolding eventStepW
   event-other z e k b j o w p q = by-eq (kindW t e) 1
       (λ s. rw (eq-eqb (kindW t e) 1 s) (by-bool (eqb (orpW a z) e)
       (λ x. rw x (drop-other z e k o w))
@@ -70,7 +74,7 @@ module _ (t l a : List ℕ) where
         → getD (processW t l a z) k 0 ≡ getD a k 0
     unfolding processW movedW
     process-other k j c o w p q =
-        getD-set-other (eventW t l a z (curW a z)) (currentBase + z) k (getD l (4 * curW a z) 0) 0 c ∙ event-other z (curW a z) k e-lt j o w p q
+        getD-set-other (eventStepW t l a z (curW a z)) (currentBase + z) k (getD l (4 * curW a z) 0) 0 c ∙ event-other z (curW a z) k e-lt j o w p q
 
 -- ---- Tests whose words are the same
 
@@ -393,7 +397,7 @@ all-to-run a z hz o = clash (everyone-in z hz) o
 
 module _ (R : Run) (t l g a₀ : List ℕ) (S : Started R t l g a₀) (most : ℕ) (a : List ℕ) (i : ℕ) (v : Going R t l g a₀ S most a i) where
   -- no process may run, no kept message be handed over
-  pub search-end : Idle t g a 0 → NoneTo t g a 4096 → Lowered R a most i
+  pub search-end : Idle t g a 0 → NoneTo t g a 4096 → LowestDone R a most i
   search-end h k = going-end R t l g a₀ S most a i v (hand-none t l g a 4096 (omega arith) h k)
 
   bound : Bounded a

@@ -5,17 +5,17 @@ ghost use mathlib.Core.Bool.{true, false};
 ghost use Prim.Native.Nat.{ℕ, _+_, _*_, _/_, _%_, _≤_, _<_};
 ghost use lib.ListN.{length, getD};
 ghost use Rattle.words.specs.Area.{areaWords};
-ghost use Rattle.machine.specs.Words.{noPhase, peerW, curW, processOk, handOk, putInW, processW, Bounded, Small, keptPhase};
+ghost use Rattle.machine.specs.Inner.Words.{noPhase, curW, processOk, handOk, putInW, processW, Bounded, Small, keptPhase};
+ghost use Rattle.columns.specs.Inner.Full.{peerW};
 ghost use Rattle.theory.specs.Events.{size};
-ghost use Rattle.theory.specs.Line.{Run, recorded, inSet};
-ghost use Rattle.machine.specs.Related.{Started};
+ghost use Rattle.theory.specs.Line.{Run, inSet, runAt};
+ghost use Rattle.machine.specs.Inner.Related.{Started};
 ghost use Rattle.theory.specs.Order.{run, lowestOrder};
-ghost use Rattle.machine.specs.Shapes.{Readable, Movable};
+ghost use Rattle.machine.specs.Inner.Shapes.{Readable, Movable};
 ghost use Rattle.trace.specs.Trace.{Trace};
-ghost use Rattle.theory.specs.Epochs.{past};
-ghost use Rattle.links.specs.Given.{Given};
-ghost use Rattle.sets.specs.Sets.{firstIn, withIn, Outside};
-ghost use Rattle.search.specs.Lowest.{Idle, Shut, NoneTo, Under, Keeps, ToRun, unlessNew, Lowered};
+ghost use Rattle.links.specs.Inner.Given.{Given};
+ghost use Rattle.sets.specs.Inner.Sets.{firstIn, withIn, Outside};
+ghost use Rattle.search.specs.Inner.Lowest.{Idle, Shut, NoneTo, Under, Keeps, ToRun, unlessNew, LowestDone};
 ghost use Rattle.orders.specs.Answer.{answerOf, wordsOf};
 use links::LINK_WORDS;
 use machine::CURRENT;
@@ -227,7 +227,7 @@ fn unless_new(was: u32, is: u32, set: u64, other: u64) -> u64
 // processes that it names, and make no kept message ready, unless the least phase is new after it.
 fn carry_lowest(full: &[u32], links: &[u16], gates: &[u32], area: &mut [u32], most: usize) -> usize
     requires { ⌜ (length (now full) ≡ areaWords) × (128 ≤ length (now gates)) × (length (now area) ≡ areaWords) × Small (now links) × ((R : Run) × Started R (now full) (now links) (now gates) (now area)) ⌝ }
-    ensures { λ r. ⌜ ((R : Run) → Started R (now (full .entry)) (now (links .entry)) (now (gates .entry)) (now (area .entry)) → Lowered R (now (area .exit)) most r) ⌝ }
+    ensures { λ r. ⌜ ((R : Run) → Started R (now (full .entry)) (now (links .entry)) (now (gates .entry)) (now (area .entry)) → LowestDone R (now (area .exit)) most r) ⌝ }
 {
     let mut phases = [0u32; PROCESSES];
     let mut keeping = [EVERYONE; PROCESSES];
@@ -274,8 +274,8 @@ fn lowest_in(full: &[u32], links: &[u16], gates: &[u32], area: &mut [u32], most:
 // exactly 16,384 words. No order is longer than twice the number of events.
 pub fn lowest(full: &[u32], gates: &[u32], area: &mut [u32], cut: usize) -> Replayed
     requires { ⌜ (length (now area) ≡ areaWords) × (128 ≤ length (now gates)) × ((t : Trace) × (line : (ℕ → ℕ)) × Given t line cut (now full) (now gates)) ⌝ }
-    ensures answer { λ r. ⌜ ((t : Trace) (line : ℕ → ℕ) → Given t line cut (now (full .entry)) (now (gates .entry)) → r ≡ answerOf (recorded t past cut line) (run (recorded t past cut line) (lowestOrder (recorded t past cut line))) (length (lowestOrder (recorded t past cut line)))) ⌝ }
-    ensures words { λ _. ⌜ ((t : Trace) (line : ℕ → ℕ) → Given t line cut (now (full .entry)) (now (gates .entry)) → now (area .exit) ≡ wordsOf (recorded t past cut line) (run (recorded t past cut line) (lowestOrder (recorded t past cut line)))) ⌝ }
+    ensures answer { λ r. ⌜ ((t : Trace) (line : ℕ → ℕ) → Given t line cut (now (full .entry)) (now (gates .entry)) → r ≡ answerOf (runAt t cut line) (run (runAt t cut line) (lowestOrder (runAt t cut line))) (length (lowestOrder (runAt t cut line)))) ⌝ }
+    ensures words { λ _. ⌜ ((t : Trace) (line : ℕ → ℕ) → Given t line cut (now (full .entry)) (now (gates .entry)) → now (area .exit) ≡ wordsOf (runAt t cut line) (run (runAt t cut line) (lowestOrder (runAt t cut line)))) ⌝ }
 {
     let mut links = [0u16; LINK_WORDS];
     words::zero(area);

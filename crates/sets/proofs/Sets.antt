@@ -13,7 +13,7 @@ use borrow.Author.Tests.{eq-eqb, ne-eqb}
 use Rattle.words.proofs.Cases.{by-eq, clash}
 use Rattle.words.proofs.Zeros.{even-zeros, odd-zeros}
 use Rattle.theory.specs.Line.{inSet}
-use Rattle.sets.specs.Sets.{everyone, firstIn, restOf, withIn, Outside}
+use Rattle.sets.specs.Inner.Sets.{everyone, firstIn, restOf, withIn, Outside}
 
 -- bit z of m
 abbrev bit : ℕ → ℕ → ℕ

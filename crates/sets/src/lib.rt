@@ -2,7 +2,7 @@
 // without it, the set with one more. The definitions are in specs/Sets, laws on them in proofs/Sets. No public function
 // has a `requires`. Assumes nothing.
 ghost use mathlib.Core.Path.{_≡_};
-ghost use Rattle.sets.specs.Sets.{firstIn, restOf, withIn};
+ghost use Rattle.sets.specs.Inner.Sets.{firstIn, restOf, withIn};
 
 pub const EVERYONE: u64 = 18446744073709551615;
 

@@ -10,12 +10,13 @@ use Rattle.words.specs.Area.{areaWords, wordsFrom}
 use Rattle.trace.specs.Trace.{Trace}
 use Rattle.trace.specs.Fit.{wellFormed}
 use Rattle.trace.specs.Table.{tableWord}
-use Rattle.reader.specs.Failure.{failing, failureOf, failureArea}
+use Rattle.reader.specs.Failure.{failing, lastFailure, failureArea}
 use Rattle.reader.specs.Verdict.{accepted, verdict}
 use Rattle.reader.specs.Answer.{readArea}
 use Rattle.reader.specs.Render.{render}
 use Rattle.reader.proofs.Claims.{accepted-fit, fit-accepted, failing-fit}
-use Rattle.table.specs.Held.{held, holdsTrace, heldTrace}
+use Rattle.table.specs.Held.{held, holdsTrace}
+use Rattle.table.specs.Inner.Held.{heldTrace}
 use Rattle.table.proofs.Holding.{words-of, held-of, told, held-self, rule-area, ruled-held, read-ruled, failing-ruled, ruled-same, same-front, same-held, zero-not-held}
 
 -- An area holds a trace exactly if it has 16,384 words, the trace is well formed, and the first 16,384 words are those
@@ -29,7 +30,7 @@ pub read-held : (text a : List ℕ) (t : Trace) → verdict text ≡ accepted t 
 read-held text a t e l = rw (read-ruled text a t e l) (ruled-held a t (accepted-fit text t e) l)
 
 -- The same for a text that ends with a failure line.
-pub failing-held : (text a : List ℕ) (t : Trace) (step set : ℕ) → failureOf text ≡ failing t step set → areaWords ≤ length a
+pub failing-held : (text a : List ℕ) (t : Trace) (step set : ℕ) → lastFailure text ≡ failing t step set → areaWords ≤ length a
     → heldTrace (failureArea text a) ≡ some t
 failing-held text a t step set e l = rw (failing-ruled text a t step set e l) (ruled-held a t (failing-fit text t step set e) l)
 

@@ -15,10 +15,11 @@ use Rattle.words.proofs.Cases.{by-bool, and-left, and-right, and-both}
 use Rattle.trace.specs.Trace.{Trace}
 use Rattle.trace.specs.Fit.{wellFormed}
 use Rattle.trace.specs.Table.{tableWord}
-use Rattle.reader.specs.Failure.{failing, failureOf, failureArea}
+use Rattle.reader.specs.Failure.{failing, lastFailure, failureArea}
 use Rattle.reader.specs.Verdict.{accepted, verdict}
 use Rattle.reader.specs.Answer.{readArea}
-use Rattle.table.specs.Held.{heldEvents, held, holdsTrace, heldIf, heldTrace}
+use Rattle.table.specs.Held.{heldEvents, held, holdsTrace}
+use Rattle.table.specs.Inner.Held.{heldIf, heldTrace}
 use Rattle.table.proofs.Places.{word-procs, word-count, word-event, word-value, events-back}
 use Rattle.table.proofs.Testing.{words-each, each-words, holds-facts}
 
@@ -104,7 +105,7 @@ pub read-ruled : (text a : List ℕ) (t : Trace) → verdict text ≡ accepted t
 unfolding readArea
 read-ruled text a t e l = rw (le-ltb (length a) 16384 l, e)
 
-pub failing-ruled : (text a : List ℕ) (t : Trace) (step set : ℕ) → failureOf text ≡ failing t step set → 16384 ≤ length a
+pub failing-ruled : (text a : List ℕ) (t : Trace) (step set : ℕ) → lastFailure text ≡ failing t step set → 16384 ≤ length a
     → failureArea text a ≡ ruled (tableWord t) 16384 a
 unfolding failureArea
 failing-ruled text a t step set e l = rw (le-ltb (length a) 16384 l, e)

@@ -12,7 +12,7 @@ use Rattle.words.proofs.Cases.{and-left, and-right}
 use Rattle.trace.specs.declared.Event.{Event}
 use Rattle.trace.specs.declared.Event.the-variants.{Send, Recv, Save}
 use Rattle.trace.specs.Trace.{Trace}
-use Rattle.trace.specs.Fit.{faultOf, valueFits, allFit}
+use Rattle.trace.specs.Fit.{eventFault, valueFits, allFit}
 use Rattle.trace.specs.Table.{wordOf, valueWord, tableWord}
 use Rattle.trace.proofs.Faults.{send-fit, recv-fit, save-fit}
 use Rattle.table.specs.Held.{eventOf, heldEvent, heldEvents, held}
@@ -93,7 +93,7 @@ module _ (at peer kind w : ℕ) (la : at < 64) (lp : peer < 64) (e : w ≡ at % 
   word-kind = omega arith
 
 -- a fit event is the one that its words say
-event-back : (n : ℕ) (before : List Event) (e : Event) → n ≤ 64 → faultOf n before e ≡ 0 → valueFits e ≡ true → eventOf (wordOf e) (valueWord e) ≡ e
+event-back : (n : ℕ) (before : List Event) (e : Event) → n ≤ 64 → eventFault n before e ≡ 0 → valueFits e ≡ true → eventOf (wordOf e) (valueWord e) ≡ e
 event-back n before (Send at to val) r z v =
     let f = send-fit n before at to val z in
     let small : val ≤ 4294967295 = leb-true val 4294967295 v in
@@ -121,8 +121,8 @@ pub events-back : (n : ℕ) (before : List Event) (a : List ℕ) (i : ℕ) (es :
 unfolding heldEvents allFit
 events-back n before a i [] r f words values = refl
 events-back n before a i (e ∷ es) r f words values =
-    let fit = eqb-true (faultOf n before e) 0 (and-left _ _ f) in
-    let rest = and-right (eqb (faultOf n before e) 0) _ f in
+    let fit = eqb-true (eventFault n before e) 0 (and-left _ _ f) in
+    let rest = and-right (eqb (eventFault n before e) 0) _ f in
     let x : eventOf (getD a (16 + i) 0) (getD a (2065 + i) 0) ≡ e =
     rw (words 0 i (omega arith) (omega arith), values 0 i (omega arith) (omega arith)) (event-back n before e r fit (and-left (valueFits e) _ rest)) in
     let y : heldEvents a (suc i) (length es) ≡ es =

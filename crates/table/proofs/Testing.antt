@@ -10,10 +10,10 @@ use lib.ListN.{length, getD}
 use borrow.Author.Tests.{leb-true, le-leb, eqb-true, eq-eqb}
 use Rattle.words.proofs.Cases.{by-bool, by-eq, by-lt, clash, and-left, and-right, and-both}
 use Rattle.trace.specs.declared.Event.{Event}
-use Rattle.trace.specs.Fit.{faultOf, valueFits, allFit, wellFormed}
+use Rattle.trace.specs.Fit.{eventFault, valueFits, allFit, wellFormed}
 use Rattle.trace.specs.Table.{wordOf, valueWord, tableWord}
 use Rattle.table.specs.Held.{eventOf, heldEvent, heldEvents, held, wordsAre, holdsTrace}
-use Rattle.table.specs.Tested.{zerosFrom, fitFrom, wordsTested, tested}
+use Rattle.table.specs.Inner.Tested.{zerosFrom, fitFrom, wordsTested, tested}
 use Rattle.table.proofs.Places.{word-procs, word-count, word-head, length-held, said-event, said-value, said-gap, said-tail}
 
 -- the words of event number i are those of the event that they say
@@ -83,8 +83,8 @@ module _ (p : ℕ) (a : List ℕ) where
       let h₂ = and-right (eqb (wordOf e) (getD a (16 + i) 0)) _ h in
       let value = eqb-true (valueWord e) (getD a (2065 + i) 0) (and-left _ _ h₂) in
       let h₃ = and-right (eqb (valueWord e) (getD a (2065 + i) 0)) _ h₂ in
-      let rest = fits-each (before ++ e ∷ []) (suc i) n (and-right (eqb (faultOf p before e) 0) _ h₃) in (
-        and-both _ _ (and-left (eqb (faultOf p before e) 0) _ h₃) (and-both _ _ (value-fits (getD a (16 + i) 0) (getD a (2065 + i) 0) value) (rest .0)),
+      let rest = fits-each (before ++ e ∷ []) (suc i) n (and-right (eqb (eventFault p before e) 0) _ h₃) in (
+        and-both _ _ (and-left (eqb (eventFault p before e) 0) _ h₃) (and-both _ _ (value-fits (getD a (16 + i) 0) (getD a (2065 + i) 0) value) (rest .0)),
         λ k l m. by-eq k i (λ q. rw q (record { word = word; value = value })) (λ d. rest .1 k (omega arith) (omega arith)),
       )
 
@@ -95,8 +95,8 @@ module _ (p : ℕ) (a : List ℕ) where
   each-fits before i (suc n) h s =
       let e = heldEvent a i in
       let here = s i (omega arith) (omega arith) in
-      let rest = and-right (valueFits e) _ (and-right (eqb (faultOf p before e) 0) _ h) in
-      and-both _ _ (eq-eqb _ _ (here .word)) (and-both _ _ (eq-eqb _ _ (here .value)) (and-both _ _ (and-left (eqb (faultOf p before e) 0) _ h)
+      let rest = and-right (valueFits e) _ (and-right (eqb (eventFault p before e) 0) _ h) in
+      and-both _ _ (eq-eqb _ _ (here .word)) (and-both _ _ (eq-eqb _ _ (here .value)) (and-both _ _ (and-left (eqb (eventFault p before e) 0) _ h)
       (each-fits (before ++ e ∷ []) (suc i) n rest (λ k l m. s k (omega arith) (omega arith)))))
 
 -- ---- the code's tests

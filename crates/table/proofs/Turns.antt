@@ -12,12 +12,12 @@ use borrow.Author.Tests.{le-leb, lt-leb, eq-eqb, ne-eqb, eqb-true}
 use Rattle.words.proofs.Cases.{by-eq, and-right}
 use Rattle.trace.specs.declared.Event.{Event}
 use Rattle.trace.specs.declared.Event.the-variants.{Send, Recv, Save}
-use Rattle.trace.specs.Fit.{faultOf}
-use Rattle.trace.specs.Tally.{Tally, faultBy}
+use Rattle.trace.specs.Fit.{eventFault}
+use Rattle.trace.specs.Inner.Tally.{Tally, faultBy}
 use Rattle.trace.proofs.Faults.{fault-counted}
 use Rattle.trace.specs.Table.{wordOf, valueWord}
 use Rattle.table.specs.Held.{eventOf, heldEvent}
-use Rattle.table.specs.Tested.{zerosFrom, wordFits, fitFrom, wordsTested, tested}
+use Rattle.table.specs.Inner.Tested.{zerosFrom, wordFits, fitFrom, wordsTested, tested}
 
 -- each way out of `event`
 module _ (w v : ℕ) where
@@ -118,7 +118,7 @@ module _ (p : ℕ) (es : List Event) (a : List ℕ) (i n : ℕ) where
         let q : n + 1 - i ≡ suc (n - i) = omega arith in
         let r : n + 1 - (i + 1) ≡ n - i = omega arith in
         rw (q, r, add-one i, fault-counted p small counts es t (heldEvent a i))
-        (and-four (eqb (wordOf (heldEvent a i)) (getD a (16 + i) 0)) (eqb (valueWord (heldEvent a i)) (getD a (2065 + i) 0)) (eqb (faultOf p es (heldEvent a i)) 0)
+        (and-four (eqb (wordOf (heldEvent a i)) (getD a (16 + i) 0)) (eqb (valueWord (heldEvent a i)) (getD a (2065 + i) 0)) (eqb (eventFault p es (heldEvent a i)) 0)
         (fitFrom p (es ++ heldEvent a i ∷ []) a (suc i) (n - i)))
 
 -- each way out of `words_fit`, for p processes and n events: what each test said, and what it stands for

@@ -2,8 +2,7 @@
 -- some accepted trace leaves there"). proofs/Claims states that this is what `holdsTrace` refuses.
 use Prim.Native.Nat.{ℕ, zero, suc, _+_, _/_, _%_}
 use mathlib.Core.List.{List, [], _∷_}
-use mathlib.Core.Bool.{Bool, true, false, _&&_}
-use mathlib.Core.Option.{Option, none, some}
+use mathlib.Core.Bool.{Bool, true, _&&_, cond}
 use lib.ListN.{length, getD}
 use lib.Dec.{leb, eqb}
 use Rattle.words.specs.Area.{areaWords}
@@ -13,16 +12,12 @@ use Rattle.trace.specs.Trace.{Trace}
 use Rattle.trace.specs.Fit.{wellFormed}
 use Rattle.trace.specs.Table.{eventBase, valueBase, tableWord}
 
-abbrev pub pickEvent : Bool → Event → Event → Event
-pickEvent true a b = a
-pickEvent false a b = b
-
 -- The event that a word and a value say: the word's kind is 1 for a send, 2 for a receive; every other word is read as
 -- a save's. A word that is no event's is told by its not being the word of the event read from it.
 unfoldable pub eventOf : ℕ → ℕ → Event
 eventOf w v =
-    pickEvent (eqb (w / 4096) 1) (Send (w % 64) (w / 64 % 64) v)
-    (pickEvent (eqb (w / 4096) 2) (Recv (w % 64) (w / 64 % 64))
+    cond (eqb (w / 4096) 1) (Send (w % 64) (w / 64 % 64) v)
+    (cond (eqb (w / 4096) 2) (Recv (w % 64) (w / 64 % 64))
     (Save (w % 64)))
 
 -- event number i of an area
@@ -47,11 +42,3 @@ wordsAre f (suc n) a = wordsAre f n a && eqb (getD a n 0) (f n)
 -- trace
 unfoldable pub holdsTrace : List ℕ → Bool
 holdsTrace a = leb areaWords (length a) && (wellFormed (held a) && wordsAre (tableWord (held a)) areaWords a)
-
-abbrev pub heldIf : Bool → Trace → Option Trace
-heldIf true t = some t
-heldIf false t = none
-
--- the trace that an area holds
-unfoldable pub heldTrace : List ℕ → Option Trace
-heldTrace a = heldIf (holdsTrace a) (held a)

@@ -1,2 +1,3 @@
 pub mod Held
-pub mod Tested
+-- internal: no contract of a function that users call reaches these
+pub mod Inner

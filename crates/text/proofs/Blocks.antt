@@ -10,7 +10,7 @@ use lib.Seq.{drop-cons, drop-drop, getD-drop}
 use borrow.Author.Tests.{eq-eqb, ne-eqb}
 use Rattle.words.proofs.Cases.{by-eq}
 use Rattle.text.specs.Key.{startsWith}
-use Rattle.text.specs.Blocks.{packed, byteOf}
+use Rattle.text.specs.Inner.Blocks.{packed, byteOf}
 
 -- the words of a list are bytes
 abbrev pub Bytes : List ℕ → Type 0

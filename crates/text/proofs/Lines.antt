@@ -11,7 +11,7 @@ use borrow.Author.Tests.{eq-eqb, ne-eqb}
 use Rattle.words.proofs.Cases.{by-lt, by-eq}
 use Rattle.text.specs.declared.LineEnd.{LineEnd}
 use Rattle.text.specs.declared.LineEnd.the-variants.{At, Missing}
-use Rattle.text.specs.Line.{lfFrom, lineEnd, Ends}
+use Rattle.text.specs.Inner.Line.{lfFrom, lineEnd, Ends}
 
 module _ (text : List ℕ) (at : ℕ) where
   pub lf-none : length text ≤ at → lfFrom at (drop at text) ≡ Missing

@@ -15,8 +15,8 @@ use borrow.Author.Tests.{eq-eqb, ne-eqb, eqb-true, ltb-true}
 use Rattle.words.proofs.Cases.{by-eq, and-left, and-right}
 use Rattle.words.proofs.Zeros.{even-zeros, odd-zeros}
 use Rattle.text.specs.declared.LineEnd.the-variants.{At}
-use Rattle.text.specs.Line.{lineEnd}
-use Rattle.text.specs.Blocks.{packed, byteOf, AnyLf, FirstLf, marks}
+use Rattle.text.specs.Inner.Line.{lineEnd}
+use Rattle.text.specs.Inner.Blocks.{packed, byteOf, AnyLf, FirstLf, marks}
 use Rattle.text.proofs.Lines.{lf-here, lf-past}
 use Rattle.text.proofs.Blocks.{Bytes, bytes-from, byte-first, byte-next, byte-packed}
 

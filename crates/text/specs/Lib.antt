@@ -1,4 +1,4 @@
-pub mod Line
 pub mod Number
 pub mod Key
-pub mod Blocks
+-- internal: no contract of a function that users call reaches these
+pub mod Inner

@@ -1,7 +1,7 @@
 -- Decimal numbers (document 01: "Numbers are plain decimal without leading zeros (0 itself is "0")").
 use Prim.Native.Nat.{ℕ, suc, zero, _+_, _-_, _*_, _/_, _%_}
 use mathlib.Core.List.{List, [], _∷_, _++_}
-use mathlib.Core.Bool.{Bool, true, false, _&&_}
+use mathlib.Core.Bool.{Bool, true, false, _&&_, cond}
 use lib.ListN.{getD, drop}
 use lib.Dec.{ltb, leb, eqb}
 use Rattle.text.specs.declared.Num.{Num}
@@ -12,13 +12,9 @@ use Rattle.text.specs.declared.Pushed.the-variants.{Fits, Over}
 unfoldable pub isDigit : ℕ → Bool
 isDigit b = leb 48 b && leb b 57
 
-abbrev pub pickPushed : Bool → Pushed → Pushed → Pushed
-pickPushed true a b = a
-pickPushed false a b = b
-
 -- v with the digit b at its end, if that is at most the bound
 unfoldable pub pushed : ℕ → ℕ → ℕ → Pushed
-pushed v b bound = pickPushed (leb (v * 10 + (b - 48)) bound) (Fits (v * 10 + (b - 48))) Over
+pushed v b bound = cond (leb (v * 10 + (b - 48)) bound) (Fits (v * 10 + (b - 48))) Over
 
 -- one byte: no digit, a digit whose number fits, a digit too many
 abbrev pub digitStep : Bool → Pushed → Num → (ℕ → Num) → Num
@@ -43,14 +39,10 @@ unfoldable pub numberAt : List ℕ → ℕ → ℕ → Num
 numberAt text at bound =
     numberStep (isDigit (getD text at 256)) (eqb (getD text at 256) 48) (isDigit (getD text (at + 1) 256)) at (digitsFrom bound 0 at (drop at text))
 
-abbrev pub pickBytes : Bool → List ℕ → List ℕ → List ℕ
-pickBytes true a b = a
-pickBytes false a b = b
-
 -- the last `room` digits of a number in decimal, without leading zeros
 unfoldable pub lastDigits : ℕ → ℕ → List ℕ
 lastDigits zero v = []
-lastDigits (suc room) v = pickBytes (ltb v 10) ((48 + v) ∷ []) (lastDigits room (v / 10) ++ (48 + v % 10) ∷ [])
+lastDigits (suc room) v = cond (ltb v 10) ((48 + v) ∷ []) (lastDigits room (v / 10) ++ (48 + v % 10) ∷ [])
 
 -- a number in decimal: 20 digits hold every number of 64 bits
 abbrev pub decimal : ℕ → List ℕ

@@ -5,8 +5,8 @@ ghost use mathlib.Core.Path.{_≡_};
 ghost use mathlib.Core.Logic.{_↔_};
 ghost use Prim.Native.Nat.{_+_, _-_, _≤_, _<_};
 ghost use lib.ListN.{length, drop, getD};
-ghost use Rattle.text.specs.Line.{lineEnd};
-ghost use Rattle.text.specs.Blocks.{packed, marks, AnyLf, FirstLf};
+ghost use Rattle.text.specs.Inner.Line.{lineEnd};
+ghost use Rattle.text.specs.Inner.Blocks.{packed, marks, AnyLf, FirstLf};
 ghost use Rattle.text.specs.Number.{isDigit, pushed, digitsFrom, numberAt};
 ghost use Rattle.text.specs.Key.{startsWith, keyAt};
 

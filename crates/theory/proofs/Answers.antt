@@ -10,16 +10,20 @@ use native.Mathlib.Omega.{arith}
 use lib.ListN.{length, length-append}
 use lib.Dec.{leb, eqb}
 use borrow.Author.Tests.{eqb-true, le-leb}
-use Rattle.theory.specs.Lists.{iv, keep, has, no-one, all-below, sum}
+use Rattle.theory.specs.Lists.{iv, keep, no-one, all-below, sum}
+use Rattle.theory.specs.Inner.Lists.{has}
 use Rattle.theory.specs.Events.{send, size, at, kind, sends, sent, rcvd, sendOf}
 use Rattle.theory.specs.Line.{Run, lost, orphan, kept, orphanPhase, LossFree}
-use Rattle.theory.specs.Replay.{State, sentAgain, resends, ready, delivered, faultless, takenBy, SameRecord}
-use Rattle.theory.specs.Answers.{Listed, gather, samePairs, names, messages, orphans, keptOnes, lostOnes, lossFree, sameRecord}
-use Rattle.theory.specs.Laws.{Laws}
+use Rattle.theory.specs.Replay.{State, resends, ready, takenBy}
+use Rattle.theory.specs.Inner.Record.{sentAgain, delivered, faultless, SameRecord}
+use Rattle.theory.specs.Answers.{Listed, gather, messages, orphans, keptOnes, lostOnes}
+use Rattle.theory.specs.Inner.Tests.{samePairs, names, lossFree, sameRecord}
+use Rattle.theory.specs.Inner.Laws.{Laws}
 use Rattle.theory.proofs.Base.{by, on, clash, le?, both, or-right, same-bool, eqb-self, has-keep-is, has-iv, no-one-at, no-one-all, find-has, all-true, all-at}
 use Rattle.theory.proofs.Events.{sends-is, sends-of, send-of, sendOf-at}
 use Rattle.theory.proofs.Classes.{in-run, lost-within, orphan-within, kept-within}
-use Rattle.theory.proofs.Flow.{flow, Cursors, todo-at, resends-of, Inv}
+use Rattle.theory.proofs.Flow.{todo-at, resends-of}
+use Rattle.theory.specs.Inner.Flow.{flow, Cursors, Inv}
 use Rattle.theory.proofs.Loss.{taken-iv}
 use Rattle.theory.proofs.Counters.{flow-keep}
 

@@ -9,8 +9,10 @@ use native.Mathlib.Omega.{arith}
 use lib.ListN.{length}
 use lib.Dec.{leb, ltb, eqb}
 use borrow.Author.Tests.{leb-true, leb-false, ltb-true, eqb-true, eqb-false, lt-ltb, le-ltb, le-leb, eq-eqb, ne-eqb}
+use Rattle.theory.specs.Lists.{iv, keep, cnt, place, lastOf, no-one, all-below, sum, or-else, first}
+use Rattle.theory.specs.Inner.Lists.{has}
+use Rattle.theory.specs.Inner.Flow.{Each}
 pub use Rattle.words.proofs.Cases.{by-bool as by, clash}
-use Rattle.theory.specs.Lists.{iv, keep, cnt, place, lastOf, has, no-one, all-below, sum, or-else, first}
 
 -- ---- Cases
 
@@ -178,11 +180,6 @@ keep-head f x (suc d) e es h = by (f (suc x)) (λ t. let h₁ : suc x ∷ keep f
     (omega arith, omega arith, rw e₁ t, rw (e₁, e₃) e₂)) (λ t. let ih = keep-head f (suc x) d e es (rw t at h) in
     let k : suc x + d ≡ x + suc d = omega arith in
     (omega (arith, ih .0), omega (arith, ih .1), ih .2, rw k at (ih .3)))
-
--- every element has a property
-abbrev pub Each : (ℕ → Type 0) → List ℕ → Type 0
-Each P [] = Unit {0}
-Each P (x ∷ xs) = P x × Each P xs
 
 pub each-map : (P Q : ℕ → Type 0) → ((x : ℕ) → P x → Q x) → (l : List ℕ) → Each P l → Each Q l
 each-map P Q h [] t = tt

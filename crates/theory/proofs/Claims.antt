@@ -16,18 +16,23 @@ use Rattle.trace.specs.Trace.{Trace}
 use Rattle.trace.specs.Fit.{wellFormed}
 use Rattle.theory.specs.Lists.{cnt, lastOf}
 use Rattle.theory.specs.Events.{size, sends, recvs, checkpoints, sent, rcvd}
-use Rattle.theory.specs.Epochs.{Rule, past, joined, epochAt, phaseAt, epochOf, phaseOf, loggedBy}
-use Rattle.theory.specs.Line.{inSet, Run, undone, lost, orphan, kept, orphanPhase, LossFree, restartIn, recorded, current, reached, Usable, Permitted, Greatest, Above, lower, highest, greatestLine}
-use Rattle.theory.specs.Replay.{State, sentAgain, ready, delivered, faultless, SameRecord}
-use Rattle.theory.specs.Order.{carriedOut, refused, choose, Allowed, run, steps, mostSteps, Complete, complete, lowest, lowestOrder}
-use Rattle.theory.specs.Answers.{names, orphans, keptOnes, lostOnes, exactSteps, lossFree, sameRecord}
-use Rattle.theory.specs.Refusals.{failureFault, lineFault, FitFailure, FitLine}
-use Rattle.theory.specs.Laws.{Laws}
+use Rattle.theory.specs.Epochs.{Rule, joined, epochAt, phaseAt, epochOf, phaseOf, loggedBy, ruleOf}
+use Rattle.theory.specs.Line.{inSet, Run, undone, lost, orphan, kept, orphanPhase, LossFree, restartIn, recorded, current, reached, Permitted, Greatest, lower, highest, greatestLine, usableAt, runAt}
+use Rattle.theory.specs.Inner.Lines.{Usable, Above}
+use Rattle.theory.specs.Replay.{State, ready}
+use Rattle.theory.specs.Inner.Record.{sentAgain, delivered, faultless, SameRecord}
+use Rattle.theory.specs.Order.{carriedOut, refused, choose, run, steps, mostSteps, Complete, complete, lowest, lowestOrder}
+use Rattle.theory.specs.Inner.Orders.{Allowed}
+use Rattle.theory.specs.Inner.Tests.{names, lossFree, sameRecord}
+use Rattle.theory.specs.Answers.{orphans, keptOnes, lostOnes, exactSteps}
+use Rattle.theory.specs.Refusals.{failureFault, lineFault}
+use Rattle.theory.specs.Inner.Refusals.{FitFailure, FitLine}
+use Rattle.theory.specs.Inner.Laws.{Laws}
 use Rattle.theory.proofs.Base.{on, by, le?}
 use Rattle.theory.proofs.Events.{partner, sent-lt}
 use Rattle.theory.proofs.WellFormed.{Valid, valid}
 use Rattle.theory.proofs.Classes.{undone-counts, lost-counts, orphan-counts, kept-counts}
-use Rattle.theory.proofs.Flow.{Inv}
+use Rattle.theory.specs.Inner.Flow.{Inv}
 use Rattle.theory.proofs.Loss.{inv}
 use Rattle.theory.proofs.Epochs.{epoch-is, epochOf-at, phaseOf-send, logged-is, phase-recv, laws}
 use Rattle.theory.proofs.Lines.{now-is, now-few, usable-reached, stays-at, restart-epoch, restart-mono, number-of, lower-less}
@@ -43,9 +48,9 @@ use Rattle.theory.proofs.Refusals.{failure-fit, failure-8, failure-9, l
 -- only when no choice is allowed. The delivery record the replay leaves equals that of the run without failure exactly
 -- when the line loses no message." An order is a list of choice numbers.
 pub demand-3 : (t : Trace) → wellFormed t ≡ true → (cut : ℕ) → cut ≤ size t → (failed : ℕ → Bool) (line : ℕ → ℕ)
-    → Permitted t past cut (reached t past cut) failed line → (order : List ℕ) (s : State) → run (recorded t past cut line) order ≡ carriedOut s
-    → Complete (recorded t past cut line) s → SameRecord (recorded t past cut line) s ↔ LossFree (recorded t past cut line)
-demand-3 t w cut cl failed line b order s h c = order-iff (recorded t past cut line) (laws t past (valid t w) cut line cl) order s h c
+    → Permitted t (ruleOf t) cut (usableAt t cut) failed line → (order : List ℕ) (s : State) → run (runAt t cut line) order ≡ carriedOut s
+    → Complete (runAt t cut line) s → SameRecord (runAt t cut line) s ↔ LossFree (runAt t cut line)
+demand-3 t w cut cl failed line b order s h c = order-iff (runAt t cut line) (laws t (ruleOf t) (valid t w) cut line cl) order s h c
 
 module _ (t : Trace) (w : wellFormed t ≡ true) (rule : Rule) where
   abbrev A : Valid t
@@ -266,20 +271,20 @@ module _ (t : Trace) (w : wellFormed t ≡ true) (rule : Rule) where
 module _ (t : Trace) (w : wellFormed t ≡ true) (cut : ℕ) (cl : cut ≤ size t) (failed : ℕ → Bool) where
   -- in general: below an epoch f that each process can restart in, or that lies above the current epoch of one that did
   -- not fail
-  pub floor : (usable : ℕ → ℕ → Bool) → Usable t past cut usable → (f : ℕ) → f ≤ 32
-      → ((z : ℕ) → z < t .procs → (usable z f ≡ true) ⊎ ((failed z ≡ false) × (current t past cut z < f)))
-      → (l : ℕ → ℕ) → Greatest t past cut usable failed l → (z : ℕ) → z < t .procs → f ≤ l z
+  pub floor : (usable : ℕ → ℕ → Bool) → Usable t (ruleOf t) cut usable → (f : ℕ) → f ≤ 32
+      → ((z : ℕ) → z < t .procs → (usable z f ≡ true) ⊎ ((failed z ≡ false) × (current t (ruleOf t) cut z < f)))
+      → (l : ℕ → ℕ) → Greatest t (ruleOf t) cut usable failed l → (z : ℕ) → z < t .procs → f ≤ l z
   floor usable U = floor-below t (valid t w) cut cl usable U failed
 
   -- y is a failed process of the smallest current epoch
-  pub floor-failed : (y : ℕ) → y < t .procs → failed y ≡ true → ((z : ℕ) → z < t .procs → failed z ≡ true → current t past cut y ≤ current t past cut z)
-      → (l : ℕ → ℕ) → Greatest t past cut (reached t past cut) failed l → (z : ℕ) → z < t .procs → current t past cut y ≤ l z
+  pub floor-failed : (y : ℕ) → y < t .procs → failed y ≡ true → ((z : ℕ) → z < t .procs → failed z ≡ true → current t (ruleOf t) cut y ≤ current t (ruleOf t) cut z)
+      → (l : ℕ → ℕ) → Greatest t (ruleOf t) cut (usableAt t cut) failed l → (z : ℕ) → z < t .procs → current t (ruleOf t) cut y ≤ l z
   floor-failed y a b c =
       let A = valid t w in
-      let n : 1 ≤ current t past cut y = omega (arith, now-is t past A cut cl y) in
-      floor (reached t past cut) (usable-reached t past A cut cl) (current t past cut y) (omega (arith, now-few t past A cut cl y))
-      (λ z h. on (le? (current t past cut y) (current t past cut z))
-      (λ u. let i : leb 1 (current t past cut y) ≡ true = le-leb _ _ n in let j : leb (current t past cut y) (current t past cut z) ≡ true = le-leb _ _ u in inl (rw (i, j)))
+      let n : 1 ≤ current t (ruleOf t) cut y = omega (arith, now-is t (ruleOf t) A cut cl y) in
+      floor (usableAt t cut) (usable-reached t (ruleOf t) A cut cl) (current t (ruleOf t) cut y) (omega (arith, now-few t (ruleOf t) A cut cl y))
+      (λ z h. on (le? (current t (ruleOf t) cut y) (current t (ruleOf t) cut z))
+      (λ u. let i : leb 1 (current t (ruleOf t) cut y) ≡ true = le-leb _ _ n in let j : leb (current t (ruleOf t) cut y) (current t (ruleOf t) cut z) ≡ true = le-leb _ _ u in inl (rw (i, j)))
       (λ u. inr (by (failed z) (λ v. absurd (omega (arith, c z h v))) (λ v. v), u)))
 
 -- ---- Numbers, "Who names the failure and the replay". "Order: .. for the rest 8, 9, 10, 11."
@@ -306,7 +311,7 @@ module _ (t : Trace) (step set : ℕ) where
     number-9-next = line-9 t step set count line
 
     pub number-10 : (lineFault t step set count line ≡ 10)
-        ↔ (FitFailure t step set × (((count ≡ t .procs) × Permitted t past step (reached t past step) (inSet set) line) → ⊥))
+        ↔ (FitFailure t step set × (((count ≡ t .procs) × Permitted t (ruleOf t) step (usableAt t step) (inSet set) line) → ⊥))
     number-10 = line-10 t step set count line
 
     pub line-taken : (lineFault t step set count line ≡ 0) ↔ FitLine t step set count line
@@ -314,8 +319,8 @@ module _ (t : Trace) (step set : ℕ) where
 
     -- demand 3, "for every failure and line that isn't refused"
     pub demand-3-taken : wellFormed t ≡ true → lineFault t step set count line ≡ 0 → (order : List ℕ) (s : State)
-        → run (recorded t past step line) order ≡ carriedOut s → Complete (recorded t past step line) s
-        → SameRecord (recorded t past step line) s ↔ LossFree (recorded t past step line)
+        → run (runAt t step line) order ≡ carriedOut s → Complete (runAt t step line) s
+        → SameRecord (runAt t step line) s ↔ LossFree (runAt t step line)
     demand-3-taken w e =
         let f = (line-taken .0) e in
         demand-3 t w step (f .failure .step-most) (inSet set) line (f .permitted)

@@ -11,11 +11,11 @@ use Rattle.theory.specs.Lists.{iv, keep}
 use Rattle.theory.specs.Events.{size, sent}
 use Rattle.theory.specs.Line.{Run}
 use Rattle.theory.specs.Replay.{State, start}
-use Rattle.theory.specs.Laws.{Laws}
+use Rattle.theory.specs.Inner.Laws.{Laws}
 use Rattle.theory.proofs.Base.{by, on, le?, iv-split, keep-append, keep-iv-cong, keep-iv-all, keep-iv-none, keep-above}
 use Rattle.theory.proofs.Events.{sent-le, rcvd-le}
-use Rattle.theory.proofs.Classes.{rBefore, sBefore, keptb, restart-n, kept-list}
-use Rattle.theory.proofs.Flow.{ahead, flow, Inv}
+use Rattle.theory.proofs.Classes.{restart-n, kept-list}
+use Rattle.theory.specs.Inner.Flow.{rBefore, sBefore, keptb, ahead, flow, Inv}
 use Rattle.theory.proofs.Loss.{taken-iv, ahead-listed}
 
 -- the parts of what a test keeps of an interval are what it keeps of the interval's parts

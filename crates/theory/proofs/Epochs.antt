@@ -2,7 +2,7 @@
 -- `laws`. From the definitions of specs/Epochs and what a well-formed trace has (Events).
 use mathlib.Core.Path.{_≡_, refl, sym, _∙_, ap}
 use mathlib.Core.Logic.{_≢_}
-use mathlib.Core.Bool.{Bool, true, false, _&&_}
+use mathlib.Core.Bool.{Bool, true, false, _&&_, cond}
 use Prim.Native.Nat.{ℕ, zero, suc, _+_, _-_, _≤_, _<_}
 use native.Mathlib.Omega.{arith}
 use lib.Dec.{eqb}
@@ -10,11 +10,11 @@ use borrow.Author.Tests.{eqb-true}
 use Rattle.trace.specs.declared.Event.{Event}
 use Rattle.trace.specs.declared.Event.the-variants.{Send, Recv, Save}
 use Rattle.trace.specs.Trace.{Trace, isSend, isRecv, isSave}
-use Rattle.theory.specs.Lists.{pick, cnt, put}
+use Rattle.theory.specs.Lists.{cnt, put}
 use Rattle.theory.specs.Events.{size, eventAt, sends, recvs, checkpoints, sent, rcvd, recvOf}
 use Rattle.theory.specs.Epochs.{Rule, Carried, Notes, joined, note, notes, epochAt, phaseAt, epochOf, phaseOf, loggedBy}
 use Rattle.theory.specs.Line.{restartIn, recorded}
-use Rattle.theory.specs.Laws.{Laws}
+use Rattle.theory.specs.Inner.Laws.{Laws}
 use Rattle.theory.proofs.Base.{by, clash, both, eqb-self, cnt-suc, cnt-skip, place-le, place-is}
 use Rattle.theory.proofs.Events.{send-not-recv, send-no-checkpoint, sent-le, recvOf-at}
 use Rattle.theory.proofs.WellFormed.{Valid}
@@ -72,7 +72,7 @@ module _ (t : Trace) (rule : Rule) where
       put-le (n .phases) a (joined l (n .phases a) (m .phase)) (joined-own l (n .phases a) (m .phase)) z
   note-phase n e (Save a) z = put-le (n .phases) a (suc (n .phases a)) (omega arith) z
 
-  note-epoch : (n : Notes) (e : ℕ) (v : Event) (z : ℕ) → (note t rule n e v) .epochs z ≡ pick (isSave z v) (suc (n .epochs z)) (n .epochs z)
+  note-epoch : (n : Notes) (e : ℕ) (v : Event) (z : ℕ) → (note t rule n e v) .epochs z ≡ cond (isSave z v) (suc (n .epochs z)) (n .epochs z)
   unfolding note
   note-epoch n e (Send a b v) z = refl
   note-epoch n e (Recv a b) z = refl

@@ -12,19 +12,9 @@ use Rattle.trace.specs.declared.Event.the-variants.{Send, Recv, Save}
 use Rattle.trace.specs.Trace.{Trace, isSend, isRecv, isSave}
 use Rattle.theory.specs.Events.{Kind, send, recv, other, kindOf, processOf, size, eventAt, at, kind, sends, recvs, checkpoints, sent, rcvd, sendOf, recvOf}
 use Rattle.theory.proofs.Base.{by, clash, both, eqb-self, cnt-le, cnt-lt, cnt-find, place-at}
+use Rattle.theory.specs.Inner.Flow.{sendTo, recvFrom}
 
 -- ---- The kinds of events
-
--- is it a send to q; is it a receive from p
-abbrev pub sendTo : ℕ → Kind → Bool
-sendTo q (send r) = eqb q r
-sendTo q (recv r) = false
-sendTo q other = false
-
-abbrev pub recvFrom : ℕ → Kind → Bool
-recvFrom p (send r) = false
-recvFrom p (recv r) = eqb p r
-recvFrom p other = false
 
 send-split : (p q : ℕ) (e : Event) → isSend p q e ≡ (eqb p (processOf e) && sendTo q (kindOf e))
 send-split p q (Send a b v) = refl

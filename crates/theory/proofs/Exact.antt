@@ -13,7 +13,7 @@ use Rattle.theory.specs.Line.{Run, kept, LossFree}
 use Rattle.theory.specs.Replay.{State, hand, listed, keptOn, start, ready, step, handStep, handing}
 use Rattle.theory.specs.Order.{carriedOut, run, steps, Complete}
 use Rattle.theory.specs.Answers.{messages, keptOnes, exactSteps}
-use Rattle.theory.specs.Laws.{Laws}
+use Rattle.theory.specs.Inner.Laws.{Laws}
 use Rattle.theory.proofs.Base.{sum-cong, sum-zero, all-true}
 use Rattle.theory.proofs.Loss.{inv}
 use Rattle.theory.proofs.Steps.{work}

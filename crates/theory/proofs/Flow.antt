@@ -3,7 +3,7 @@
 -- definitions of specs/Replay.
 use mathlib.Core.Path.{_≡_, refl, sym, _∙_, ap, subst}
 use mathlib.Core.Logic.{inl, inr}
-use mathlib.Core.Bool.{Bool, true, false, _&&_}
+use mathlib.Core.Bool.{Bool, true, false, _&&_, cond}
 use mathlib.Core.List.{List, [], _∷_, _++_, map, append-assoc}
 use mathlib.Core.Option.{some, Option·some-injective, Option·none-ne-some}
 use Prim.Native.Nat.{ℕ, suc, _+_, _-_, _≤_, _<_}
@@ -11,13 +11,13 @@ use native.Mathlib.Omega.{arith}
 use lib.ListN.{length, length-append}
 use lib.Dec.{leb, ltb, eqb}
 use borrow.Author.Tests.{leb-true, leb-false, eqb-true, lt-ltb, le-ltb, eq-eqb}
-use Rattle.theory.specs.Lists.{pick, iv, keep, has, put}
+use Rattle.theory.specs.Lists.{iv, keep, put}
+use Rattle.theory.specs.Inner.Lists.{has}
 use Rattle.theory.specs.Events.{Kind, send, recv, other, size, at, kind, sent, rcvd}
 use Rattle.theory.specs.Line.{Run, orphan, orphanPhase}
 use Rattle.theory.specs.Replay.{Choice, process, hand, State, listed, resends, ready, gate, start, moved, sending, taking, handing, sendStep, recvStep, eventStep, processStep, handStep, step}
-use Rattle.theory.proofs.Base.{by, on, clash, le?, both, same2, eqb-self, Each, keep-head, has-keep-is, has-iv-not}
-use Rattle.theory.proofs.Events.{sendTo, recvFrom}
-use Rattle.theory.proofs.Classes.{rBefore, Kept}
+use Rattle.theory.proofs.Base.{by, on, clash, le?, both, same2, eqb-self, keep-head, has-keep-is, has-iv-not}
+use Rattle.theory.specs.Inner.Flow.{Each, sendTo, recvFrom, rBefore, Kept, ahead, flow, toTake, receipts, Cursors, Inv}
 
 module _ (R : Run) where
   -- an allowed choice, taken apart
@@ -64,20 +64,12 @@ module _ (R : Run) where
   view s t (process z) d = view-process s t z (s .todo z) (ready R s (gate R z)) refl d
   view s t (hand p q) d = view-hand s t p q (s .left p q) refl d
 
-  -- the messages that a process has still to send on a channel and that will not be dropped
-  unfoldable pub ahead : ℕ → ℕ → List ℕ → List ℕ
-  ahead p q l = keep (λ k. ltb (rBefore R p q) k) (map (sent (R .trace) p q) (keep (λ e. sendTo q (kind (R .trace) e)) l))
-
-  -- all that has gone or will go through a channel, in order
-  abbrev pub flow : State → ℕ → ℕ → List ℕ
-  flow s p q = s .got p q ++ (s .chan p q ++ (s .left p q ++ ahead p q (s .todo p)))
-
-  pub ahead-skip : (p q e : ℕ) (es : List ℕ) → sendTo q (kind (R .trace) e) ≡ false → ahead p q (e ∷ es) ≡ ahead p q es
+  pub ahead-skip : (p q e : ℕ) (es : List ℕ) → sendTo q (kind (R .trace) e) ≡ false → ahead R p q (e ∷ es) ≡ ahead R p q es
   unfolding ahead keep
   ahead-skip p q e es h = rw h
 
   pub ahead-send : (p q e : ℕ) (es : List ℕ) → sendTo q (kind (R .trace) e) ≡ true
-      → ahead p q (e ∷ es) ≡ pick (leb (sent (R .trace) p q e) (rBefore R p q)) (ahead p q es) (sent (R .trace) p q e ∷ ahead p q es)
+      → ahead R p q (e ∷ es) ≡ cond (leb (sent (R .trace) p q e) (rBefore R p q)) (ahead R p q es) (sent (R .trace) p q e ∷ ahead R p q es)
   unfolding ahead keep
   ahead-send p q e es h = by (leb (sent (R .trace) p q e) (rBefore R p q))
       (λ t. let u : ltb (rBefore R p q) (sent (R .trace) p q e) ≡ false = le-ltb (rBefore R p q) (sent (R .trace) p q e) (leb-true (sent (R .trace) p q e) (rBefore R p q) t) in rw (h, t, u))
@@ -85,7 +77,7 @@ module _ (R : Run) where
 
   -- an event that is no send to q leaves what is ahead on (p, q) as it was
   pub ahead-put : (s : State) (z e : ℕ) (es : List ℕ) → s .todo z ≡ e ∷ es → (p q : ℕ) → (p ≡ z → sendTo q (kind (R .trace) e) ≡ false)
-      → ahead p q (put (s .todo) z es p) ≡ ahead p q (s .todo p)
+      → ahead R p q (put (s .todo) z es p) ≡ ahead R p q (s .todo p)
   ahead-put s z e es h p q k = by (eqb p z)
       (λ t. let i : p ≡ z = eqb-true p z t in
       let j : s .todo p ≡ e ∷ es = cc in
@@ -93,19 +85,19 @@ module _ (R : Run) where
       (λ t. rw t)
 
   send-flow : (s : State) (z r e : ℕ) (es : List ℕ) → s .todo z ≡ e ∷ es → kind (R .trace) e ≡ send r → s .left z r ≡ []
-      → flow (sending R s z r e es) z r ≡ flow s z r
+      → flow R (sending R s z r e es) z r ≡ flow R s z r
   send-flow s z r e es h k l =
       let d : sendTo r (kind (R .trace) e) ≡ true = rw k (eqb-self r) in
       rw (eqb-self z, eqb-self r, h, l, ahead-send z r e es d) (by (leb (sent (R .trace) z r e) (rBefore R z r))
       (λ t. rw t)
       (λ t. rw t (ap (λ x. s .got z r ++ x) (append-assoc (s .chan z r) (sent (R .trace) z r e ∷ []) _))))
 
-  pub same-flow : (s t : State) (c : Choice) → Did s c t → (p q : ℕ) → flow t p q ≡ flow s p q
+  pub same-flow : (s t : State) (c : Choice) → Did s c t → (p q : ℕ) → flow R t p q ≡ flow R s p q
   same-flow s t c (did-other {z = z} {e = e} {es = es} h k) p q = rw (ahead-put s z e es h p q (λ i. rw k))
   same-flow s t c (did-send {z = z} {e = e} {q = r} {es = es} h k l) p q = by (eqb p z && eqb q r)
       (λ b. let i = same2 p z q r b in
-      subst (λ x. flow (sending R s z r e es) x q ≡ flow s x q) (sym (i .0))
-      (subst (λ y. flow (sending R s z r e es) z y ≡ flow s z y) (sym (i .1)) (send-flow s z r e es h k l)))
+      subst (λ x. flow R (sending R s z r e es) x q ≡ flow R s x q) (sym (i .0))
+      (subst (λ y. flow R (sending R s z r e es) z y ≡ flow R s z y) (sym (i .1)) (send-flow s z r e es h k l)))
       (λ b. rw (b, ahead-put s z e es h p q (λ i. rw k (rw (eq-eqb p z i) at b))))
   same-flow s t c (did-recv {z = z} {e = e} {p = r} {m = m} {es = es} {ms = ms} h k l) p q =
       rw (ahead-put s z e es h p q (λ i. rw k)) (by (eqb p r && eqb q z)
@@ -131,49 +123,35 @@ module _ (R : Run) where
       rw (t, j) (sym (k i)))
       (λ t. rw t)
 
-  -- the receives that a process has still to do on a channel
-  unfoldable pub toTake : ℕ → List ℕ → ℕ
-  toTake p l = length (keep (λ e. recvFrom p (kind (R .trace) e)) l)
-
-  pub toTake-skip : (p e : ℕ) (es : List ℕ) → recvFrom p (kind (R .trace) e) ≡ false → toTake p (e ∷ es) ≡ toTake p es
+  pub toTake-skip : (p e : ℕ) (es : List ℕ) → recvFrom p (kind (R .trace) e) ≡ false → toTake R p (e ∷ es) ≡ toTake R p es
   unfolding toTake keep
   toTake-skip p e es h = rw h
 
-  pub toTake-recv : (p e : ℕ) (es : List ℕ) → recvFrom p (kind (R .trace) e) ≡ true → toTake p (e ∷ es) ≡ suc (toTake p es)
+  pub toTake-recv : (p e : ℕ) (es : List ℕ) → recvFrom p (kind (R .trace) e) ≡ true → toTake R p (e ∷ es) ≡ suc (toTake R p es)
   unfolding toTake keep
   toTake-recv p e es h = rw h
 
-  abbrev pub receipts : State → ℕ → ℕ → ℕ
-  receipts s p q = length (s .got p q) + toTake p (s .todo q)
-
   recv-receipts : (s : State) (z r e m : ℕ) (es ms : List ℕ) → s .todo z ≡ e ∷ es → kind (R .trace) e ≡ recv r
-      → receipts (taking R s z r es m ms) r z ≡ receipts s r z
+      → receipts R (taking R s z r es m ms) r z ≡ receipts R s r z
   recv-receipts s z r e m es ms h k =
       let d : recvFrom r (kind (R .trace) e) ≡ true = rw k (eqb-self r) in
       rw (eqb-self z, eqb-self r, h, toTake-recv r e es d, length-append (s .got r z) (m ∷ [])) (omega arith)
 
-  pub same-receipts : (s t : State) (c : Choice) → Did s c t → (p q : ℕ) → receipts t p q ≡ receipts s p q
+  pub same-receipts : (s t : State) (c : Choice) → Did s c t → (p q : ℕ) → receipts R t p q ≡ receipts R s p q
   same-receipts s t c (did-other {z = z} {e = e} {es = es} h k) p q =
-      rw (put-same (toTake p) (s .todo) z e es h q (λ i. toTake-skip p e es (rw k)))
+      rw (put-same (toTake R p) (s .todo) z e es h q (λ i. toTake-skip p e es (rw k)))
   same-receipts s t c (did-send {z = z} {e = e} {q = r} {es = es} h k l) p q =
-      rw (put-same (toTake p) (s .todo) z e es h q (λ i. toTake-skip p e es (rw k)))
+      rw (put-same (toTake R p) (s .todo) z e es h q (λ i. toTake-skip p e es (rw k)))
   same-receipts s t c (did-recv {z = z} {e = e} {p = r} {m = m} {es = es} {ms = ms} h k l) p q = by (eqb p r && eqb q z)
       (λ b. let i = same2 p r q z b in
-      subst (λ x. receipts (taking R s z r es m ms) x q ≡ receipts s x q) (sym (i .0))
-      (subst (λ y. receipts (taking R s z r es m ms) r y ≡ receipts s r y) (sym (i .1)) (recv-receipts s z r e m es ms h k)))
+      subst (λ x. receipts R (taking R s z r es m ms) x q ≡ receipts R s x q) (sym (i .0))
+      (subst (λ y. receipts R (taking R s z r es m ms) r y ≡ receipts R s r y) (sym (i .1)) (recv-receipts s z r e m es ms h k)))
       (λ b. rw (
         b,
-        put-same (toTake p) (s .todo) z e es h q
+        put-same (toTake R p) (s .todo) z e es h q
             (λ i. toTake-skip p e es (rw k (by (eqb p r) (λ u. clash (eq-eqb q z i) (rw u at b)) (λ u. u)))),
       ))
   same-receipts s t c (did-hand {p = a} {q = r} {m = m} {ms = ms} h) p q = refl
-
-  -- how far each process has come: it has to do its events after event `upTo z`
-  pub record Cursors (s : State) : Type 0 where
-    pub upTo : ℕ → ℕ
-    pub from : (z : ℕ) → R .restart z ≤ upTo z
-    pub within : (z : ℕ) → upTo z ≤ size (R .trace)
-    pub todo-is : (z : ℕ) → s .todo z ≡ listed R z (upTo z)
 
   pub listed-head : (z x e : ℕ) (es : List ℕ) → x ≤ size (R .trace) → listed R z x ≡ e ∷ es
       → (x < e) × (e ≤ size (R .trace)) × (at (R .trace) e ≡ z) × (es ≡ listed R z e)
@@ -184,13 +162,13 @@ module _ (R : Run) where
       (r .0, omega (arith, r .1), sym (eqb-true z (at (R .trace) e) (r .2)), rw j at (r .3))
 
   -- the next listed event of a process
-  pub at-head : (s : State) → Cursors s → (z e : ℕ) (es : List ℕ) → s .todo z ≡ e ∷ es
+  pub at-head : (s : State) → Cursors R s → (z e : ℕ) (es : List ℕ) → s .todo z ≡ e ∷ es
       → (R .restart z < e) × (e ≤ size (R .trace)) × (at (R .trace) e ≡ z) × (es ≡ listed R z e)
   at-head s c z e es h =
       let r = listed-head z (c .upTo z) e es (c .within z) (sym (c .todo-is z) ∙ h) in
       (omega (arith, r .0, c .from z), r .1, r .2, r .3)
 
-  next-cursors : (s t : State) (z e : ℕ) (es : List ℕ) → s .todo z ≡ e ∷ es → t .todo ≡ put (s .todo) z es → Cursors s → Cursors t
+  next-cursors : (s t : State) (z e : ℕ) (es : List ℕ) → s .todo z ≡ e ∷ es → t .todo ≡ put (s .todo) z es → Cursors R s → Cursors R t
   next-cursors s t z e es h j c =
       let r = at-head s c z e es h in
       record {
@@ -200,7 +178,7 @@ module _ (R : Run) where
         todo-is = λ y. ap (λ f. f y) j ∙ by (eqb y z) (λ b. let i : y ≡ z = eqb-true y z b in rw (b, i) (r .3)) (λ b. rw b (c .todo-is y));
       }
 
-  same-cursors : (s t : State) (c : Choice) → Did s c t → Cursors s → Cursors t
+  same-cursors : (s t : State) (c : Choice) → Did s c t → Cursors R s → Cursors R t
   same-cursors s t c (did-other {z = z} {e = e} {es = es} h k) i = next-cursors s t z e es h refl i
   same-cursors s t c (did-send {z = z} {e = e} {q = r} {es = es} h k l) i = next-cursors s t z e es h refl i
   same-cursors s t c (did-recv {z = z} {e = e} {p = r} {m = m} {es = es} {ms = ms} h k l) i = next-cursors s t z e es h refl i
@@ -208,7 +186,7 @@ module _ (R : Run) where
       record { upTo = i .upTo; from = i .from; within = i .within; todo-is = i .todo-is }
 
   -- an event that a process has still to do
-  pub todo-at : (s : State) (c : Cursors s) (z e : ℕ) → has e (s .todo z) ≡ true → (c .upTo z < e) × (e ≤ size (R .trace)) × (at (R .trace) e ≡ z)
+  pub todo-at : (s : State) (c : Cursors R s) (z e : ℕ) → has e (s .todo z) ≡ true → (c .upTo z < e) × (e ≤ size (R .trace)) × (at (R .trace) e ≡ z)
   unfolding listed
   todo-at s c z e h =
       let x = c .upTo z in
@@ -242,13 +220,7 @@ module _ (R : Run) where
       rw b ((rw u at (f p q)) .1))
       (λ b. rw b (f p q))
 
-  pub record Inv (s : State) : Type 0 where
-    pub flows : (p q : ℕ) → flow s p q ≡ flow (start R) p q
-    pub taken : (p q : ℕ) → receipts s p q ≡ rcvd (R .trace) p q (size (R .trace))
-    pub cursors : Cursors s
-    pub lefts : (p q : ℕ) → Each (Kept R p q) (s .left p q)
-
-  pub inv-step : (s t : State) (c : Choice) → step R s c ≡ some t → Inv s → Inv t
+  pub inv-step : (s t : State) (c : Choice) → step R s c ≡ some t → Inv R s → Inv R t
   inv-step s t c h i = let d = view s t c h in record {
     flows = λ p q. same-flow s t c d p q ∙ i .flows p q;
     taken = λ p q. same-receipts s t c d p q ∙ i .taken p q;

@@ -2,17 +2,18 @@
 -- any rule (the floor: `past`). From the step of lowering (Lines).
 use mathlib.Core.Path.{_≡_, refl, sym, subst}
 use mathlib.Core.Logic.{_⊎_}
-use mathlib.Core.Bool.{Bool, true, false}
+use mathlib.Core.Bool.{Bool, true, false, cond}
 use mathlib.Core.Option.{Option, none, some, Option·some-injective, Option·none-ne-some}
 use Prim.Native.Nat.{ℕ, zero, suc, _*_, _≤_, _<_}
 use native.Mathlib.Omega.{arith}
 use lib.Dec.{eqb}
 use borrow.Author.Tests.{eqb-true, ne-eqb}
 use Rattle.trace.specs.Trace.{Trace}
-use Rattle.theory.specs.Lists.{pick, ifSome, first, sum}
+use Rattle.theory.specs.Lists.{ifSome, first, sum}
 use Rattle.theory.specs.Events.{size}
-use Rattle.theory.specs.Epochs.{Rule, past, epochAt}
-use Rattle.theory.specs.Line.{lost, LossFree, recorded, current, Usable, Permitted, Greatest, Above, highest, lower, lowerIf, lowered, lowering, greatestLine}
+use Rattle.theory.specs.Epochs.{Rule, epochAt, ruleOf}
+use Rattle.theory.specs.Line.{lost, LossFree, recorded, current, Permitted, Greatest, highest, lower, lowerIf, lowered, lowering, greatestLine, runAt}
+use Rattle.theory.specs.Inner.Lines.{Usable, Above}
 use Rattle.theory.proofs.Base.{by, on, clash, eqb-self, lastOf-top, first-none, first-some, sum-lt}
 use Rattle.theory.proofs.WellFormed.{Valid}
 use Rattle.theory.proofs.Lines.{may-is, may-restart, may-stay, now-is, now-few, number-of, lost-epochs, epoch-le, lost-in, lower-usable, lower-less, lower-over, past-unlogged}
@@ -52,11 +53,11 @@ module _ (t : Trace) (rule : Rule) (A : Valid t) (cut : ℕ) (cl : cut ≤ size 
         (λ x n. let u : eqb x p ≡ false = ne-eqb x p n in rw u)
         (rw (eqb-self p) (lower-less t rule A cut cl usable U failed m (a .permitted) p q k h))
 
-  pick-none : (b : Bool) (f : ℕ → ℕ) → pick b (some f) none ≡ none → b ≡ false
+  pick-none : (b : Bool) (f : ℕ → ℕ) → cond b (some f) none ≡ none → b ≡ false
   pick-none true f h = absurd (Option·none-ne-some f (sym h))
   pick-none false f h = refl
 
-  pick-some : (b : Bool) (f g : ℕ → ℕ) → pick b (some f) none ≡ some g → (b ≡ true) × (f ≡ g)
+  pick-some : (b : Bool) (f g : ℕ → ℕ) → cond b (some f) none ≡ some g → (b ≡ true) × (f ≡ g)
   pick-some true f g h = (refl, Option·some-injective f g h)
   pick-some false f g h = absurd (Option·none-ne-some g h)
 
@@ -109,14 +110,14 @@ module _ (t : Trace) (rule : Rule) (A : Valid t) (cut : ℕ) (cl : cut ≤ size 
 
 -- ---- The floor, for document 01's rule
 
-module _ (t : Trace) (A : Valid t) (cut : ℕ) (cl : cut ≤ size t) (usable : ℕ → ℕ → Bool) (U : Usable t past cut usable) (failed : ℕ → Bool) where
+module _ (t : Trace) (A : Valid t) (cut : ℕ) (cl : cut ≤ size t) (usable : ℕ → ℕ → Bool) (U : Usable t (ruleOf t) cut usable) (failed : ℕ → Bool) where
   module _ (f : ℕ) (small : f ≤ 32)
-      (at-f : (z : ℕ) → z < t .procs → (usable z f ≡ true) ⊎ ((failed z ≡ false) × (current t past cut z < f))) where
+      (at-f : (z : ℕ) → z < t .procs → (usable z f ≡ true) ⊎ ((failed z ≡ false) × (current t (ruleOf t) cut z < f))) where
     -- each process that can at f, the others stay
     floorLine : ℕ → ℕ
-    floorLine z = pick (usable z f) f 32
+    floorLine z = cond (usable z f) f 32
 
-    floor-permitted : Permitted t past cut usable failed floorLine
+    floor-permitted : Permitted t (ruleOf t) cut usable failed floorLine
     unfolding floorLine
     floor-permitted z h = by (usable z f)
         (λ u. may-restart usable failed z _ (rw (u, u)))
@@ -130,21 +131,21 @@ module _ (t : Trace) (A : Valid t) (cut : ℕ) (cl : cut ≤ size t) (usable : �
     unfolding floorLine
     floor-out z h = rw h
 
-    floor-keeps : (p q k : ℕ) → lost (recorded t past cut floorLine) p q k ≡ true → ⊥
+    floor-keeps : (p q k : ℕ) → lost (runAt t cut floorLine) p q k ≡ true → ⊥
     floor-keeps p q k h =
-        let i = lost-in t past A cut cl floorLine p q k h in
-        let n = number-of t past A cut cl usable U failed floorLine floor-permitted in
-        let x = lost-epochs t past A cut cl floorLine p q k (n p (i .0)) (n q (i .1)) h in
-        let hp : epochAt t past p (x .d) < f = by (usable p f)
+        let i = lost-in t (ruleOf t) A cut cl floorLine p q k h in
+        let n = number-of t (ruleOf t) A cut cl usable U failed floorLine floor-permitted in
+        let x = lost-epochs t (ruleOf t) A cut cl floorLine p q k (n p (i .0)) (n q (i .1)) h in
+        let hp : epochAt t (ruleOf t) p (x .d) < f = by (usable p f)
         (λ u. omega (arith, x .below, floor-in p u))
-        (λ u. on (at-f p (i .0)) (λ v. clash v u) (λ v. omega (arith, v .1, epoch-le t past A cut cl p (x .d) (x .d-cut)))) in
-        let hq : f ≤ epochAt t past q (x .e) = by (usable q f)
+        (λ u. on (at-f p (i .0)) (λ v. clash v u) (λ v. omega (arith, v .1, epoch-le t (ruleOf t) A cut cl p (x .d) (x .d-cut)))) in
+        let hq : f ≤ epochAt t (ruleOf t) q (x .e) = by (usable q f)
         (λ u. omega (arith, x .above, floor-in q u))
-        (λ u. absurd (omega (arith, x .above, floor-out q u, epoch-le t past A cut cl q (x .e) (x .e-cut), now-few t past A cut cl q))) in
+        (λ u. absurd (omega (arith, x .above, floor-out q u, epoch-le t (ruleOf t) A cut cl q (x .e) (x .e-cut), now-few t (ruleOf t) A cut cl q))) in
         omega (arith, past-unlogged t A cut cl floorLine p q k x)
 
     -- so in the greatest line no process restarts below f
-    pub floor-below : (l : ℕ → ℕ) → Greatest t past cut usable failed l → (z : ℕ) → z < t .procs → f ≤ l z
+    pub floor-below : (l : ℕ → ℕ) → Greatest t (ruleOf t) cut usable failed l → (z : ℕ) → z < t .procs → f ≤ l z
     floor-below l g z h =
-        let o = g .top floorLine floor-permitted (λ p q k. by (lost (recorded t past cut floorLine) p q k) (λ u. absurd (floor-keeps p q k u)) (λ u. u)) z h in
+        let o = g .top floorLine floor-permitted (λ p q k. by (lost (runAt t cut floorLine) p q k) (λ u. absurd (floor-keeps p q k u)) (λ u. u)) z h in
         by (usable z f) (λ u. omega (arith, floor-in z u)) (λ u. omega (arith, floor-out z u))

@@ -10,9 +10,10 @@ use borrow.Author.Tests.{leb-true, ltb-false, eqb-true, le-leb, eq-eqb, ne-eqb}
 use Rattle.trace.specs.Trace.{Trace}
 use Rattle.theory.specs.Lists.{cnt, place, lastOf}
 use Rattle.theory.specs.Events.{size, sends, recvs, checkpoints, sent, rcvd}
-use Rattle.theory.specs.Epochs.{Rule, past, epochAt, epochOf, loggedBy}
-use Rattle.theory.specs.Line.{may, sentBefore, received, receivedBefore, undone, lost, LossFree, restartIn, recorded, current, reached, Usable, Permitted}
-use Rattle.theory.specs.Laws.{Laws}
+use Rattle.theory.specs.Epochs.{Rule, epochAt, epochOf, loggedBy, ruleOf}
+use Rattle.theory.specs.Line.{may, sentBefore, received, receivedBefore, undone, lost, LossFree, restartIn, recorded, current, reached, Permitted}
+use Rattle.theory.specs.Inner.Lines.{Usable}
+use Rattle.theory.specs.Inner.Laws.{Laws}
 use Rattle.theory.proofs.Base.{by, on, clash, le?, both, cnt-le, cnt-lt, cnt-bound, place-zero, place-cnt, place-mono, lastOf-le, lastOf-top}
 use Rattle.theory.proofs.Events.{sends-is, send-no-checkpoint, recv-no-checkpoint, sent-le, rcvd-le, rcvd-lt, send-of, recv-of}
 use Rattle.theory.proofs.WellFormed.{Valid}
@@ -242,9 +243,9 @@ module _ (t : Trace) (rule : Rule) (A : Valid t) (cut : ℕ) (cl : cut ≤ size 
           }
 
 -- under document 01's rule a message that is not logged is received in no later epoch than it is sent in
-pub past-unlogged : (t : Trace) (A : Valid t) (cut : ℕ) (cl : cut ≤ size t) (l : ℕ → ℕ) (p q k : ℕ) (x : ByEpochs t past cut l p q k)
-    → epochAt t past q (x .e) ≤ epochAt t past p (x .d)
+pub past-unlogged : (t : Trace) (A : Valid t) (cut : ℕ) (cl : cut ≤ size t) (l : ℕ → ℕ) (p q k : ℕ) (x : ByEpochs t (ruleOf t) cut l p q k)
+    → epochAt t (ruleOf t) q (x .e) ≤ epochAt t (ruleOf t) p (x .d)
 past-unlogged t A cut cl l p q k x =
     let n : (y : ℕ) → y ≤ cut → y ≤ size t = λ y h. omega arith in
-    let u = logged-is t past p q (x .d) (x .e) (x .d-send) (x .e-recv) (x .d-pos) (x .e-pos) (n (x .d) (x .d-cut)) (n (x .e) (x .e-cut)) (x .d-is ∙ sym (x .e-is)) in
-    ltb-false (epochAt t past p (x .d)) (epochAt t past q (x .e)) (sym u ∙ rw (x .d-is) (x .unlogged))
+    let u = logged-is t (ruleOf t) p q (x .d) (x .e) (x .d-send) (x .e-recv) (x .d-pos) (x .e-pos) (n (x .d) (x .d-cut)) (n (x .e) (x .e-cut)) (x .d-is ∙ sym (x .e-is)) in
+    ltb-false (epochAt t (ruleOf t) p (x .d)) (epochAt t (ruleOf t) q (x .e)) (sym u ∙ rw (x .d-is) (x .unlogged))

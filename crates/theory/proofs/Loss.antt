@@ -10,15 +10,18 @@ use native.Mathlib.Omega.{arith}
 use lib.ListN.{length}
 use lib.Dec.{ltb, eqb}
 use borrow.Author.Tests.{ltb-true, ltb-false, lt-ltb, le-ltb}
-use Rattle.theory.specs.Lists.{iv, keep, cnt, has}
+use Rattle.theory.specs.Lists.{iv, keep, cnt}
+use Rattle.theory.specs.Inner.Lists.{has}
 use Rattle.theory.specs.Events.{size, at, kind, sends, recvs, sent, rcvd}
 use Rattle.theory.specs.Line.{Run}
-use Rattle.theory.specs.Replay.{State, listed, takenBy, start, entry, delivered, faultless, SameRecord}
-use Rattle.theory.specs.Laws.{Laws}
+use Rattle.theory.specs.Replay.{State, listed, takenBy, start}
+use Rattle.theory.specs.Inner.Record.{entry, delivered, faultless, SameRecord}
+use Rattle.theory.specs.Inner.Laws.{Laws}
 use Rattle.theory.proofs.Base.{by, clash, false-or, iv-append, keep-append, keep-iv-cong, keep-above, each-map, each-keep-iv, keep-keep, cnt-iv, map-cnt, length-iv, has-append, has-keep, has-keep-not, has-iv, has-iv-not}
-use Rattle.theory.proofs.Events.{sendTo, recvFrom, sends-split, recvs-split, sent-le, rcvd-le}
-use Rattle.theory.proofs.Classes.{rBefore, rCut, sBefore, Lost, NoLoss, keptb, Kept, restart-n, kept-list}
-use Rattle.theory.proofs.Flow.{ahead, flow, toTake, Inv, inv-step, Reach, here, next}
+use Rattle.theory.proofs.Events.{sends-split, recvs-split, sent-le, rcvd-le}
+use Rattle.theory.specs.Inner.Flow.{sendTo, recvFrom, rBefore, rCut, sBefore, keptb, Kept, ahead, flow, toTake, Inv}
+use Rattle.theory.proofs.Classes.{Lost, NoLoss, restart-n, kept-list}
+use Rattle.theory.proofs.Flow.{inv-step, Reach, here, next}
 
 module _ (R : Run) where
   pub taken-iv : (p q x : ℕ) → takenBy R p q x ≡ iv 0 (rcvd (R .trace) p q x)

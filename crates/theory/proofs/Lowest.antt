@@ -11,9 +11,10 @@ use Rattle.theory.specs.Events.{size}
 use Rattle.theory.specs.Line.{Run}
 use Rattle.theory.specs.Replay.{Choice, process, hand, State, start, step}
 use Rattle.theory.specs.Order.{choiceOf, carriedOut, choose, carry, run, Complete, named, lowest, lowestFrom, lowestOrder}
-use Rattle.theory.specs.Laws.{Laws}
+use Rattle.theory.specs.Inner.Laws.{Laws}
 use Rattle.theory.proofs.Base.{on, le?, or-none, or-some, first-none, first-some}
-use Rattle.theory.proofs.Flow.{view, Inv, inv-step}
+use Rattle.theory.proofs.Flow.{view, inv-step}
+use Rattle.theory.specs.Inner.Flow.{Inv}
 use Rattle.theory.proofs.Loss.{inv-start}
 use Rattle.theory.proofs.Orders.{numberOf, choice-is, choose-is, InRange, in-range}
 use Rattle.theory.proofs.Steps.{work, step-work, work-bound}

@@ -15,12 +15,15 @@ use borrow.Author.Tests.{lt-ltb, le-ltb, ltb-false}
 use Rattle.theory.specs.Lists.{keep, ifSome}
 use Rattle.theory.specs.Events.{size, sent, rcvd}
 use Rattle.theory.specs.Line.{Run, lost, LossFree}
-use Rattle.theory.specs.Replay.{Choice, process, hand, State, takenBy, start, step, entry, delivered, faultless, SameRecord}
-use Rattle.theory.specs.Order.{choiceOf, carriedOut, refused, isNone, choose, Allowed, carry, run, steps, Complete, complete, mostSteps}
-use Rattle.theory.specs.Laws.{Laws}
+use Rattle.theory.specs.Replay.{Choice, process, hand, State, takenBy, start, step}
+use Rattle.theory.specs.Inner.Record.{entry, delivered, faultless, SameRecord}
+use Rattle.theory.specs.Order.{choiceOf, carriedOut, refused, isNone, choose, carry, run, steps, Complete, complete, mostSteps}
+use Rattle.theory.specs.Inner.Orders.{Allowed}
+use Rattle.theory.specs.Inner.Laws.{Laws}
 use Rattle.theory.proofs.Base.{by, on, clash, le?, iv-prefix, all-true, all-at}
 use Rattle.theory.proofs.Classes.{NoLoss, no-loss, loss-free, lost-is}
-use Rattle.theory.proofs.Flow.{Did, did-other, did-send, did-recv, did-hand, view, toTake, Inv, Reach, here, next}
+use Rattle.theory.proofs.Flow.{Did, did-other, did-send, did-recv, did-hand, view, Reach, here, next}
+use Rattle.theory.specs.Inner.Flow.{toTake, Inv}
 use Rattle.theory.proofs.Loss.{taken-iv, inv, flow-all, same-no-loss, same-no-loss-at}
 use Rattle.theory.proofs.Progress.{CanStep}
 use Rattle.theory.proofs.Ready.{progress, all-done}

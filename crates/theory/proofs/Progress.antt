@@ -16,11 +16,12 @@ use Rattle.theory.specs.Lists.{iv}
 use Rattle.theory.specs.Events.{Kind, send, recv, other, size, at, kind, sends, recvs, sent, rcvd}
 use Rattle.theory.specs.Line.{Run}
 use Rattle.theory.specs.Replay.{Choice, process, hand, State, listed, ready, gate, moved, sending, taking, handing, step}
-use Rattle.theory.specs.Laws.{Laws}
+use Rattle.theory.specs.Inner.Laws.{Laws}
 use Rattle.theory.proofs.Base.{by, on, le?, eqb-self, iv-at, keep-length, keep-some, Begins, length-iv}
-use Rattle.theory.proofs.Events.{recvFrom, sends-is, recvs-of, sent-le, partner}
-use Rattle.theory.proofs.Classes.{rBefore, NoLoss, Kept}
-use Rattle.theory.proofs.Flow.{ahead, flow, toTake, toTake-recv, at-head, Inv}
+use Rattle.theory.proofs.Events.{sends-is, recvs-of, sent-le, partner}
+use Rattle.theory.specs.Inner.Flow.{recvFrom, rBefore, Kept, ahead, flow, toTake, Inv}
+use Rattle.theory.proofs.Classes.{NoLoss}
+use Rattle.theory.proofs.Flow.{toTake-recv, at-head}
 use Rattle.theory.proofs.Loss.{toTake-listed, ahead-listed, flow-all}
 
 module _ (R : Run) where

@@ -16,11 +16,12 @@ use Rattle.theory.specs.Lists.{no-one}
 use Rattle.theory.specs.Events.{size, at, kind, sends, recvs, checkpoints, sent, rcvd, sendOf}
 use Rattle.theory.specs.Line.{Run, sentAfter, receivedBefore, orphan, orphanPhase}
 use Rattle.theory.specs.Replay.{Choice, State, resends, ready, gate, step}
-use Rattle.theory.specs.Laws.{Laws}
+use Rattle.theory.specs.Inner.Laws.{Laws}
 use Rattle.theory.proofs.Base.{by, on, both, find-has, find-below}
 use Rattle.theory.proofs.Events.{sends-is, recvs-is, sends-of, send-not-checkpoint, rcvd-le, rcvd-lt, send-of, sendOf-at}
-use Rattle.theory.proofs.Classes.{rBefore, rCut, NoLoss, keptb, Kept}
-use Rattle.theory.proofs.Flow.{todo-at, resends-of, Inv}
+use Rattle.theory.proofs.Classes.{NoLoss}
+use Rattle.theory.specs.Inner.Flow.{rBefore, rCut, keptb, Kept, Inv}
+use Rattle.theory.proofs.Flow.{todo-at, resends-of}
 use Rattle.theory.proofs.Progress.{CanStep, Pass, Go, go, go-head}
 
 module _ (R : Run) where

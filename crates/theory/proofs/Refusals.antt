@@ -1,7 +1,7 @@
 -- What the numbers 8, 9 and 10 say, each exactly, and that 0 says that failure and line are fit.
 use mathlib.Core.Path.{_≡_, refl, sym, _∙_}
 use mathlib.Core.Logic.{_⊎_, inl, inr, _↔_}
-use mathlib.Core.Bool.{Bool, true, false, _&&_, _||_, not}
+use mathlib.Core.Bool.{Bool, true, false, _&&_, _||_, not, cond}
 use mathlib.Core.List.{[]}
 use Prim.Native.Nat.{ℕ, zero, suc, _+_, _-_, _*_, _/_, _%_, _^_, _≤_, _<_}
 use native.Mathlib.Omega.{arith}
@@ -11,11 +11,11 @@ use lib.Pow.{pow-pos, pow-mono, pow-lt, split, high}
 use lib.Count.{leading-top}
 use borrow.Author.Tests.{leb-true, leb-false, ltb-true, ltb-false, eqb-true, eqb-false, lt-ltb, le-ltb, le-leb, lt-leb, eq-eqb, ne-eqb}
 use Rattle.trace.specs.Trace.{Trace}
-use Rattle.trace.specs.Fit.{orElse}
 use Rattle.theory.specs.Events.{size}
-use Rattle.theory.specs.Epochs.{Rule, past}
-use Rattle.theory.specs.Line.{inSet, reached, Permitted}
-use Rattle.theory.specs.Refusals.{failureOr, failureFault, permits, lineFault, FitFailure, FitLine}
+use Rattle.theory.specs.Epochs.{Rule, ruleOf}
+use Rattle.theory.specs.Line.{inSet, Permitted, usableAt}
+use Rattle.theory.specs.Refusals.{failureOr, failureFault, permits, lineFault}
+use Rattle.theory.specs.Inner.Refusals.{FitFailure, FitLine}
 use Rattle.theory.proofs.Base.{by, on, clash, le?, both, or-right, all-true, all-at}
 
 -- ---- Sets of processes
@@ -79,7 +79,7 @@ neither true b e = clash {b = true} refl e
 neither false b e = (refl, e)
 
 -- a number that is not the first test's is the rest's
-or-next : (b : Bool) (k rest n : ℕ) → (n ≡ k → ⊥) → orElse b k rest ≡ n → (b ≡ false) × (rest ≡ n)
+or-next : (b : Bool) (k rest n : ℕ) → (n ≡ k → ⊥) → cond b k rest ≡ n → (b ≡ false) × (rest ≡ n)
 or-next true k rest n h e = absurd (h (sym e))
 or-next false k rest n h e = (refl, e)
 
@@ -96,7 +96,7 @@ module _ (t : Trace) (step set : ℕ) where
   -- and a number that is neither 8 nor 9 is the rest's
   failure-else : (rest n : ℕ) → (n ≡ 8 → ⊥) → (n ≡ 9 → ⊥) → failureOr t step set rest ≡ n → FitFailure t step set × (rest ≡ n)
   failure-else rest m n8 n9 e =
-      let x = or-next (ltb (size t) step) 8 (orElse (eqb set 0 || leb (2 ^ (t .procs)) set) 9 rest) m n8 e in
+      let x = or-next (ltb (size t) step) 8 (cond (eqb set 0 || leb (2 ^ (t .procs)) set) 9 rest) m n8 e in
       let y = or-next (eqb set 0 || leb (2 ^ (t .procs)) set) 9 rest m n9 (x .1) in
       let s = neither (eqb set 0) (leb (2 ^ (t .procs)) set) (y .0) in
       let n : set ≡ 0 → ⊥ = eqb-false set 0 (s .0) in (
@@ -155,44 +155,44 @@ permits-iff t rule cut usable failed line = (all-at (t .procs) _, all-true (t .p
 
 module _ (t : Trace) (step set count : ℕ) (line : ℕ → ℕ) where
   abbrev fits : Bool
-  fits = eqb count (t .procs) && permits t (reached t past step) (inSet set) line
+  fits = eqb count (t .procs) && permits t (usableAt t step) (inSet set) line
 
-  fits-iff : (fits ≡ true) ↔ ((count ≡ t .procs) × Permitted t past step (reached t past step) (inSet set) line)
+  fits-iff : (fits ≡ true) ↔ ((count ≡ t .procs) × Permitted t (ruleOf t) step (usableAt t step) (inSet set) line)
   fits-iff =
-      let p = permits-iff t past step (reached t past step) (inSet set) line in (
+      let p = permits-iff t (ruleOf t) step (usableAt t step) (inSet set) line in (
         λ e. let b = both (eqb count (t .procs)) _ e in (eqb-true _ _ (b .0), (p .0) (b .1)),
         λ r. let a : eqb count (t .procs) ≡ true = eq-eqb _ _ (r .0) in rw a ((p .1) (r .1)),
       )
 
-  rest-not : (n : ℕ) → (n ≡ 0 → ⊥) → (n ≡ 10 → ⊥) → orElse (not fits) 10 0 ≡ n → ⊥
+  rest-not : (n : ℕ) → (n ≡ 0 → ⊥) → (n ≡ 10 → ⊥) → cond (not fits) 10 0 ≡ n → ⊥
   rest-not n a b e = by fits (λ f. a (sym (rw f at e))) (λ f. b (sym (rw f at e)))
 
   pub line-fit : (lineFault t step set count line ≡ 0) ↔ FitLine t step set count line
   unfolding lineFault
   line-fit = (
-    λ e. let r = failure-else t step set (orElse (not fits) 10 0) 0 (λ z. omega arith) (λ z. omega arith) e in
+    λ e. let r = failure-else t step set (cond (not fits) 10 0) 0 (λ z. omega arith) (λ z. omega arith) e in
         by fits
         (λ f. let x = (fits-iff .0) f in record { failure = r .0; count-is = x .0; permitted = x .1 })
         (λ f. absurd (let z : 10 ≡ 0 = rw f at (r .1) in omega arith)),
     λ r. let f : fits ≡ true = (fits-iff .1) (r .count-is, r .permitted) in
-        failure-rest t step set (orElse (not fits) 10 0) (r .failure) ∙ rw f refl,
+        failure-rest t step set (cond (not fits) 10 0) (r .failure) ∙ rw f refl,
   )
 
   pub line-8 : (lineFault t step set count line ≡ 8) ↔ (size t < step)
   unfolding lineFault
-  line-8 = or-8 t step set (orElse (not fits) 10 0) (rest-not 8 (λ e. omega arith) (λ e. omega arith))
+  line-8 = or-8 t step set (cond (not fits) 10 0) (rest-not 8 (λ e. omega arith) (λ e. omega arith))
 
   pub line-9 : (lineFault t step set count line ≡ 9) ↔ ((step ≤ size t) × ((set ≡ 0) ⊎ ((z : ℕ) × (t .procs ≤ z) × (inSet set z ≡ true))))
   unfolding lineFault
-  line-9 = or-9 t step set (orElse (not fits) 10 0) (rest-not 9 (λ e. omega arith) (λ e. omega arith))
+  line-9 = or-9 t step set (cond (not fits) 10 0) (rest-not 9 (λ e. omega arith) (λ e. omega arith))
 
   pub line-10 : (lineFault t step set count line ≡ 10)
-      ↔ (FitFailure t step set × (((count ≡ t .procs) × Permitted t past step (reached t past step) (inSet set) line) → ⊥))
+      ↔ (FitFailure t step set × (((count ≡ t .procs) × Permitted t (ruleOf t) step (usableAt t step) (inSet set) line) → ⊥))
   unfolding lineFault
   line-10 = (
-    λ e. let r = failure-else t step set (orElse (not fits) 10 0) 10 (λ z. omega arith) (λ z. omega arith) e in
+    λ e. let r = failure-else t step set (cond (not fits) 10 0) 10 (λ z. omega arith) (λ z. omega arith) e in
         (r .0, λ q. let f : fits ≡ true = (fits-iff .1) q in absurd (let z : 0 ≡ 10 = rw f at (r .1) in omega arith)),
-    λ r. failure-rest t step set (orElse (not fits) 10 0) (r .0) ∙ by fits (λ f. absurd (r .1 ((fits-iff .0) f))) (λ f. rw f refl),
+    λ r. failure-rest t step set (cond (not fits) 10 0) (r .0) ∙ by fits (λ f. absurd (r .1 ((fits-iff .0) f))) (λ f. rw f refl),
   )
 
 -- ---- Rows: of two processes and no event, the sets that name 2; none; 0 and 1; the step 1, with the set that names

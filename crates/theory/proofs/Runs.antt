@@ -9,18 +9,20 @@ use lib.Dec.{eqb}
 use Rattle.trace.specs.declared.Event.{Event}
 use Rattle.trace.specs.declared.Event.the-variants.{Send, Recv, Save}
 use Rattle.trace.specs.Trace.{Trace, count}
-use Rattle.trace.specs.Fit.{wellFormed, allFit, faultOf}
+use Rattle.trace.specs.Fit.{wellFormed, allFit, eventFault}
 use Rattle.theory.specs.Lists.{iv, keep, cnt, place, lastOf, no-one, all-below, sum, first}
 use Rattle.theory.specs.Events.{eventAt, at, kind, sends, recvs, checkpoints, sent, rcvd, sendOf, recvOf, value}
-use Rattle.theory.specs.Epochs.{past, note, notes, loggedBy}
-use Rattle.theory.specs.Line.{inSet, Run, sentBefore, sentAfter, received, receivedBefore, undone, lost, orphan, kept, orphanPhase, restartIn, recorded, reached, highest, lowered, lowering, greatestLine}
-use Rattle.theory.specs.Replay.{listed, keptOn, takenBy, resends, ready, gate, sendStep, recvStep, eventStep, processStep, handStep, step, delivered, faultless}
+use Rattle.theory.specs.Epochs.{note, notes, loggedBy}
+use Rattle.theory.specs.Line.{inSet, Run, sentBefore, sentAfter, received, receivedBefore, undone, lost, orphan, kept, orphanPhase, restartIn, highest, lowered, lowering, greatestLine, runAt, engineLine}
+use Rattle.theory.specs.Replay.{listed, keptOn, takenBy, resends, ready, gate, sendStep, recvStep, eventStep, processStep, handStep, step}
+use Rattle.theory.specs.Inner.Record.{delivered, faultless}
 use Rattle.theory.specs.Order.{choiceOf, choose, carry, run, steps, mostSteps, isNone, lowest, lowestFrom, complete}
-use Rattle.theory.specs.Answers.{lineOf, Listed, gather, messages, orphans, exactSteps, samePairs, sameRecord, placeOf, leaves}
+use Rattle.theory.specs.Answers.{lineOf, Listed, gather, messages, orphans, exactSteps}
+use Rattle.theory.specs.Inner.Tests.{samePairs, sameRecord, placeOf, leaves}
 
 -- all that a row computes with
 unfoldable pub opens : ℕ
-unfolding bind iv keep cnt place lastOf no-one all-below sum first eventAt at kind sends recvs checkpoints sent rcvd sendOf recvOf value note notes loggedBy sentBefore sentAfter received receivedBefore undone lost orphan kept orphanPhase restartIn highest lowered lowering greatestLine listed keptOn takenBy resends ready gate sendStep recvStep eventStep processStep handStep step delivered faultless choiceOf choose carry run lowest lowestFrom complete gather messages exactSteps samePairs sameRecord count wellFormed allFit faultOf
+unfolding bind iv keep cnt place lastOf no-one all-below sum first eventAt at kind sends recvs checkpoints sent rcvd sendOf recvOf value note notes loggedBy sentBefore sentAfter received receivedBefore undone lost orphan kept orphanPhase restartIn highest lowered lowering greatestLine listed keptOn takenBy resends ready gate sendStep recvStep eventStep processStep handStep step delivered faultless choiceOf choose carry run lowest lowestFrom complete gather messages exactSteps samePairs sameRecord count wellFormed allFit eventFault
 opens = 0
 
 -- do all rows of a table hold
@@ -33,10 +35,10 @@ abbrev two : List Event → Trace
 two es = record { procs = 2; events = es }
 
 abbrev at-cut : List Event → ℕ → List ℕ → Run
-at-cut es cut l = recorded (two es) past cut (lineOf l)
+at-cut es cut l = runAt (two es) cut (lineOf l)
 
 abbrev line-of : List Event → ℕ → ℕ → ℕ → ℕ
-line-of es cut set = greatestLine (two es) past cut (reached (two es) past cut) (inSet set)
+line-of es cut set = engineLine (two es) cut set
 
 -- the order is refused at a place; it is complete and leaves the record of the run without failure; it is complete and
 -- does every event, but leaves another record

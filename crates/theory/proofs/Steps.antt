@@ -2,7 +2,7 @@
 -- From the laws of the run and the invariants of Flow.
 use mathlib.Core.Path.{_≡_, refl}
 use mathlib.Core.Logic.{_≢_}
-use mathlib.Core.Bool.{Bool, true, false, _&&_}
+use mathlib.Core.Bool.{Bool, true, false, _&&_, cond}
 use mathlib.Core.List.{List, _∷_}
 use Prim.Native.Nat.{ℕ, zero, suc, _+_, _-_, _≤_, _<_}
 use native.Mathlib.Omega.{arith}
@@ -12,14 +12,15 @@ use borrow.Author.Tests.{eqb-true, eqb-false, ne-eqb}
 use Rattle.trace.specs.declared.Event.{Event}
 use Rattle.trace.specs.declared.Event.the-variants.{Send, Recv, Save}
 use Rattle.trace.specs.Trace.{isSend}
-use Rattle.theory.specs.Lists.{pick, iv, cnt, sum, put, put2}
+use Rattle.theory.specs.Lists.{iv, cnt, sum, put, put2}
 use Rattle.theory.specs.Events.{size, eventAt, at, sends, sent}
 use Rattle.theory.specs.Line.{Run}
 use Rattle.theory.specs.Replay.{Choice, State, listed, keptOn, start}
-use Rattle.theory.specs.Laws.{Laws}
+use Rattle.theory.specs.Inner.Laws.{Laws}
 use Rattle.theory.proofs.Base.{by, eqb-self, cnt-iv, cnt-le, keep-length, length-iv, sum-zero, sum-le, sum-add, sum-down}
-use Rattle.theory.proofs.Classes.{sBefore, keptb, Kept, restart-n, s-le, in-run, kept-list}
-use Rattle.theory.proofs.Flow.{Did, did-other, did-send, did-recv, did-hand, view, at-head, Inv, Reach, here, next}
+use Rattle.theory.proofs.Classes.{restart-n, s-le, in-run, kept-list}
+use Rattle.theory.specs.Inner.Flow.{sBefore, keptb, Kept, Inv}
+use Rattle.theory.proofs.Flow.{Did, did-other, did-send, did-recv, did-hand, view, at-head, Reach, here, next}
 use Rattle.theory.proofs.Loss.{inv}
 
 -- at most one place has 1
@@ -33,7 +34,7 @@ sum-one (suc n) f a h k = by (eqb n a)
     (λ t. omega (arith, h n (eqb-false n a t), sum-one n f a h k))
 
 abbrev one : Bool → ℕ
-one b = pick b 1 0
+one b = cond b 1 0
 
 one-le : (b : Bool) → one b ≤ 1
 one-le true = omega arith

@@ -1,6 +1,6 @@
 -- What a well-formed trace has, by event number: `Valid`. From crate trace's `wellFormed` and its laws of fit events.
 use mathlib.Core.Path.{_≡_, refl}
-use mathlib.Core.Bool.{Bool, true, false, _&&_}
+use mathlib.Core.Bool.{Bool, true, false, _&&_, cond}
 use mathlib.Core.List.{List, [], _∷_, _++_, append-assoc, append-nil}
 use Prim.Native.Nat.{ℕ, zero, suc, _+_, _≤_, _<_}
 use native.Mathlib.Omega.{arith}
@@ -11,9 +11,9 @@ use borrow.Author.Tests.{leb-true, eqb-true}
 use Rattle.trace.specs.declared.Event.{Event}
 use Rattle.trace.specs.declared.Event.the-variants.{Send, Recv, Save}
 use Rattle.trace.specs.Trace.{Trace, isSend, isRecv, isSave, oneIf, count}
-use Rattle.trace.specs.Fit.{faultOf, valueFits, allFit, wellFormed}
+use Rattle.trace.specs.Fit.{eventFault, valueFits, allFit, wellFormed}
 use Rattle.trace.proofs.Faults.{send-fit, recv-fit, save-fit}
-use Rattle.theory.specs.Lists.{pick, cnt}
+use Rattle.theory.specs.Lists.{cnt}
 use Rattle.theory.specs.Events.{send, kindOf, processOf, size, eventAt, at, kind, sends, recvs, checkpoints, sent, rcvd}
 use Rattle.theory.proofs.Base.{by, clash, both, same2, cnt-suc, cnt-skip}
 use Rattle.theory.proofs.Events.{sent-le}
@@ -27,14 +27,14 @@ pub record Valid (t : Trace) : Type 0 where
   pub checkpoints-few : (z x : ℕ) → x ≤ size t → cnt (checkpoints t z) x ≤ 30
 
 fit-at : (n : ℕ) (d : Event) (before es : List Event) → allFit n before es ≡ true → (i : ℕ) → i < length es
-    → faultOf n (before ++ take i es) (getD es i d) ≡ 0
+    → eventFault n (before ++ take i es) (getD es i d) ≡ 0
 unfolding allFit
 fit-at n d before [] h i l = absurd (omega arith)
 fit-at n d before (e ∷ es) h zero l =
-    let b = both (eqb (faultOf n before e) 0) (valueFits e && allFit n (before ++ e ∷ []) es) h in
-    rw (append-nil before) (eqb-true (faultOf n before e) 0 (b .0))
+    let b = both (eqb (eventFault n before e) 0) (valueFits e && allFit n (before ++ e ∷ []) es) h in
+    rw (append-nil before) (eqb-true (eventFault n before e) 0 (b .0))
 fit-at n d before (e ∷ es) h (suc i) l =
-    let b = both (eqb (faultOf n before e) 0) (valueFits e && allFit n (before ++ e ∷ []) es) h in
+    let b = both (eqb (eventFault n before e) 0) (valueFits e && allFit n (before ++ e ∷ []) es) h in
     let c = both (valueFits e) (allFit n (before ++ e ∷ []) es) (b .1) in
     rw (append-assoc before (e ∷ []) (take i es)) at (fit-at n d (before ++ e ∷ []) es (c .1) i (omega arith))
 
@@ -43,27 +43,27 @@ unfolding count
 count-append f [] ys = omega arith
 count-append f (x ∷ xs) ys = omega (arith, count-append f xs ys)
 
-one-pick : (b : Bool) (m : ℕ) → m + (oneIf b + 0) ≡ pick b (suc m) m
+one-pick : (b : Bool) (m : ℕ) → m + (oneIf b + 0) ≡ cond b (suc m) m
 one-pick true m = omega arith
 one-pick false m = omega arith
 
 -- of an event that is fit after the events b
-fit-process : (n : ℕ) (b : List Event) (e : Event) → faultOf n b e ≡ 0 → processOf e < n
+fit-process : (n : ℕ) (b : List Event) (e : Event) → eventFault n b e ≡ 0 → processOf e < n
 fit-process n b (Send z q v) h = (send-fit n b z q v h) .0
 fit-process n b (Recv z p) h = (recv-fit n b z p h) .0
 fit-process n b (Save z) h = (save-fit n b z h) .0
 
-fit-peer : (n : ℕ) (b : List Event) (e : Event) (q : ℕ) → faultOf n b e ≡ 0 → kindOf e ≡ send q → q < n
+fit-peer : (n : ℕ) (b : List Event) (e : Event) (q : ℕ) → eventFault n b e ≡ 0 → kindOf e ≡ send q → q < n
 fit-peer n b (Send z r v) q h k = let i : r ≡ q = cc in omega (arith, (send-fit n b z r v h) .1)
 fit-peer n b (Recv z p) q h k = let z : _≡_ {A = ℕ} 0 1 = cc in absurd (omega arith)
 fit-peer n b (Save z) q h k = let z : _≡_ {A = ℕ} 0 1 = cc in absurd (omega arith)
 
-fit-transit : (n : ℕ) (b : List Event) (e : Event) (p q : ℕ) → faultOf n b e ≡ 0 → isRecv p q e ≡ true → count (isRecv p q) b < count (isSend p q) b
+fit-transit : (n : ℕ) (b : List Event) (e : Event) (p q : ℕ) → eventFault n b e ≡ 0 → isRecv p q e ≡ true → count (isRecv p q) b < count (isSend p q) b
 fit-transit n b (Send z r v) p q h k = clash {b = false} k refl
 fit-transit n b (Recv z r) p q h k = let c = same2 p r q z k in rw (c .0, c .1) ((recv-fit n b z r h) .3)
 fit-transit n b (Save z) p q h k = clash {b = false} k refl
 
-fit-checkpoint : (n : ℕ) (b : List Event) (e : Event) (z : ℕ) → faultOf n b e ≡ 0 → isSave z e ≡ true → count (isSave z) b < 30
+fit-checkpoint : (n : ℕ) (b : List Event) (e : Event) (z : ℕ) → eventFault n b e ≡ 0 → isSave z e ≡ true → count (isSave z) b < 30
 fit-checkpoint n b (Send y r v) z h k = clash {b = false} k refl
 fit-checkpoint n b (Recv y r) z h k = clash {b = false} k refl
 fit-checkpoint n b (Save y) z h k = let i : z ≡ y = eqb-true z y k in rw i ((save-fit n b y h) .1)
@@ -85,7 +85,7 @@ module _ (t : Trace) where
         let c = both (leb (length (t .events)) 2048) _ (b .1) in
         (b .0, c .1)
 
-    fault : (x : ℕ) → x < size t → faultOf (t .procs) (take x (t .events)) (eventAt t (suc x)) ≡ 0
+    fault : (x : ℕ) → x < size t → eventFault (t .procs) (take x (t .events)) (eventAt t (suc x)) ≡ 0
     unfolding eventAt
     fault x h = fit-at (t .procs) (Save (t .procs)) [] (t .events) (parts .1) x h
 

@@ -17,6 +17,10 @@ Rule = (p q k a b : ℕ) → Bool
 abbrev pub past : Rule
 past p q k a b = ltb a b
 
+-- the rule of a trace
+abbrev pub ruleOf : Trace → Rule
+ruleOf t = past
+
 -- "A message carries its sender's epoch and phase at the send."
 pub record Carried : Type 0 where
   pub epoch : ℕ

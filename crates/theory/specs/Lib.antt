@@ -4,6 +4,7 @@ pub mod Epochs
 pub mod Line
 pub mod Replay
 pub mod Order
-pub mod Laws
 pub mod Answers
 pub mod Refusals
+-- internal: no contract of a function that users call reaches these
+pub mod Inner

@@ -1,14 +1,14 @@
 -- The recovery line (document 01, "The restart line"): what a line may hold, where it restarts each process, and what
 -- becomes of each message.
 use mathlib.Core.Path.{_≡_}
-use mathlib.Core.Bool.{Bool, true, false, _&&_, _||_, not}
+use mathlib.Core.Bool.{Bool, true, false, _&&_, _||_, not, cond}
 use mathlib.Core.Option.{Option, none, some}
 use Prim.Native.Nat.{ℕ, zero, suc, _-_, _*_, _/_, _%_, _^_, _≤_, _<_}
 use lib.Dec.{leb, ltb, eqb}
 use Rattle.trace.specs.Trace.{Trace}
-use Rattle.theory.specs.Lists.{pick, place, lastOf, ifSome, first, put}
+use Rattle.theory.specs.Lists.{place, lastOf, ifSome, first, put}
 use Rattle.theory.specs.Events.{size, checkpoints, sendOf, recvOf}
-use Rattle.theory.specs.Epochs.{Rule, epochAt, phaseAt, epochOf, phaseOf, loggedBy}
+use Rattle.theory.specs.Epochs.{Rule, ruleOf, epochAt, phaseAt, epochOf, phaseOf, loggedBy}
 
 -- ---- The failure: the cut, "right after event K", and who failed: "M a 64-bit number in decimal whose bit z says that
 -- zone z failed"
@@ -23,7 +23,7 @@ staysIn line z = eqb (line z) 32
 -- that stays, the cut takes the place of its restart in every rule." Checkpoint number e - 1 of the process raised it
 -- to epoch e.
 unfoldable pub restartIn : Trace → ℕ → (ℕ → ℕ) → ℕ → ℕ
-restartIn t cut line z = pick (staysIn line z) cut (place (checkpoints t z) (line z - 1) cut)
+restartIn t cut line z = cond (staysIn line z) cut (place (checkpoints t z) (line z - 1) cut)
 
 -- What a line may hold for process z, where `usable z e` says that it can restart in epoch e: such an epoch, or 32.
 -- "Failed zones may not stay."
@@ -107,11 +107,6 @@ module _ (t : Trace) (rule : Rule) (cut : ℕ) where
   abbrev pub reached : ℕ → ℕ → Bool
   reached z e = leb 1 e && leb e (current z)
 
-  -- any set of usable checkpoints that contains the start
-  pub record Usable (usable : ℕ → ℕ → Bool) : Type 0 where
-    pub start : (z : ℕ) → usable z 1 ≡ true
-    pub within : (z e : ℕ) → usable z e ≡ true → (1 ≤ e) × (e ≤ current z)
-
   module _ (usable : ℕ → ℕ → Bool) (failed : ℕ → Bool) where
     abbrev pub Permitted : (ℕ → ℕ) → Type 0
     Permitted l = (z : ℕ) → z < t .procs → may usable failed z (l z) ≡ true
@@ -122,11 +117,6 @@ module _ (t : Trace) (rule : Rule) (cut : ℕ) where
       pub loss-free : LossFree (recorded l)
       pub top : (m : ℕ → ℕ) → Permitted m → LossFree (recorded m) → (z : ℕ) → z < t .procs → m z ≤ l z
 
-    -- a permitted line that no permitted line without loss exceeds
-    pub record Above (l : ℕ → ℕ) : Type 0 where
-      pub permitted : Permitted l
-      pub top : (m : ℕ → ℕ) → Permitted m → LossFree (recorded m) → (z : ℕ) → z < t .procs → m z ≤ l z
-
   -- ---- The same line by lowering: from the highest permitted line, as long as a message is lost, its sender goes down
   -- to the last usable epoch that is not above the epoch of the send
   module _ (usable : ℕ → ℕ → Bool) where
@@ -135,7 +125,7 @@ module _ (t : Trace) (rule : Rule) (cut : ℕ) where
 
     -- for the first lost message by sender, receiver, number; none where nothing is lost
     abbrev pub lowerIf : (ℕ → ℕ) → ℕ → ℕ → ℕ → Option (ℕ → ℕ)
-    lowerIf l p q k = pick (lost (recorded l) p q k) (some (lower l p q k)) none
+    lowerIf l p q k = cond (lost (recorded l) p q k) (some (lower l p q k)) none
 
     unfoldable pub lowered : (ℕ → ℕ) → Option (ℕ → ℕ)
     lowered l = first (λ p. first (λ q. first (λ k. lowerIf l p q k) (suc (size t))) (t .procs)) (t .procs)
@@ -146,8 +136,22 @@ module _ (t : Trace) (rule : Rule) (cut : ℕ) where
     lowering (suc c) l = ifSome (lowered l) l (λ m. lowering c m)
 
     unfoldable pub highest : (ℕ → Bool) → ℕ → ℕ
-    highest failed z = pick (failed z) (lastOf (usable z) (current z)) 32
+    highest failed z = cond (failed z) (lastOf (usable z) (current z)) 32
 
     -- each lowering takes at least 1 from a number of at most 32
     unfoldable pub greatestLine : (ℕ → Bool) → ℕ → ℕ
     greatestLine failed = lowering (32 * t .procs) (highest failed)
+
+-- ---- The run of a trace, by its own rule
+
+-- the epochs that each process can restart in
+abbrev pub usableAt : Trace → ℕ → ℕ → ℕ → Bool
+usableAt t cut = reached t (ruleOf t) cut
+
+-- the recorded run with a failure right after event `cut` and a line
+abbrev pub runAt : Trace → ℕ → (ℕ → ℕ) → Run
+runAt t cut line = recorded t (ruleOf t) cut line
+
+-- "The engine's line is the greatest without a lost message."
+abbrev pub engineLine : Trace → ℕ → ℕ → ℕ → ℕ
+engineLine t cut set = greatestLine t (ruleOf t) cut (usableAt t cut) (inSet set)

@@ -1,14 +1,14 @@
 -- Orders of choice numbers (document 01, "Gates and steps"): allowed, carried out or refused at a place, complete, the
 -- lowest order.
 use mathlib.Core.Path.{_≡_}
-use mathlib.Core.Bool.{Bool, true, false}
+use mathlib.Core.Bool.{Bool, true, false, cond}
 use mathlib.Core.List.{List, [], _∷_}
 use mathlib.Core.Option.{Option, none, some, bind}
 use Prim.Native.Nat.{ℕ, zero, suc, _+_, _-_, _*_, _/_, _%_}
 use lib.ListN.{length}
 use lib.Dec.{ltb}
 use Rattle.trace.specs.Trace.{Trace}
-use Rattle.theory.specs.Lists.{pick, all-below, ifSome, or-else, first}
+use Rattle.theory.specs.Lists.{all-below, ifSome, or-else, first}
 use Rattle.theory.specs.Events.{size}
 use Rattle.theory.specs.Line.{Run}
 use Rattle.theory.specs.Replay.{Choice, process, hand, State, step, start}
@@ -16,7 +16,7 @@ use Rattle.theory.specs.Replay.{Choice, process, hand, State, step, star
 -- "An order is a list of 16-bit choice numbers." "0 to 63: that zone"; "64 + 64·P + Q"; "Any other number isn't
 -- allowed."
 unfoldable pub choiceOf : ℕ → Option Choice
-choiceOf c = pick (ltb c 64) (some (process c)) (pick (ltb c 4160) (some (hand ((c - 64) / 64) ((c - 64) % 64))) none)
+choiceOf c = cond (ltb c 64) (some (process c)) (cond (ltb c 4160) (some (hand ((c - 64) / 64) ((c - 64) % 64))) none)
 
 -- an order is carried out, or refused at the place of its first choice that is not allowed
 pub data Outcome : Type 0 where
@@ -38,9 +38,6 @@ module _ (R : Run) where
   -- the state that a choice number leaves, or none
   unfoldable pub choose : State → ℕ → Option State
   choose s c = bind (choiceOf c) (step R s)
-
-  abbrev pub Allowed : State → ℕ → Type 0
-  Allowed s c = (t : State) × (choose s c ≡ some t)
 
   -- "each later one finds what the one before it left, and nothing else changes it"; the first choice has place i
   unfoldable pub carry : State → ℕ → List ℕ → Outcome

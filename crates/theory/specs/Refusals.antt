@@ -1,21 +1,18 @@
 -- The numbers 8 to 11, "Who names the failure and the replay" (document 01): what is wrong with a failure, a line, an
 -- order, or 0. The first that is wrong decides, in that order.
-use mathlib.Core.Path.{_≡_}
-use mathlib.Core.Bool.{Bool, true, _&&_, _||_, not}
-use Prim.Native.Nat.{ℕ, _^_, _≤_, _<_}
+use mathlib.Core.Bool.{Bool, _&&_, _||_, not, cond}
+use Prim.Native.Nat.{ℕ, _^_}
 use lib.Dec.{leb, ltb, eqb}
 use Rattle.trace.specs.Trace.{Trace}
-use Rattle.trace.specs.Fit.{orElse}
 use Rattle.theory.specs.Lists.{all-below}
 use Rattle.theory.specs.Events.{size}
-use Rattle.theory.specs.Epochs.{past}
-use Rattle.theory.specs.Line.{inSet, may, reached, Permitted}
+use Rattle.theory.specs.Line.{inSet, may, usableAt}
 use Rattle.theory.specs.Order.{Outcome, carriedOut, refused}
 
 -- "8: K is beyond the last event. 9: the set is empty or names a zone N or more." Bit z of the set names process z, so
 -- that a set which names none but processes below N is below 2 to the N. With `rest`, what is looked for next.
 abbrev pub failureOr : Trace → ℕ → ℕ → ℕ → ℕ
-failureOr t step set rest = orElse (ltb (size t) step) 8 (orElse (eqb set 0 || leb (2 ^ (t .procs)) set) 9 rest)
+failureOr t step set rest = cond (ltb (size t) step) 8 (cond (eqb set 0 || leb (2 ^ (t .procs)) set) 9 rest)
 
 unfoldable pub failureFault : Trace → ℕ → ℕ → ℕ
 failureFault t step set = failureOr t step set 0
@@ -28,7 +25,7 @@ permits t usable failed line = all-below (t .procs) (λ z. may usable failed z (
 -- aren't read.
 unfoldable pub lineFault : Trace → ℕ → ℕ → ℕ → (ℕ → ℕ) → ℕ
 lineFault t step set count line =
-    failureOr t step set (orElse (not (eqb count (t .procs) && permits t (reached t past step) (inSet set) line)) 10 0)
+    failureOr t step set (cond (not (eqb count (t .procs) && permits t (usableAt t step) (inSet set) line)) 10 0)
 
 -- "11: a choice isn't allowed where it comes."
 abbrev pub orderFault : Outcome → ℕ
@@ -36,13 +33,3 @@ orderFault (carriedOut s) = 0
 orderFault (refused i) = 11
 
 -- ---- What holds where nothing is wrong: the premises of the claims
-
-pub record FitFailure (t : Trace) (step set : ℕ) : Type 0 where
-  pub step-most : step ≤ size t
-  pub set-some : (z : ℕ) × (inSet set z ≡ true)
-  pub set-within : (z : ℕ) → inSet set z ≡ true → z < t .procs
-
-pub record FitLine (t : Trace) (step set count : ℕ) (line : ℕ → ℕ) : Type 0 where
-  pub failure : FitFailure t step set
-  pub count-is : count ≡ t .procs
-  pub permitted : Permitted t past step (reached t past step) (inSet set) line

@@ -1,13 +1,12 @@
 -- The replay machine (document 01, "Gates and steps"): its states, when a phase is ready, and the one step of each
 -- choice.
-use mathlib.Core.Path.{_≡_}
-use mathlib.Core.Bool.{Bool, true, false, _&&_, not}
+use mathlib.Core.Bool.{Bool, true, false, _&&_, cond}
 use mathlib.Core.List.{List, [], _∷_, _++_, map}
 use mathlib.Core.Option.{Option, none, some}
 use Prim.Native.Nat.{ℕ, _-_}
 use lib.Dec.{leb, eqb}
-use Rattle.theory.specs.Lists.{pick, iv, keep, has, no-one, all-below, put, put2}
-use Rattle.theory.specs.Events.{Kind, send, recv, other, size, at, kind, recvs, sent, rcvd, sendOf, value}
+use Rattle.theory.specs.Lists.{iv, keep, no-one, all-below, put, put2}
+use Rattle.theory.specs.Events.{Kind, send, recv, other, size, at, kind, recvs, sent, rcvd}
 use Rattle.theory.specs.Line.{Run, orphan, kept, orphanPhase}
 
 -- a choice: a process does its next listed event, or the oldest kept message from p to q is handed over
@@ -41,10 +40,6 @@ module _ (R : Run) where
   abbrev pub start : State
   start = record { todo = λ z. listed z (R .restart z); left = keptOn; chan = λ p q. []; got = λ p q. takenBy p q (R .restart q) }
 
-  -- message k from p to q has been sent again: its send is no longer to do
-  unfoldable pub sentAgain : State → ℕ → ℕ → ℕ → Bool
-  sentAgain s p q k = not (has (sendOf (R .trace) p q k) (s .todo p))
-
   -- event e of process z sends an orphan of phase r or less again
   unfoldable pub resends : ℕ → ℕ → ℕ → Kind → Bool
   resends r z e (send q) = orphan R z q (sent (R .trace) z q e) && leb (orphanPhase R z q (sent (R .trace) z q e)) r
@@ -58,7 +53,7 @@ module _ (R : Run) where
   -- "A zone that goes back may run when its phase at restart, less 1, is ready. A zone that stays may run when its
   -- phase at the cut is ready." (The cut takes the place of its restart.)
   unfoldable pub gate : ℕ → ℕ
-  gate z = pick (R .stays z) (R .phase z (R .restart z)) (R .phase z (R .restart z) - 1)
+  gate z = cond (R .stays z) (R .phase z (R .restart z)) (R .phase z (R .restart z) - 1)
 
   -- "Any other event only moves the zone on."
   abbrev pub moved : State → ℕ → List ℕ → State
@@ -68,7 +63,7 @@ module _ (R : Run) where
   -- dropped instead": what the send e of z leaves in the channel to q
   abbrev pub joins : State → ℕ → ℕ → ℕ → List ℕ
   joins s z q e =
-      pick (leb (sent (R .trace) z q e) (rcvd (R .trace) z q (R .restart q))) (s .chan z q) (s .chan z q ++ sent (R .trace) z q e ∷ [])
+      cond (leb (sent (R .trace) z q e) (rcvd (R .trace) z q (R .restart q))) (s .chan z q) (s .chan z q ++ sent (R .trace) z q e ∷ [])
 
   abbrev pub sending : State → ℕ → ℕ → ℕ → List ℕ → State
   sending s z q e es =
@@ -108,26 +103,10 @@ module _ (R : Run) where
   -- "the oldest kept message from P to Q not yet handed over goes into the channel", "when its own phase is ready"
   unfoldable pub handStep : State → ℕ → ℕ → List ℕ → Option State
   handStep s p q [] = none
-  handStep s p q (m ∷ ms) = pick (ready s (R .carries p q m)) (some (handing s p q m ms)) none
+  handStep s p q (m ∷ ms) = cond (ready s (R .carries p q m)) (some (handing s p q m ms)) none
 
   -- one choice: the state that it leaves, or none where it is not allowed
   unfoldable pub step : State → Choice → Option State
   unfolding processStep handStep
   step s (process z) = processStep s z (s .todo z) (ready s (gate z))
   step s (hand p q) = handStep s p q (s .left p q)
-
-  -- "number and value of each message its receiver received there, in that order"
-  abbrev pub entry : ℕ → ℕ → ℕ → ℕ × ℕ
-  entry p q k = (k, value (R .trace) p q k)
-
-  -- the delivery record of a channel in a replay; "In the run without failure these are its receives in the whole
-  -- trace"
-  unfoldable pub delivered : State → ℕ → ℕ → List (ℕ × ℕ)
-  delivered s p q = map (entry p q) (s .got p q)
-
-  unfoldable pub faultless : ℕ → ℕ → List (ℕ × ℕ)
-  faultless p q = map (entry p q) (takenBy p q (size (R .trace)))
-
-  -- "Two records are equal when they have the same list for every channel."
-  abbrev pub SameRecord : State → Type 0
-  SameRecord s = (p q : ℕ) → delivered s p q ≡ faultless p q

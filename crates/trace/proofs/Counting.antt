@@ -12,8 +12,8 @@ use Rattle.words.proofs.Cases.{by-eq}
 use Rattle.trace.specs.declared.Event.{Event}
 use Rattle.trace.specs.declared.Event.the-variants.{Send, Recv, Save}
 use Rattle.trace.specs.Trace.{oneIf, count, isSend, isRecv, isSave}
-use Rattle.trace.specs.Fit.{faultOf}
-use Rattle.trace.specs.Tally.{Tally, Next, tallied}
+use Rattle.trace.specs.Fit.{eventFault}
+use Rattle.trace.specs.Inner.Tally.{Tally, Next, tallied}
 use Rattle.trace.proofs.Faults.{send-fit, recv-fit, save-fit}
 
 -- one event more
@@ -49,7 +49,7 @@ by-channel p q a b f g =
     (λ n. g (λ w. n (w .0)) (rw (ne-eqb p a n)))
 
 module _ (n : ℕ) (es : List Event) (counts : List ℕ) (small : n ≤ 64) (t : Tally counts es) where
-  send-tally : (a b v : ℕ) → faultOf n es (Send a b v) ≡ 0 → Tally (tallied counts (Send a b v)) (es ++ Send a b v ∷ [])
+  send-tally : (a b v : ℕ) → eventFault n es (Send a b v) ≡ 0 → Tally (tallied counts (Send a b v)) (es ++ Send a b v ∷ [])
   send-tally a b v f =
       let s = send-fit n es a b v f in
       let x = getD counts (64 * a + b) 0 + 1 in
@@ -63,7 +63,7 @@ module _ (n : ℕ) (es : List Event) (counts : List ℕ) (small : n ≤ 64) (t :
             (getD-set-other counts (64 * a + b) (4096 + z) x 0 (λ e. omega arith) ∙ (omega (arith, t .saved z lz)));
       }
 
-  recv-tally : (a b : ℕ) → faultOf n es (Recv a b) ≡ 0 → Tally (tallied counts (Recv a b)) (es ++ Recv a b ∷ [])
+  recv-tally : (a b : ℕ) → eventFault n es (Recv a b) ≡ 0 → Tally (tallied counts (Recv a b)) (es ++ Recv a b ∷ [])
   recv-tally a b f =
       let s = recv-fit n es a b f in
       let x = getD counts (64 * b + a) 0 - 1 in
@@ -77,7 +77,7 @@ module _ (n : ℕ) (es : List Event) (counts : List ℕ) (small : n ≤ 64) (t :
             (getD-set-other counts (64 * b + a) (4096 + z) x 0 (λ e. omega arith) ∙ (omega (arith, t .saved z lz)));
       }
 
-  save-tally : (a : ℕ) → faultOf n es (Save a) ≡ 0 → Tally (tallied counts (Save a)) (es ++ Save a ∷ [])
+  save-tally : (a : ℕ) → eventFault n es (Save a) ≡ 0 → Tally (tallied counts (Save a)) (es ++ Save a ∷ [])
   save-tally a f =
       let s = save-fit n es a f in
       let x = getD counts (4096 + a) 0 + 1 in
@@ -91,7 +91,7 @@ module _ (n : ℕ) (es : List Event) (counts : List ℕ) (small : n ≤ 64) (t :
             (λ d. rw (ne-eqb z a d) (getD-set-other counts (4096 + a) (4096 + z) x 0 (λ e. omega arith) ∙ omega (arith, t .saved z lz))));
       }
 
-  pub next-tally : (e : Event) → faultOf n es e ≡ 0 → Tally (tallied counts e) (es ++ e ∷ [])
+  pub next-tally : (e : Event) → eventFault n es e ≡ 0 → Tally (tallied counts e) (es ++ e ∷ [])
   next-tally (Send a b v) f = send-tally a b v f
   next-tally (Recv a b) f = recv-tally a b f
   next-tally (Save a) f = save-tally a f

@@ -3,49 +3,49 @@
 use Prim.Native.Nat.{ℕ, _+_, _*_, _<_, _≤_}
 use mathlib.Core.Path.{_≡_, refl, _∙_}
 use mathlib.Core.List.{List, []}
-use mathlib.Core.Bool.{Bool, true, false}
+use mathlib.Core.Bool.{Bool, true, false, cond}
 use native.Mathlib.Omega.{arith}
 use lib.Dec.{leb, eqb}
 use lib.ListN.{getD}
 use borrow.Author.Tests.{leb-false, eqb-false, le-leb, lt-leb, eq-eqb, ne-eqb}
 use Rattle.trace.specs.declared.Event.{Event}
 use Rattle.trace.specs.declared.Event.the-variants.{Send, Recv, Save}
-use Rattle.trace.specs.Trace.{sends, recvs, saves}
-use Rattle.trace.specs.Fit.{orElse, faultOf}
-use Rattle.trace.specs.Tally.{Tally, faultBy}
+use Rattle.trace.specs.Trace.{sendsIn, recvsIn, savesIn}
+use Rattle.trace.specs.Fit.{eventFault}
+use Rattle.trace.specs.Inner.Tally.{Tally, faultBy}
 use Rattle.words.proofs.Cases.{by-lt, by-eq}
 
 -- no test said yes
-pub or-zero : (b : Bool) (k rest : ℕ) → 0 < k → orElse b k rest ≡ 0 → (b ≡ false) × (rest ≡ 0)
+pub or-zero : (b : Bool) (k rest : ℕ) → 0 < k → cond b k rest ≡ 0 → (b ≡ false) × (rest ≡ 0)
 or-zero true k rest h e = absurd (let z : ⊥ = omega arith in z)
 or-zero false k rest h e = (refl, e)
 
 module _ (n : ℕ) (es : List Event) (a b : ℕ) where
-  pub send-fit : (v : ℕ) → faultOf n es (Send a b v) ≡ 0 → (a < n) × (b < n) × (a ≡ b → ⊥)
-  unfolding faultOf
+  pub send-fit : (v : ℕ) → eventFault n es (Send a b v) ≡ 0 → (a < n) × (b < n) × (a ≡ b → ⊥)
+  unfolding eventFault
   send-fit v e =
-      let x = or-zero (leb n a) 3 (orElse (leb n b) 3 (orElse (eqb a b) 4 0)) (omega arith) e in
-      let y = or-zero (leb n b) 3 (orElse (eqb a b) 4 0) (omega arith) (x .1) in
+      let x = or-zero (leb n a) 3 (cond (leb n b) 3 (cond (eqb a b) 4 0)) (omega arith) e in
+      let y = or-zero (leb n b) 3 (cond (eqb a b) 4 0) (omega arith) (x .1) in
       let z = or-zero (eqb a b) 4 0 (omega arith) (y .1) in
       (leb-false n a (x .0), leb-false n b (y .0), eqb-false a b (z .0))
 
-  pub recv-fit : faultOf n es (Recv a b) ≡ 0 → (a < n) × (b < n) × (a ≡ b → ⊥) × (recvs b a es < sends b a es)
-  unfolding faultOf
+  pub recv-fit : eventFault n es (Recv a b) ≡ 0 → (a < n) × (b < n) × (a ≡ b → ⊥) × (recvsIn b a es < sendsIn b a es)
+  unfolding eventFault
   recv-fit e =
-      let w = orElse (leb (sends b a es) (recvs b a es)) 5 0 in
-      let x = or-zero (leb n a) 3 (orElse (leb n b) 3 (orElse (eqb a b) 4 w)) (omega arith) e in
-      let y = or-zero (leb n b) 3 (orElse (eqb a b) 4 w) (omega arith) (x .1) in
+      let w : ℕ = cond (leb (sendsIn b a es) (recvsIn b a es)) 5 0 in
+      let x = or-zero (leb n a) 3 (cond (leb n b) 3 (cond (eqb a b) 4 w)) (omega arith) e in
+      let y = or-zero (leb n b) 3 (cond (eqb a b) 4 w) (omega arith) (x .1) in
       let z = or-zero (eqb a b) 4 w (omega arith) (y .1) in
-      let u = or-zero (leb (sends b a es) (recvs b a es)) 5 0 (omega arith) (z .1) in
-      (leb-false n a (x .0), leb-false n b (y .0), eqb-false a b (z .0), leb-false (sends b a es) (recvs b a es) (u .0))
+      let u = or-zero (leb (sendsIn b a es) (recvsIn b a es)) 5 0 (omega arith) (z .1) in
+      (leb-false n a (x .0), leb-false n b (y .0), eqb-false a b (z .0), leb-false (sendsIn b a es) (recvsIn b a es) (u .0))
 
 module _ (n : ℕ) (es : List Event) (a : ℕ) where
-  pub save-fit : faultOf n es (Save a) ≡ 0 → (a < n) × (saves a es < 30)
-  unfolding faultOf
+  pub save-fit : eventFault n es (Save a) ≡ 0 → (a < n) × (savesIn a es < 30)
+  unfolding eventFault
   save-fit e =
-      let x = or-zero (leb n a) 3 (orElse (leb 30 (saves a es)) 6 0) (omega arith) e in
-      let y = or-zero (leb 30 (saves a es)) 6 0 (omega arith) (x .1) in
-      (leb-false n a (x .0), leb-false 30 (saves a es) (y .0))
+      let x = or-zero (leb n a) 3 (cond (leb 30 (savesIn a es)) 6 0) (omega arith) e in
+      let y = or-zero (leb 30 (savesIn a es)) 6 0 (omega arith) (x .1) in
+      (leb-false n a (x .0), leb-false 30 (savesIn a es) (y .0))
 
 -- ---- The ways out of the functions that judge an event by counters
 
@@ -73,8 +73,8 @@ module _ (n : ℕ) (counts : List ℕ) (a b : ℕ) where
   unfolding faultBy
   recv-1 f e h = e ∙ pick (leb n a) (leb n b) (eqb a b) (λ q. h (e ∙ q))
     where
-      pick : (x y z : Bool) → (orElse x 3 (orElse y 3 (orElse z 4 0)) ≡ 0 → ⊥)
-          → orElse x 3 (orElse y 3 (orElse z 4 0)) ≡ orElse x 3 (orElse y 3 (orElse z 4 (orElse (eqb (getD counts (64 * b + a) 0) 0) 5 0)))
+      pick : (x y z : Bool) → (cond {A = ℕ} x 3 (cond y 3 (cond z 4 0)) ≡ 0 → ⊥)
+          → cond {A = ℕ} x 3 (cond y 3 (cond z 4 0)) ≡ cond x 3 (cond y 3 (cond z 4 (cond (eqb (getD counts (64 * b + a) 0) 0) 5 0)))
       pick true y z k = refl
       pick false true z k = refl
       pick false false true k = refl
@@ -83,8 +83,8 @@ module _ (n : ℕ) (counts : List ℕ) (a b : ℕ) where
   pub pair-fit : faultBy n counts (Send a b 0) ≡ 0 → (a < n) × (b < n) × (a ≡ b → ⊥)
   pair-fit f = send-fit n [] a b 0 (f-same ∙ f)
     where
-      f-same : faultOf n [] (Send a b 0) ≡ faultBy n counts (Send a b 0)
-      f-same = unfold faultOf in unfold faultBy in refl
+      f-same : eventFault n [] (Send a b 0) ≡ faultBy n counts (Send a b 0)
+      f-same = unfold eventFault in unfold faultBy in refl
 
   module _ (f : faultBy n counts (Send a b 0) ≡ 0) where
     pub recv-2 : getD counts (64 * b + a) 0 ≡ 0 → 5 ≡ faultBy n counts (Recv a b)
@@ -112,15 +112,15 @@ module _ (n : ℕ) (counts : List ℕ) (a : ℕ) where
 -- ---- What the counters say is what the events that were counted say
 
 module _ (n : ℕ) (small : n ≤ 64) (counts : List ℕ) (es : List Event) (t : Tally counts es) where
-  pub fault-counted : (e : Event) → faultBy n counts e ≡ faultOf n es e
-  unfolding faultBy faultOf
+  pub fault-counted : (e : Event) → faultBy n counts e ≡ eventFault n es e
+  unfolding faultBy eventFault
   fault-counted (Send a b v) = refl
   fault-counted (Recv a b) = by-lt a n
       (λ l. by-lt b n
       (λ m. let q = t .transit b a (omega arith) (omega arith) in
       by-eq (getD counts (64 * b + a) 0) 0
-      (λ z. rw (eq-eqb (getD counts (64 * b + a) 0) 0 z, le-leb (sends b a es) (recvs b a es) (omega (arith, q, z))))
-      (λ z. rw (ne-eqb (getD counts (64 * b + a) 0) 0 z, lt-leb (sends b a es) (recvs b a es) (omega (arith, q, z)))))
+      (λ z. rw (eq-eqb (getD counts (64 * b + a) 0) 0 z, le-leb (sendsIn b a es) (recvsIn b a es) (omega (arith, q, z))))
+      (λ z. rw (ne-eqb (getD counts (64 * b + a) 0) 0 z, lt-leb (sendsIn b a es) (recvsIn b a es) (omega (arith, q, z)))))
       (λ m. rw (le-leb n b m)))
       (λ l. rw (le-leb n a l))
   fault-counted (Save a) = by-lt a n (λ l. rw (t .saved a (omega arith))) (λ l. rw (le-leb n a l))

@@ -1,26 +1,21 @@
 -- Which traces are well formed (document 01, "The trace text" and numbers 2 to 7).
 use Prim.Native.Nat.{ℕ}
 use mathlib.Core.List.{List, [], _∷_, _++_}
-use mathlib.Core.Bool.{Bool, true, false, _&&_}
+use mathlib.Core.Bool.{Bool, true, _&&_, cond}
 use lib.ListN.{length}
 use lib.Dec.{leb, eqb}
 use Rattle.trace.specs.declared.Event.{Event}
 use Rattle.trace.specs.declared.Event.the-variants.{Send, Recv, Save}
-use Rattle.trace.specs.Trace.{Trace, sends, recvs, saves}
-
--- the number of the first test that says yes
-abbrev pub orElse : Bool → ℕ → ℕ → ℕ
-orElse true n rest = n
-orElse false n rest = rest
+use Rattle.trace.specs.Trace.{Trace, sendsIn, recvsIn, savesIn}
 
 -- What is wrong with an event of a run of n processes after the events `before`: the number 3, 4, 5 or 6, or 0. 3: a
 -- process is n or more. 4: a process sends to or receives from itself. 5: a receive with nothing in transit. 6: a 31st
 -- save.
-unfoldable pub faultOf : ℕ → List Event → Event → ℕ
-faultOf n before (Send at to val) = orElse (leb n at) 3 (orElse (leb n to) 3 (orElse (eqb at to) 4 0))
-faultOf n before (Recv at from) =
-    orElse (leb n at) 3 (orElse (leb n from) 3 (orElse (eqb at from) 4 (orElse (leb (sends from at before) (recvs from at before)) 5 0)))
-faultOf n before (Save at) = orElse (leb n at) 3 (orElse (leb 30 (saves at before)) 6 0)
+unfoldable pub eventFault : ℕ → List Event → Event → ℕ
+eventFault n before (Send at to val) = cond (leb n at) 3 (cond (leb n to) 3 (cond (eqb at to) 4 0))
+eventFault n before (Recv at from) =
+    cond (leb n at) 3 (cond (leb n from) 3 (cond (eqb at from) 4 (cond (leb (sendsIn from at before) (recvsIn from at before)) 5 0)))
+eventFault n before (Save at) = cond (leb n at) 3 (cond (leb 30 (savesIn at before)) 6 0)
 
 -- "V from 0 to 4294967295"
 abbrev pub valueFits : Event → Bool
@@ -31,7 +26,7 @@ valueFits (Save at) = true
 -- every event of a list is fit where it stands, after the events `before`
 unfoldable pub allFit : ℕ → List Event → List Event → Bool
 allFit n before [] = true
-allFit n before (e ∷ es) = eqb (faultOf n before e) 0 && (valueFits e && allFit n (before ++ e ∷ []) es)
+allFit n before (e ∷ es) = eqb (eventFault n before e) 0 && (valueFits e && allFit n (before ++ e ∷ []) es)
 
 -- "N is 2 to 64", "There are 0 to 2,048 events", and every event is fit
 unfoldable pub wellFormed : Trace → Bool

@@ -1,7 +1,7 @@
 -- The words of the table area that hold a trace (docs/LAYOUT.md).
-use Prim.Native.Nat.{ℕ, _+_, _-_, _*_, _%_}
+use Prim.Native.Nat.{ℕ, _+_, _-_, _*_, _/_, _%_}
 use mathlib.Core.List.{map}
-use mathlib.Core.Bool.{Bool, true, false}
+use mathlib.Core.Bool.{cond}
 use lib.ListN.{length, getD}
 use lib.Dec.{leb, eqb}
 use Rattle.trace.specs.declared.Event.{Event}
@@ -15,6 +15,17 @@ wordOf (Send at to val) = at % 64 + 64 * (to % 64) + 4096
 wordOf (Recv at from) = at % 64 + 64 * (from % 64) + 8192
 wordOf (Save at) = at % 64 + 12288
 
+-- The same read back: the kind, two bits; the process at which it happens; the other process, the receiver of a send
+-- or the sender of a receive.
+abbrev pub kindIn : ℕ → ℕ
+kindIn w = w / 4096 % 4
+
+abbrev pub processIn : ℕ → ℕ
+processIn w = w % 64
+
+abbrev pub peerIn : ℕ → ℕ
+peerIn w = w / 64 % 64
+
 -- an event's value as a word (a value of a well-formed trace is below 4294967296)
 abbrev pub valueWord : Event → ℕ
 valueWord e = valueOf e % 4294967296
@@ -26,16 +37,12 @@ eventBase = 16
 abbrev pub valueBase : ℕ
 valueBase = 2065
 
-abbrev pub pickWord : Bool → ℕ → ℕ → ℕ
-pickWord true a b = a
-pickWord false a b = b
-
 -- Word k of the table area: 0 the process count, 1 the event count, then the events' words, then their values; all
 -- others 0.
 unfoldable pub tableWord : Trace → ℕ → ℕ
 tableWord t k =
-    pickWord (eqb k 0) (t .procs)
-    (pickWord (eqb k 1) (length (t .events))
-    (pickWord (leb k eventBase) 0
-    (pickWord (leb k valueBase) (getD (map wordOf (t .events)) (k - (eventBase + 1)) 0)
+    cond (eqb k 0) (t .procs)
+    (cond (eqb k 1) (length (t .events))
+    (cond (leb k eventBase) 0
+    (cond (leb k valueBase) (getD (map wordOf (t .events)) (k - (eventBase + 1)) 0)
     (getD (map valueWord (t .events)) (k - (valueBase + 1)) 0))))

@@ -43,11 +43,11 @@ count f [] = 0
 count f (e ∷ es) = oneIf (f e) + count f es
 
 -- how many sends, how many receives on the channel from p to q, how many checkpoints of z a list of events has
-abbrev pub sends : ℕ → ℕ → List Event → ℕ
-sends p q = count (isSend p q)
+abbrev pub sendsIn : ℕ → ℕ → List Event → ℕ
+sendsIn p q = count (isSend p q)
 
-abbrev pub recvs : ℕ → ℕ → List Event → ℕ
-recvs p q = count (isRecv p q)
+abbrev pub recvsIn : ℕ → ℕ → List Event → ℕ
+recvsIn p q = count (isRecv p q)
 
-abbrev pub saves : ℕ → List Event → ℕ
-saves z = count (isSave z)
+abbrev pub savesIn : ℕ → List Event → ℕ
+savesIn z = count (isSave z)

@@ -5,9 +5,9 @@ ghost use mathlib.Core.List.{List};
 ghost use Prim.Native.Nat.{ℕ, _+_, _-_, _*_, _/_, _%_, _≤_, _<_};
 ghost use lib.ListN.{length, getD, set};
 ghost use Rattle.trace.specs.declared.Event.the-variants.{Send, Recv, Save};
-ghost use Rattle.trace.specs.Tally.{faultBy, tallied, Next};
+ghost use Rattle.trace.specs.Inner.Tally.{faultBy, tallied, Next};
 ghost use mathlib.Core.Path.{_≡_};
-ghost use Rattle.trace.specs.Table.{wordOf, valueWord};
+ghost use Rattle.trace.specs.Table.{wordOf, valueWord, kindIn, processIn, peerIn};
 
 // An event of a trace: `ev=send at=A to=B val=V`, `ev=recv at=A from=B`, `ev=save at=A`.
 pub enum Event {
@@ -46,21 +46,21 @@ pub fn value(e: Event) -> u32
 
 // The kind that an event's word in the table area has: 1 send, 2 receive, 3 checkpoint.
 pub fn kind(w: u32) -> u32
-    ensures { λ r. ⌜ r ≡ w / 4096 % 4 ⌝ }
+    ensures { λ r. ⌜ r ≡ kindIn w ⌝ }
 {
     w / 4096 % 4
 }
 
 // The process at which it happens.
 pub fn process(w: u32) -> usize
-    ensures { λ r. ⌜ (r ≡ w % 64) × (r < 64) ⌝ }
+    ensures { λ r. ⌜ (r ≡ processIn w) × (r < 64) ⌝ }
 {
     (w % 64) as usize
 }
 
 // The other process: the receiver of a send, the sender of a receive.
 pub fn peer(w: u32) -> usize
-    ensures { λ r. ⌜ (r ≡ w / 64 % 64) × (r < 64) ⌝ }
+    ensures { λ r. ⌜ (r ≡ peerIn w) × (r < 64) ⌝ }
 {
     (w / 64 % 64) as usize
 }

@@ -9,7 +9,8 @@ use lib.Dec.{ltb}
 use lib.ListN.{length, getD, set, take, drop, length-append, drop-of-length-le}
 use lib.Seq.{drop-cons, drop-nil, set-append-seam}
 use borrow.Author.Tests.{lt-ltb, le-ltb}
-use Rattle.writer.specs.Buffer.{Laid, putOne, puts, Puts, room, written}
+use Rattle.writer.specs.Inner.Puts.{Laid, putOne, puts, Puts}
+use Rattle.writer.specs.Buffer.{room, written}
 
 -- ---- One byte
 

@@ -6,7 +6,7 @@ use native.Mathlib.Omega.{arith}
 use lib.ListN.{length, set, drop, length-set, take, length-drop, drop-of-length-le}
 use lib.Seq.{drop-cons, drop-set-lt, getD-set-same, take-all}
 use borrow.Author.Tests.{lt-ltb, le-ltb}
-use Rattle.writer.specs.Buffer.{Puts}
+use Rattle.writer.specs.Inner.Puts.{Puts}
 use Rattle.writer.proofs.Buffers.{then, same-bytes}
 use Rattle.text.specs.Number.{lastDigits, decimal}
 use Rattle.text.proofs.Numbers.{last-small, last-more}

@@ -3,7 +3,7 @@ use mathlib.Core.Path.{_≡_, refl, ap, _∙_}
 use mathlib.Core.List.{[], _∷_}
 use Prim.Native.Nat.{ℕ, _-_, _≤_}
 use lib.ListN.{length, drop}
-use Rattle.writer.specs.Buffer.{puts}
+use Rattle.writer.specs.Inner.Puts.{puts}
 use Rattle.writer.proofs.Buffers.{next-byte, all-put, same-bytes}
 use native.Mathlib.Omega.{arith}
 use borrow.Author.Needs.{needs}

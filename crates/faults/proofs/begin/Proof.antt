@@ -3,7 +3,7 @@ use mathlib.Core.Path.{_≡_, refl}
 use Prim.Native.Nat.{ℕ, _-_, _≤_, _<_}
 use lib.ListN.{length, getD, length-set}
 use lib.Dec.{ltb}
-use Rattle.theory.specs.Lists.{pick}
+use mathlib.Core.Bool.{cond}
 use Rattle.recovery_line.proofs.Loops.{rule-next}
 use native.Mathlib.Omega.{arith}
 use borrow.Author.Needs.{needs}
@@ -11,7 +11,7 @@ use Rattle.faults.proofs.begin.Statement.{statement}
 use Rattle.faults.proofs.begin.Tie as tie
 
 abbrev Inv-loop : tie.InvT-loop
-Inv-loop epochs₀ count z₀ epochs z = (z ≤ 64) × (length epochs ≡ length epochs₀) × ((k : ℕ) → k < z → getD epochs k 0 ≡ pick (ltb k count) 1 0)
+Inv-loop epochs₀ count z₀ epochs z = (z ≤ 64) × (length epochs ≡ length epochs₀) × ((k : ℕ) → k < z → getD epochs k 0 ≡ cond (ltb k count) 1 0)
 
 abbrev μ-loop : tie.MeasureT-loop
 μ-loop epochs₀ count z₀ epochs z = 64 - z
@@ -25,7 +25,7 @@ loop-again c =
     let pre = c .before .before .before .before .pre in
     let args = c .before .before .before .before .args in
     let one-if = c .one-if in
-    let l : (loop .z) < length (loop .epochs) = omega (arith, (loop .inv .1), pre) in (omega arith, simp length-set (loop .inv .1), rule-next (λ k. pick (ltb k (args .count)) 1 0) (loop .epochs) _ _ l (one-if .ensures) (loop .inv .2))
+    let l : (loop .z) < length (loop .epochs) = omega (arith, (loop .inv .1), pre) in (omega arith, simp length-set (loop .inv .1), rule-next (λ k. cond (ltb k (args .count)) 1 0) (loop .epochs) _ _ l (one-if .ensures) (loop .inv .2))
 
 returns : tie.Need-returns Inv-loop μ-loop
 returns c =

@@ -4,9 +4,10 @@ use Prim.Native.Nat.{ℕ, _+_, _-_, _≤_, _<_}
 use lib.ListN.{length, getD, length-set}
 use Rattle.trace.specs.Trace.{Trace}
 use Rattle.theory.specs.Events.{size}
-use Rattle.theory.specs.Epochs.{past, epochAt}
-use Rattle.recovery_line.specs.Given.{Tabled, each}
-use Rattle.recovery_line.specs.Words.{Sized}
+use Rattle.theory.specs.Epochs.{epochAt, ruleOf}
+use Rattle.columns.specs.Inner.Columns.{Tabled}
+use Rattle.recovery_line.specs.Given.{each}
+use Rattle.recovery_line.specs.Inner.Words.{Sized}
 use Rattle.recovery_line.proofs.Table.{procs-most, sized}
 use Rattle.faults.proofs.Cut.{epochs-begin, epochs-next, epochs-list}
 use native.Mathlib.Omega.{arith}
@@ -15,7 +16,7 @@ use Rattle.faults.proofs.epochs_at.Statement.{statement}
 use Rattle.faults.proofs.epochs_at.Tie as tie
 
 abbrev Inv-loop : tie.InvT-loop
-Inv-loop full cut epochs₀ e₀ epochs e = (e ≤ cut) × (length epochs ≡ 64) × Sized full cut × ((t : Trace) → Tabled t full → cut ≤ size t → (z : ℕ) → z < 64 → getD epochs z 0 ≡ each t (λ y. epochAt t past y e) z)
+Inv-loop full cut epochs₀ e₀ epochs e = (e ≤ cut) × (length epochs ≡ 64) × Sized full cut × ((t : Trace) → Tabled t full → cut ≤ size t → (z : ℕ) → z < 64 → getD epochs z 0 ≡ each t (λ y. epochAt t (ruleOf t) y e) z)
 
 abbrev μ-loop : tie.MeasureT-loop
 μ-loop full cut epochs₀ e₀ epochs e = cut - e

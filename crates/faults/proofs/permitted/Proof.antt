@@ -2,7 +2,7 @@
 use mathlib.Core.Path.{_≡_}
 use Prim.Native.Nat.{_-_, _≤_}
 use Rattle.theory.specs.Lists.{all-below}
-use Rattle.faults.specs.Permitted.{mayW}
+use Rattle.faults.specs.Inner.Permitted.{mayW}
 use Rattle.faults.proofs.Faults.{all-none, all-next}
 use native.Mathlib.Omega.{arith}
 use borrow.Author.Needs.{needs}

@@ -3,7 +3,7 @@
 use mathlib.Core.Path.{_≡_, sym, _∙_}
 use Prim.Native.Nat.{_-_, _≤_}
 use lib.ListN.{length, length-set}
-use Rattle.gates.specs.Restarts.{RestartsBegun}
+use Rattle.gates.specs.Inner.Restarts.{RestartsBegun}
 use Rattle.gates.proofs.Laws.{planes-none, planes-next}
 use native.Mathlib.Omega.{arith}
 use borrow.Author.Needs.{needs}

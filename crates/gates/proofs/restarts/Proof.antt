@@ -4,8 +4,9 @@ use Prim.Native.Nat.{ℕ, _+_, _-_, _≤_, _<_}
 use lib.ListN.{length, getD}
 use Rattle.trace.specs.Trace.{Trace}
 use Rattle.theory.specs.Events.{size}
-use Rattle.recovery_line.specs.Given.{Tabled, lineIn}
-use Rattle.recovery_line.specs.Words.{Sized}
+use Rattle.columns.specs.Inner.Columns.{Tabled}
+use Rattle.recovery_line.specs.Given.{lineIn}
+use Rattle.recovery_line.specs.Inner.Words.{Sized}
 use Rattle.recovery_line.proofs.Table.{procs-most, sized}
 use Rattle.gates.proofs.Places.{Restarting, restarting-begins, restarting-next, restarting-done}
 use Rattle.recovery_line.proofs.Lines.{line-at}

@@ -2,7 +2,7 @@
 use mathlib.Core.Path.{_≡_, sym, _∙_}
 use Prim.Native.Nat.{_-_, _≤_, _<_}
 use lib.ListN.{length, length-set}
-use Rattle.gates.specs.Restarts.{Gated}
+use Rattle.gates.specs.Inner.Restarts.{GatesSet}
 use Rattle.gates.proofs.Laws.{gated-none, gated-next}
 use native.Mathlib.Omega.{arith}
 use borrow.Author.Needs.{needs}
@@ -10,7 +10,7 @@ use Rattle.gates.proofs.set_gates.Statement.{statement}
 use Rattle.gates.proofs.set_gates.Tie as tie
 
 abbrev Inv-loop : tie.InvT-loop
-Inv-loop gates₀ count z₀ gates z = (z ≤ count) × (length gates ≡ 192) × Gated z gates₀ gates
+Inv-loop gates₀ count z₀ gates z = (z ≤ count) × (length gates ≡ 192) × GatesSet z gates₀ gates
 
 abbrev μ-loop : tie.MeasureT-loop
 μ-loop gates₀ count z₀ gates z = count - z

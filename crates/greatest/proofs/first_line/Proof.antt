@@ -3,7 +3,7 @@
 use mathlib.Core.Path.{_≡_, refl}
 use Prim.Native.Nat.{ℕ, _-_, _≤_, _<_}
 use lib.ListN.{length, getD, length-set}
-use Rattle.theory.specs.Lists.{pick}
+use mathlib.Core.Bool.{cond}
 use Rattle.theory.specs.Line.{inSet}
 use Rattle.recovery_line.proofs.Loops.{rule-next, rest-next}
 use native.Mathlib.Omega.{arith}
@@ -13,7 +13,7 @@ use Rattle.greatest.proofs.first_line.Tie as tie
 
 abbrev Inv-loop : tie.InvT-loop
 Inv-loop epochs count set numbers₀ z₀ numbers z =
-    (z ≤ count) × (length numbers ≡ length numbers₀) × ((k : ℕ) → k < z → getD numbers k 0 ≡ pick (inSet set k) (getD epochs k 0) 32) × ((k : ℕ) → z ≤ k → getD numbers k 0 ≡ getD numbers₀ k 0)
+    (z ≤ count) × (length numbers ≡ length numbers₀) × ((k : ℕ) → k < z → getD numbers k 0 ≡ cond (inSet set k) (getD epochs k 0) 32) × ((k : ℕ) → z ≤ k → getD numbers k 0 ≡ getD numbers₀ k 0)
 
 abbrev μ-loop : tie.MeasureT-loop
 μ-loop epochs count set numbers₀ z₀ numbers z =
@@ -29,7 +29,7 @@ loop-again c =
     let pre = c .before .before .before .before .before .before .pre in
     let args = c .before .before .before .before .before .before .args in
     let first-number = c .first-number in
-    let l : (loop .z) < length (loop .numbers) = omega (arith, (loop .inv .1), (pre .1), (pre .2)) in (omega arith, simp length-set (loop .inv .1), rule-next (λ k. pick (inSet (args .set) k) (getD (args .epochs .now) k 0) 32) (loop .numbers) _ _ l (first-number .ensures) (loop .inv .2), rest-next (args .numbers .now) (loop .numbers) _ _ (loop .inv .3))
+    let l : (loop .z) < length (loop .numbers) = omega (arith, (loop .inv .1), (pre .1), (pre .2)) in (omega arith, simp length-set (loop .inv .1), rule-next (λ k. cond (inSet (args .set) k) (getD (args .epochs .now) k 0) 32) (loop .numbers) _ _ l (first-number .ensures) (loop .inv .2), rest-next (args .numbers .now) (loop .numbers) _ _ (loop .inv .3))
 
 returns : tie.Need-returns Inv-loop μ-loop
 returns c =

@@ -3,9 +3,9 @@ use mathlib.Core.Path.{_≡_, refl, _∙_}
 use Prim.Native.Nat.{ℕ, _-_, _≤_, _<_}
 use lib.ListN.{length, getD, length-set}
 use lib.Dec.{ltb}
-use Rattle.theory.specs.Lists.{pick}
-use Rattle.columns.specs.Columns.{epochBase}
-use Rattle.greatest.specs.Newest.{afterW}
+use mathlib.Core.Bool.{cond}
+use Rattle.columns.specs.Inner.Columns.{epochBase}
+use Rattle.greatest.specs.Inner.Newest.{afterW}
 use Rattle.recovery_line.proofs.Loops.{rule-next}
 use native.Mathlib.Omega.{arith}
 use borrow.Author.Needs.{needs}
@@ -14,7 +14,7 @@ use Rattle.greatest.proofs.newest_epochs.Tie as tie
 
 abbrev Inv-loop : tie.InvT-loop
 Inv-loop full latest count epochs₀ z₀ epochs z =
-    (z ≤ 64) × (length epochs ≡ length epochs₀) × ((k : ℕ) → k < z → getD epochs k 0 ≡ pick (ltb k count) (afterW full epochBase (getD latest k 0)) 0)
+    (z ≤ 64) × (length epochs ≡ length epochs₀) × ((k : ℕ) → k < z → getD epochs k 0 ≡ cond (ltb k count) (afterW full epochBase (getD latest k 0)) 0)
 
 abbrev μ-loop : tie.MeasureT-loop
 μ-loop full latest count epochs₀ z₀ epochs z =
@@ -53,7 +53,7 @@ loop-again c =
     let args = c .before .before .before .before .before .before .before .before .args in
     let or-zero = c .or-zero in
     let after = c .before .after in
-    let l : (loop .z) < length (loop .epochs) = omega (arith, (loop .inv .1), (pre .long)) in (omega arith, simp length-set (loop .inv .1), rule-next (λ k. pick (ltb k (args .count)) (afterW (args .full .now) epochBase (getD (args .latest .now) k 0)) 0) (loop .epochs) _ _ l ((or-zero .ensures) ∙ rw (after .ensures)) (loop .inv .2))
+    let l : (loop .z) < length (loop .epochs) = omega (arith, (loop .inv .1), (pre .long)) in (omega arith, simp length-set (loop .inv .1), rule-next (λ k. cond (ltb k (args .count)) (afterW (args .full .now) epochBase (getD (args .latest .now) k 0)) 0) (loop .epochs) _ _ l ((or-zero .ensures) ∙ rw (after .ensures)) (loop .inv .2))
 
 same-length : tie.Need-same-length Inv-loop μ-loop
 same-length c =

@@ -3,8 +3,8 @@ use mathlib.Core.Path.{_≡_, refl, _∙_}
 use Prim.Native.Nat.{ℕ, _-_, _≤_, _<_}
 use lib.ListN.{length, getD, length-set}
 use lib.Dec.{ltb}
-use Rattle.theory.specs.Lists.{pick}
-use Rattle.greatest.specs.Newest.{restartPhase}
+use mathlib.Core.Bool.{cond}
+use Rattle.greatest.specs.Inner.Newest.{restartPhase}
 use Rattle.recovery_line.proofs.Loops.{rule-next}
 use native.Mathlib.Omega.{arith}
 use borrow.Author.Needs.{needs}
@@ -13,7 +13,7 @@ use Rattle.greatest.proofs.restart_phases.Tie as tie
 
 abbrev Inv-loop : tie.InvT-loop
 Inv-loop full latest numbers count phases₀ z₀ phases z =
-    (z ≤ 64) × (length phases ≡ length phases₀) × ((k : ℕ) → k < z → getD phases k 0 ≡ pick (ltb k count) (restartPhase full (getD numbers k 0) (getD latest k 0)) 0)
+    (z ≤ 64) × (length phases ≡ length phases₀) × ((k : ℕ) → k < z → getD phases k 0 ≡ cond (ltb k count) (restartPhase full (getD numbers k 0) (getD latest k 0)) 0)
 
 abbrev μ-loop : tie.MeasureT-loop
 μ-loop full latest numbers count phases₀ z₀ phases z =
@@ -52,7 +52,7 @@ loop-again c =
     let args = c .before .before .before .before .before .before .before .before .before .before .args in
     let or-zero = c .or-zero in
     let restart-phase = c .before .restart-phase in
-    let l : (loop .z) < length (loop .phases) = omega (arith, (loop .inv .1), (pre .0 .long)) in (omega arith, simp length-set (loop .inv .1), rule-next (λ k. pick (ltb k (args .count)) (restartPhase (args .full .now) (getD (args .numbers .now) k 0) (getD (args .latest .now) k 0)) 0) (loop .phases) _ _ l ((or-zero .ensures) ∙ rw (restart-phase .ensures)) (loop .inv .2))
+    let l : (loop .z) < length (loop .phases) = omega (arith, (loop .inv .1), (pre .0 .long)) in (omega arith, simp length-set (loop .inv .1), rule-next (λ k. cond (ltb k (args .count)) (restartPhase (args .full .now) (getD (args .numbers .now) k 0) (getD (args .latest .now) k 0)) 0) (loop .phases) _ _ l ((or-zero .ensures) ∙ rw (restart-phase .ensures)) (loop .inv .2))
 
 same-length : tie.Need-same-length Inv-loop μ-loop
 same-length c =

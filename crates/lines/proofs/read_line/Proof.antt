@@ -1,12 +1,12 @@
 -- `lines::read_line` meets its contract: the first key that stands at the line's start picks the form.
 use mathlib.Core.Path.{sym, _∙_}
-use Rattle.lines.specs.Line.{lineOf}
+use Rattle.lines.specs.Line.{lineSaid}
 use borrow.Author.Needs.{needs}
 use Rattle.lines.proofs.read_line.Statement.{statement}
 use Rattle.lines.proofs.read_line.Tie as tie
 
 returns : tie.Need-returns
-unfolding lineOf
+unfolding lineSaid
 returns c =
     let key = c .before .before .key in
     let if1 = c .before .if1 in
@@ -14,7 +14,7 @@ returns c =
     rw (sym (key .ensures) ∙ (if1 .taken)) (send-line .ensures)
 
 returns-2 : tie.Need-returns-2
-unfolding lineOf
+unfolding lineSaid
 returns-2 c =
     let key = c .before .before .before .before .before .key in
     let if1 = c .before .before .before .before .if1 in
@@ -24,7 +24,7 @@ returns-2 c =
     rw (sym (key .ensures) ∙ (if1 .left), sym (key2 .ensures) ∙ (if2 .taken)) (recv-line .ensures)
 
 returns-3 : tie.Need-returns-3
-unfolding lineOf
+unfolding lineSaid
 returns-3 c =
     let key = c .before .before .before .before .before .before .before .before .key in
     let if1 = c .before .before .before .before .before .before .before .if1 in
@@ -36,7 +36,7 @@ returns-3 c =
     rw (sym (key .ensures) ∙ (if1 .left), sym (key2 .ensures) ∙ (if2 .left), sym (key3 .ensures) ∙ (if3 .taken)) (save-line .ensures)
 
 returns-4 : tie.Need-returns-4
-unfolding lineOf
+unfolding lineSaid
 returns-4 c =
     let key = c .before .before .before .before .before .before .before .before .before .before .before .key in
     let if1 = c .before .before .before .before .before .before .before .before .before .before .if1 in
@@ -50,7 +50,7 @@ returns-4 c =
     rw (sym (key .ensures) ∙ (if1 .left), sym (key2 .ensures) ∙ (if2 .left), sym (key3 .ensures) ∙ (if3 .left), sym (key4 .ensures) ∙ (if4 .taken)) (procs-line .ensures)
 
 returns-5 : tie.Need-returns-5
-unfolding lineOf
+unfolding lineSaid
 returns-5 c =
     let key = c .before .before .before .before .before .before .before .before .before .before .before .before .before .before .key in
     let if1 = c .before .before .before .before .before .before .before .before .before .before .before .before .before .if1 in
@@ -66,7 +66,7 @@ returns-5 c =
     rw (sym (key .ensures) ∙ (if1 .left), sym (key2 .ensures) ∙ (if2 .left), sym (key3 .ensures) ∙ (if3 .left), sym (key4 .ensures) ∙ (if4 .left), sym (key5 .ensures) ∙ (if5 .taken)) (fail-line .ensures)
 
 returns-6 : tie.Need-returns-6
-unfolding lineOf
+unfolding lineSaid
 returns-6 c =
     let key = c .before .before .before .before .before .before .before .before .before .before .before .before .before .key in
     let if1 = c .before .before .before .before .before .before .before .before .before .before .before .before .if1 in

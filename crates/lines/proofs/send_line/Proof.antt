@@ -2,21 +2,21 @@
 use mathlib.Core.Path.{sym, _∙_}
 use borrow.Author.Tests.{not-true, not-false, eq-eqb, ne-eqb}
 use Rattle.text.proofs.Keys.{field-1, field-2, key-within}
-use Rattle.lines.specs.Line.{kTo, kVal, most, sendOf}
+use Rattle.lines.specs.Line.{kTo, kVal, most, sendSaid}
 use native.Mathlib.Omega.{arith}
 use borrow.Author.Needs.{needs}
 use Rattle.lines.proofs.send_line.Statement.{statement}
 use Rattle.lines.proofs.send_line.Tie as tie
 
 returns : tie.Need-returns
-unfolding sendOf
+unfolding sendSaid
 returns c =
     let number = c .before .before .number in
     let enum-told = c .enum-told in
     rw (sym (number .ensures) ∙ (enum-told .given .1))
 
 returns-2 : tie.Need-returns-2
-unfolding sendOf
+unfolding sendSaid
 returns-2 c =
     let number = c .before .before .before .before .before .before .number in
     let a = c .before .before .before .before .a in
@@ -35,7 +35,7 @@ add-number c =
     omega (arith, good, key-within (args .line .now) ((a .given .0 .1 .0)) kTo _ (key .ensures) (not-false _ (if1 .left)) (omega arith))
 
 returns-3 : tie.Need-returns-3
-unfolding sendOf
+unfolding sendSaid
 returns-3 c =
     let number = c .before .before .before .before .before .before .before .before .before .number in
     let a = c .before .before .before .before .before .before .before .a in
@@ -46,7 +46,7 @@ returns-3 c =
     rw (sym (number .ensures) ∙ (a .given .1), sym ((number2 .ensures) ∙ field-1 _ _ kTo _ _ (key .ensures) (not-false _ (if1 .left))) ∙ (enum-told2 .given .1))
 
 returns-4 : tie.Need-returns-4
-unfolding sendOf
+unfolding sendSaid
 returns-4 c =
     let number = c .before .before .before .before .before .before .before .before .before .before .before .before .before .number in
     let a = c .before .before .before .before .before .before .before .before .before .before .before .a in
@@ -69,7 +69,7 @@ add-number-2 c =
     omega (arith, good, key-within (args .line .now) ((b .given .0 .1 .0)) kVal _ (key2 .ensures) (not-false _ (if2 .left)) (omega arith))
 
 returns-5 : tie.Need-returns-5
-unfolding sendOf
+unfolding sendSaid
 returns-5 c =
     let number = c .before .before .before .before .before .before .before .before .before .before .before .before .before .before .before .before .number in
     let a = c .before .before .before .before .before .before .before .before .before .before .before .before .before .before .a in
@@ -84,7 +84,7 @@ returns-5 c =
     rw (sym (number .ensures) ∙ (a .given .1), sym ((number2 .ensures) ∙ field-1 _ _ kTo _ _ (key .ensures) (not-false _ (if1 .left))) ∙ (b .given .1), sym ((number3 .ensures) ∙ field-1 _ _ kVal _ _ (key2 .ensures) (not-false _ (if2 .left))) ∙ (enum-told3 .given .1))
 
 returns-6 : tie.Need-returns-6
-unfolding sendOf
+unfolding sendSaid
 returns-6 c =
     let number = c .before .before .before .before .before .before .before .before .before .before .before .before .before .before .before .before .before .before .number in
     let a = c .before .before .before .before .before .before .before .before .before .before .before .before .before .before .before .before .a in
@@ -100,7 +100,7 @@ returns-6 c =
     rw (sym (number .ensures) ∙ (a .given .1), sym ((number2 .ensures) ∙ field-1 _ _ kTo _ _ (key .ensures) (not-false _ (if1 .left))) ∙ (b .given .1), sym ((number3 .ensures) ∙ field-1 _ _ kVal _ _ (key2 .ensures) (not-false _ (if2 .left))) ∙ (v .given .1), eq-eqb _ _ (if3 .taken))
 
 returns-7 : tie.Need-returns-7
-unfolding sendOf
+unfolding sendSaid
 returns-7 c =
     let number = c .before .before .before .before .before .before .before .before .before .before .before .before .before .before .before .before .before .before .number in
     let a = c .before .before .before .before .before .before .before .before .before .before .before .before .before .before .before .before .a in

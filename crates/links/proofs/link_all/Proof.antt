@@ -4,8 +4,8 @@ use Prim.Native.Nat.{_-_, _≤_}
 use native.Mathlib.Omega.{arith}
 use lib.ListN.{length}
 use Rattle.links.proofs.Passing.{paired-at, words-turn, links-turn, words-none, links-none, bounded-turn}
-use Rattle.machine.specs.Words.{Bounded}
-use Rattle.links.specs.Linking.{linkedL, linkedA}
+use Rattle.machine.specs.Inner.Words.{Bounded}
+use Rattle.links.specs.Inner.Linking.{linkedL, linkedA}
 use borrow.Author.Needs.{needs}
 use Rattle.links.proofs.link_all.Statement.{statement}
 use Rattle.links.proofs.link_all.Tie as tie

@@ -1,7 +1,7 @@
 -- `links::mark_record` meets its contract: a case for each value of the test.
 use mathlib.Core.Path.{_≡_}
 use lib.ListN.{length-set}
-use Rattle.links.specs.Linking.{chainA}
+use Rattle.links.specs.Inner.Linking.{chainA}
 use native.Mathlib.Omega.{arith}
 use borrow.Author.Needs.{needs}
 use Rattle.links.proofs.mark_record.Statement.{statement}

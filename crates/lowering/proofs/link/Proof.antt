@@ -1,7 +1,7 @@
 -- `lowering::link` meets its contract: after e turns the events up to e are linked.
 use mathlib.Core.Path.{_≡_, sym, _∙_}
 use Prim.Native.Nat.{_-_, _≤_}
-use Rattle.lowering.specs.Lowering.{Linked}
+use Rattle.lowering.specs.Inner.Lowering.{Linked}
 use Rattle.lowering.proofs.Worklist.{linked-none, linked-next}
 use native.Mathlib.Omega.{arith}
 use borrow.Author.Needs.{needs}

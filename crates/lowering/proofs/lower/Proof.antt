@@ -6,9 +6,9 @@ use mathlib.Core.Bool.{true}
 use Prim.Native.Nat.{ℕ, _+_, _*_, _^_, _<_}
 use Rattle.words.proofs.Cases.{clash}
 use Rattle.sets.proofs.Sets.{everyone-in, first-lt, rest-less, rest-outside}
-use Rattle.recovery_line.specs.Words.{Sized}
-use Rattle.lowering.specs.Lowering.{Linked, undoneW}
-use Rattle.lowering.specs.Lowering.Lowers.{same}
+use Rattle.recovery_line.specs.Inner.Words.{Sized}
+use Rattle.lowering.specs.Inner.Lowering.{Linked, undoneW}
+use Rattle.lowering.specs.Inner.Lowering.Lowers.{same}
 use Rattle.lowering.proofs.Worklist.{Working, sumL, looking-begins, pending, look-fits, look-lowers, look-less, looking-next, looking-stops, looking-ends, look-idle, joined-lt, working-ends}
 use native.Mathlib.Omega.{arith}
 use borrow.Author.Needs.{needs}

@@ -4,7 +4,7 @@ use mathlib.Core.Bool.{true}
 use Prim.Native.Nat.{_-_, _≤_}
 use native.Mathlib.Omega.{arith}
 use Rattle.machine.proofs.Steps.{none-next, none-at}
-use Rattle.machine.specs.Words.{noneFrom}
+use Rattle.machine.specs.Inner.Words.{noneFrom}
 use borrow.Author.Needs.{needs}
 use Rattle.machine.proofs.complete.Statement.{statement}
 use Rattle.machine.proofs.complete.Tie as tie

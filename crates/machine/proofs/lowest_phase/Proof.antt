@@ -3,7 +3,7 @@ use mathlib.Core.Path.{_≡_, refl}
 use Prim.Native.Nat.{_-_, _≤_}
 use native.Mathlib.Omega.{arith}
 use Rattle.machine.proofs.Steps.{low-next}
-use Rattle.machine.specs.Words.{lowOf}
+use Rattle.machine.specs.Inner.Words.{lowOf}
 use borrow.Author.Needs.{needs}
 use Rattle.machine.proofs.lowest_phase.Statement.{statement}
 use Rattle.machine.proofs.lowest_phase.Tie as tie

@@ -3,7 +3,7 @@ use Prim.Native.Nat.{_+_, _*_}
 use lib.ListN.{length-set}
 use Rattle.moves.proofs.Steps.{bounded-set}
 use Rattle.machine.proofs.Steps.{low-bound}
-use Rattle.machine.specs.Words.{dropW, Small}
+use Rattle.machine.specs.Inner.Words.{dropW, Small}
 use native.Mathlib.Omega.{arith}
 use borrow.Author.Needs.{needs}
 use Rattle.moves.proofs.drop_orphan.Statement.{statement}

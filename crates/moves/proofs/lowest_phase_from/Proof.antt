@@ -2,7 +2,7 @@
 -- none is below.
 use Prim.Native.Nat.{_-_, _≤_}
 use Rattle.machine.proofs.Steps.{low-found}
-use Rattle.machine.specs.Words.{lowOf}
+use Rattle.machine.specs.Inner.Words.{lowOf}
 use native.Mathlib.Omega.{arith}
 use borrow.Author.Needs.{needs}
 use Rattle.moves.proofs.lowest_phase_from.Statement.{statement}

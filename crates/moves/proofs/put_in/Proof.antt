@@ -1,5 +1,5 @@
 -- `moves::put_in` meets its contract: the store itself.
-use Rattle.machine.specs.Words.{putInW}
+use Rattle.machine.specs.Inner.Words.{putInW}
 use borrow.Author.Needs.{needs}
 use Rattle.moves.proofs.put_in.Statement.{statement}
 use Rattle.moves.proofs.put_in.Tie as tie

@@ -1,7 +1,7 @@
 -- `moves::take_out` meets its contract: the stores themselves.
 use native.Mathlib.Omega.{arith}
 use lib.ListN.{length-set}
-use Rattle.machine.specs.Words.{takeOutW}
+use Rattle.machine.specs.Inner.Words.{takeOutW}
 use borrow.Author.Needs.{needs}
 use Rattle.moves.proofs.take_out.Statement.{statement}
 use Rattle.moves.proofs.take_out.Tie as tie

@@ -6,10 +6,10 @@ use native.Mathlib.Omega.{arith}
 use lib.ListN.{length}
 use Rattle.machine.proofs.Steps.{allowed-lt}
 use Rattle.orders.proofs.Ordering.{run-starts, live-bound, procs-few, links-long, run-bad, run-next, run-end, low-is}
-use Rattle.orders.specs.Record.{Live}
+use Rattle.orders.specs.Inner.Left.{Live}
 use Rattle.theory.specs.Line.{Run}
 use Rattle.theory.specs.Order.{run}
-use Rattle.machine.specs.Related.{Started}
+use Rattle.machine.specs.Inner.Related.{Started}
 use borrow.Author.Needs.{needs}
 use Rattle.orders.proofs.carry_out.Statement.{statement}
 use Rattle.orders.proofs.carry_out.Tie as tie

@@ -1,7 +1,6 @@
 -- `orders::replay` meets its contract: the words that it begins with stand for every run that is given.
 use mathlib.Core.Path.{_≡_, refl, _∙_}
-use Rattle.theory.specs.Epochs.{past}
-use Rattle.theory.specs.Line.{recorded}
+use Rattle.theory.specs.Line.{runAt}
 use Rattle.links.proofs.Beginning.{zeros, links-long, linkable, begun-in, small-in}
 use native.Mathlib.Omega.{arith}
 use borrow.Author.Needs.{needs}
@@ -21,7 +20,7 @@ replay-in-requires c κs =
     let begin = c .before .before .before .before .before .begin in
     let zero = c .before .before .before .before .before .before .before .before .before .before .zero in
     let args = c .before .before .before .before .before .before .before .before .before .before .before .before .before .before .before .before .args in
-    ((pre .2) .2 .columns .whole, (pre .1), (begin .kept .1 .1 .1 .0) ∙ (zero .kept .0) ∙ (pre .0), small-in ((pre .2) .0) ((pre .2) .1) _ _ _ ((pre .2) .2) _ _ refl (zeros (args .area .now) _ (pre .0) (zero .ensures)) _ (begin .ensures .0), (recorded ((pre .2) .0) past (args .cut) ((pre .2) .1), begun-in ((pre .2) .0) ((pre .2) .1) _ _ _ ((pre .2) .2) _ _ refl (zeros (args .area .now) _ (pre .0) (zero .ensures)) _ _ (begin .ensures .0) (begin .ensures .1)))
+    ((pre .2) .2 .columns .whole, (pre .1), (begin .kept .1 .1 .1 .0) ∙ (zero .kept .0) ∙ (pre .0), small-in ((pre .2) .0) ((pre .2) .1) _ _ _ ((pre .2) .2) _ _ refl (zeros (args .area .now) _ (pre .0) (zero .ensures)) _ (begin .ensures .0), (runAt ((pre .2) .0) (args .cut) ((pre .2) .1), begun-in ((pre .2) .0) ((pre .2) .1) _ _ _ ((pre .2) .2) _ _ refl (zeros (args .area .now) _ (pre .0) (zero .ensures)) _ _ (begin .ensures .0) (begin .ensures .1)))
 
 returns : tie.Need-returns
 returns c =
@@ -30,7 +29,7 @@ returns c =
     let pre = c .before .before .before .before .before .before .before .before .before .before .before .before .before .before .before .before .before .before .before .pre in
     let zero = c .before .before .before .before .before .before .before .before .before .before .before .before .before .zero in
     let begin = c .before .before .before .before .before .before .before .before .begin in
-    (λ t line H. (replay-in .ensures .0) (recorded t past (args .cut) line) (begun-in t line _ _ _ H _ _ refl (zeros (args .area .now) _ (pre .0) (zero .ensures)) _ _ (begin .ensures .0) (begin .ensures .1)), λ t line H. (replay-in .ensures .1) (recorded t past (args .cut) line) (begun-in t line _ _ _ H _ _ refl (zeros (args .area .now) _ (pre .0) (zero .ensures)) _ _ (begin .ensures .0) (begin .ensures .1)))
+    (λ t line H. (replay-in .ensures .0) (runAt t (args .cut) line) (begun-in t line _ _ _ H _ _ refl (zeros (args .area .now) _ (pre .0) (zero .ensures)) _ _ (begin .ensures .0) (begin .ensures .1)), λ t line H. (replay-in .ensures .1) (runAt t (args .cut) line) (begun-in t line _ _ _ H _ _ refl (zeros (args .area .now) _ (pre .0) (zero .ensures)) _ _ (begin .ensures .0) (begin .ensures .1)))
 
 pub replay-spec : {M : Type 1} → statement M
 replay-spec =

@@ -5,8 +5,8 @@ use native.Mathlib.Numerals.{add-one}
 use lib.ListN.{getD}
 use Rattle.table.specs.Held.{held, heldEvent}
 use Rattle.theory.specs.Events.{size}
-use Rattle.columns.specs.Columns.{Others}
-use Rattle.columns.specs.Filling.{Filled, Working}
+use Rattle.columns.specs.Inner.Columns.{Others}
+use Rattle.columns.specs.Inner.Filling.{Filled, Working}
 use Rattle.columns.proofs.Others.{begin-others}
 use Rattle.protocol.proofs.Passes.{held-long, held-valid, held-size, held-few, held-event}
 use Rattle.columns.proofs.Passes.{notable, next-filled, next-others, next-working, filled-columns}

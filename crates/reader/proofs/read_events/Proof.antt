@@ -7,8 +7,8 @@ use lib.ListN.{length, drop, length-append}
 use Rattle.trace.specs.declared.Event.{Event}
 use Rattle.trace.specs.Trace.{Trace}
 use Rattle.reader.specs.Verdict.{judge, pieces, linesFrom}
-use Rattle.trace.specs.Tally.{Tally}
-use Rattle.reader.specs.Reading.{Holds}
+use Rattle.trace.specs.Inner.Tally.{Tally}
+use Rattle.reader.specs.Inner.Reading.{Holds}
 use Rattle.reader.proofs.Judging.{fit-line, fit-few}
 use Rattle.trace.proofs.Counting.{next-tally}
 use Rattle.reader.proofs.Cutting.{line-cut}

@@ -2,8 +2,7 @@
 use mathlib.Core.Path.{sym}
 use native.Mathlib.Omega.{arith}
 use lib.Seq.{length-take-le}
-use Rattle.theory.specs.Epochs.{past}
-use Rattle.theory.specs.Line.{recorded}
+use Rattle.theory.specs.Line.{runAt}
 use Rattle.recovery_line.specs.Given.{lineIn}
 use Rattle.preparing.proofs.Given.{given}
 use Rattle.recovery.proofs.Clearing.{record-cleared}
@@ -61,7 +60,7 @@ list-from-requires c κs =
     let n = count-in t (args .cut) (args .set) _ ((restart-from .ensures .0) t G h) in
     let l = lineIn (restart-from .result .line) in
     let g = given t _ G (args .cut) h l _ ((gates2 .ensures) t G h n) in
-    (record-cleared (recorded t past (args .cut) l) _ _ _ ((lowest .ensures .1) t l g) (zero .ensures), search needs, (t, l, g))
+    (record-cleared (runAt t (args .cut) l) _ _ _ ((lowest .ensures .1) t l g) (zero .ensures), search needs, (t, l, g))
 
 returns : tie.Need-returns
 returns c =

@@ -5,7 +5,7 @@ use Prim.Native.Nat.{_-_, _≤_}
 use lib.ListN.{length}
 use Rattle.table.specs.Held.{heldEvents}
 use Rattle.reader.specs.Render.{renderEvents}
-use Rattle.writer.specs.Buffer.{Puts}
+use Rattle.writer.specs.Inner.Puts.{Puts}
 use Rattle.rendering.proofs.Lines.{lines-none, lines-next}
 use borrow.Author.Needs.{needs}
 use Rattle.rendering.proofs.put_events.Statement.{statement}

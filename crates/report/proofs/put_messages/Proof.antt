@@ -3,10 +3,10 @@ use mathlib.Core.Path.{_≡_, refl, _∙_}
 use Prim.Native.Nat.{_-_, _≤_}
 use lib.ListN.{length}
 use Rattle.theory.specs.Answers.{gather}
-use Rattle.writer.specs.Buffer.{Puts}
+use Rattle.writer.specs.Inner.Puts.{Puts}
 use Rattle.writer.proofs.Buffers.{same-bytes}
-use Rattle.printing.specs.Rows.{messageKey}
-use Rattle.report.specs.Rows.{messageRow}
+use Rattle.printing.specs.Inner.Rows.{messageKey}
+use Rattle.report.specs.Inner.Rows.{messageRow}
 use Rattle.report.proofs.Lines.{lines-none, lines-next, message-at}
 use native.Mathlib.Omega.{arith}
 use borrow.Author.Needs.{needs}

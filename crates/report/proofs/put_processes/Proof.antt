@@ -3,7 +3,7 @@ use mathlib.Core.Path.{_≡_, refl, _∙_}
 use Prim.Native.Nat.{_-_, _≤_}
 use lib.ListN.{length, getD}
 use Rattle.theory.specs.Answers.{gather}
-use Rattle.writer.specs.Buffer.{Puts}
+use Rattle.writer.specs.Inner.Puts.{Puts}
 use Rattle.printing.specs.Lines.{processLine}
 use Rattle.report.proofs.Lines.{lines-none, lines-next}
 use native.Mathlib.Omega.{arith}

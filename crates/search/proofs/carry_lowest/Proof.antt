@@ -7,7 +7,7 @@ use lib.ListN.{getD-replicate}
 use Rattle.orders.proofs.Ordering.{low-is, procs-few, links-long}
 use Rattle.search.proofs.Lowering.{going-bound, going-out}
 use Rattle.sets.proofs.Sets.{first-lt}
-use Rattle.sets.specs.Sets.{everyone}
+use Rattle.sets.specs.Inner.Sets.{everyone}
 use Rattle.search.proofs.Searching.{Looking, looking-start, looking-same, looking-hand, looking-run, still-to-run, run-going, search-end}
 use native.Mathlib.Omega.{arith}
 use borrow.Author.Needs.{needs}

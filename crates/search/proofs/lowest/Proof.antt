@@ -2,8 +2,7 @@
 -- events bound the order.
 use mathlib.Core.Path.{_≡_, refl, _∙_}
 use native.Mathlib.Omega.{arith}
-use Rattle.theory.specs.Epochs.{past}
-use Rattle.theory.specs.Line.{recorded}
+use Rattle.theory.specs.Line.{runAt}
 use Rattle.links.proofs.Beginning.{zeros, links-long, linkable, begun-in, small-in, count-few, twice}
 use borrow.Author.Needs.{needs}
 use Rattle.search.proofs.lowest.Statement.{statement}
@@ -22,7 +21,7 @@ lowest-in-requires c κs =
     let begin = c .before .before .before .before .before .before .before .begin in
     let zero = c .before .before .before .before .before .before .before .before .before .before .before .before .zero in
     let args = c .before .before .before .before .before .before .before .before .before .before .before .before .before .before .before .before .before .args in
-    ((pre .2) .2 .columns .whole, (pre .1), (begin .kept .1 .1 .1 .0) ∙ (zero .kept .0) ∙ (pre .0), small-in ((pre .2) .0) ((pre .2) .1) _ _ _ ((pre .2) .2) _ _ refl (zeros (args .area .now) _ (pre .0) (zero .ensures)) _ (begin .ensures .0), (recorded ((pre .2) .0) past (args .cut) ((pre .2) .1), begun-in ((pre .2) .0) ((pre .2) .1) _ _ _ ((pre .2) .2) _ _ refl (zeros (args .area .now) _ (pre .0) (zero .ensures)) _ _ (begin .ensures .0) (begin .ensures .1)))
+    ((pre .2) .2 .columns .whole, (pre .1), (begin .kept .1 .1 .1 .0) ∙ (zero .kept .0) ∙ (pre .0), small-in ((pre .2) .0) ((pre .2) .1) _ _ _ ((pre .2) .2) _ _ refl (zeros (args .area .now) _ (pre .0) (zero .ensures)) _ (begin .ensures .0), (runAt ((pre .2) .0) (args .cut) ((pre .2) .1), begun-in ((pre .2) .0) ((pre .2) .1) _ _ _ ((pre .2) .2) _ _ refl (zeros (args .area .now) _ (pre .0) (zero .ensures)) _ _ (begin .ensures .0) (begin .ensures .1)))
 
 returns : tie.Need-returns
 returns c =
@@ -32,7 +31,7 @@ returns c =
     let zero = c .before .before .before .before .before .before .before .before .before .before .before .before .before .before .before .zero in
     let begin = c .before .before .before .before .before .before .before .before .before .before .begin in
     let wide = c .before .before .before .before .before .wide in
-    (λ t line H. (lowest-in .ensures .0) (recorded t past (args .cut) line) (begun-in t line _ _ _ H _ _ refl (zeros (args .area .now) _ (pre .0) (zero .ensures)) _ _ (begin .ensures .0) (begin .ensures .1)) (twice t line _ _ _ H _ (wide .ensures)), λ t line H. (lowest-in .ensures .1) (recorded t past (args .cut) line) (begun-in t line _ _ _ H _ _ refl (zeros (args .area .now) _ (pre .0) (zero .ensures)) _ _ (begin .ensures .0) (begin .ensures .1)) (twice t line _ _ _ H _ (wide .ensures)))
+    (λ t line H. (lowest-in .ensures .0) (runAt t (args .cut) line) (begun-in t line _ _ _ H _ _ refl (zeros (args .area .now) _ (pre .0) (zero .ensures)) _ _ (begin .ensures .0) (begin .ensures .1)) (twice t line _ _ _ H _ (wide .ensures)), λ t line H. (lowest-in .ensures .1) (runAt t (args .cut) line) (begun-in t line _ _ _ H _ _ refl (zeros (args .area .now) _ (pre .0) (zero .ensures)) _ _ (begin .ensures .0) (begin .ensures .1)) (twice t line _ _ _ H _ (wide .ensures)))
 
 shared-slice-read-wide : tie.Need-shared-slice-read-wide
 shared-slice-read-wide c =

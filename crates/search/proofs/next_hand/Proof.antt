@@ -2,7 +2,7 @@
 use mathlib.Core.Path.{_≡_, refl, _∙_}
 use Prim.Native.Nat.{_+_, _*_, _/_, _^_, _<_}
 use lib.ListN.{length}
-use Rattle.search.specs.Lowest.{Shut, Under, Keeps}
+use Rattle.search.specs.Inner.Lowest.{Shut, Under, Keeps}
 use Rattle.sets.proofs.Sets.{first-lt, first-in, rest-less}
 use Rattle.search.proofs.Searching.{shut-to, shut-all, shut-rest}
 use native.Mathlib.Omega.{arith}

@@ -2,7 +2,7 @@
 use mathlib.Core.Path.{_≡_, sym, _∙_}
 use Prim.Native.Nat.{_^_, _≤_, _<_}
 use native.Mathlib.Omega.{arith}
-use Rattle.search.specs.Lowest.{Idle}
+use Rattle.search.specs.Inner.Lowest.{Idle}
 use Rattle.sets.proofs.Sets.{first-lt, rest-less}
 use Rattle.search.proofs.Searching.{rest-idle}
 use borrow.Author.Needs.{needs}

@@ -6,7 +6,7 @@ use lib.ListN.{getD}
 use borrow.Author.Tests.{eqb-true}
 use Rattle.words.proofs.Cases.{clash}
 use Rattle.theory.specs.Line.{inSet}
-use Rattle.machine.specs.Words.{noPhase}
+use Rattle.machine.specs.Inner.Words.{noPhase}
 use Rattle.sets.proofs.Sets.{first-lt, rest-less, Pruned, pruned-start, pruned-next, pruned-end}
 use native.Mathlib.Omega.{arith}
 use borrow.Author.Needs.{needs}

@@ -2,8 +2,8 @@
 use mathlib.Core.Path.{_≡_, sym, _∙_}
 use Prim.Native.Nat.{_^_, _<_}
 use borrow.Author.Tests.{eqb-true}
-use Rattle.machine.specs.Words.{curW}
-use Rattle.search.specs.Lowest.{ToRun}
+use Rattle.machine.specs.Inner.Words.{curW}
+use Rattle.search.specs.Inner.Lowest.{ToRun}
 use Rattle.sets.proofs.Sets.{first-lt, rest-less, Pruned, pruned-start, pruned-next, pruned-end}
 use native.Mathlib.Omega.{arith}
 use borrow.Author.Needs.{needs}

@@ -2,7 +2,7 @@
 use mathlib.Core.Path.{refl}
 use lib.Count.{trailing-le}
 use native.Mathlib.Omega.{arith}
-use Rattle.sets.specs.Sets.{firstIn}
+use Rattle.sets.specs.Inner.Sets.{firstIn}
 use Rattle.sets.proofs.first.Statement.{statement}
 use Rattle.sets.proofs.first.Tie as tie
 

@@ -1,7 +1,7 @@
 -- `sets::rest` meets its contract.
 use mathlib.Core.Path.{refl}
 use borrow.Author.Needs.{needs}
-use Rattle.sets.specs.Sets.{restOf}
+use Rattle.sets.specs.Inner.Sets.{restOf}
 use Rattle.sets.proofs.rest.Statement.{statement}
 use Rattle.sets.proofs.rest.Tie as tie
 

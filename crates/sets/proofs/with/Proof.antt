@@ -6,7 +6,7 @@ use native.Mathlib.Nat.{one-mul}
 use lib.Bits.{bitOr}
 use lib.Pow.{shl-exact}
 use borrow.Author.Needs.{needs}
-use Rattle.sets.specs.Sets.{withIn}
+use Rattle.sets.specs.Inner.Sets.{withIn}
 use Rattle.sets.proofs.with.Statement.{statement}
 use Rattle.sets.proofs.with.Tie as tie
 

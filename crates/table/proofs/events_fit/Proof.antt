@@ -8,10 +8,10 @@ use lib.ListN.{length, length-append}
 use borrow.Author.Tests.{not-true, not-false}
 use Rattle.table.proofs.Turns.{events-end, events-turn, fits-fault}
 use Rattle.table.specs.Held.{heldEvent}
-use Rattle.table.specs.Tested.{fitFrom}
+use Rattle.table.specs.Inner.Tested.{fitFrom}
 use Rattle.trace.specs.declared.Event.{Event}
-use Rattle.trace.specs.Fit.{faultOf}
-use Rattle.trace.specs.Tally.{Tally}
+use Rattle.trace.specs.Fit.{eventFault}
+use Rattle.trace.specs.Inner.Tally.{Tally}
 use Rattle.trace.proofs.Faults.{fault-counted}
 use Rattle.trace.proofs.Counting.{next-tally, none-tally}
 use borrow.Author.Needs.{needs}
@@ -63,7 +63,7 @@ loop-again c =
     let loop-test = c .before .before .before .before .before .before .loop-test in
     let y = not-false _ (if1 .left) in
     let w = sym (word-fits .ensures .0) ∙ y in
-    let f : faultOf (args .procs) (loop .inv .0) (heldEvent (args .area .now) (loop .i)) ≡ 0 = sym (fault-counted (args .procs) (pre .0) _ (loop .inv .0) (loop .inv .3) _) ∙ fits-fault _ _ _ _ w in (
+    let f : eventFault (args .procs) (loop .inv .0) (heldEvent (args .area .now) (loop .i)) ≡ 0 = sym (fault-counted (args .procs) (pre .0) _ (loop .inv .0) (loop .inv .3) _) ∙ fits-fault _ _ _ _ w in (
       (loop .inv .0) ++ heldEvent (args .area .now) (loop .i) ∷ [],
       rw (length-append, (loop .inv .1)),
       omega arith,

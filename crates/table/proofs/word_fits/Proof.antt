@@ -3,7 +3,7 @@ use mathlib.Core.Path.{refl, ap, _∙_}
 use mathlib.Core.Bool.{false}
 use native.Mathlib.Omega.{arith}
 use Rattle.words.proofs.Cases.{clash}
-use Rattle.trace.specs.Tally.{tallied}
+use Rattle.trace.specs.Inner.Tally.{tallied}
 use Rattle.table.proofs.Turns.{event-send, event-recv, event-save, fits-send, fits-value, fits-recv, fits-none, fits-save}
 use borrow.Author.Needs.{needs}
 use Rattle.table.proofs.word_fits.Statement.{statement}

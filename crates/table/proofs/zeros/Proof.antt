@@ -5,7 +5,7 @@ use Prim.Native.Nat.{_-_, _≤_}
 use native.Mathlib.Omega.{arith}
 use lib.Dec.{eqb}
 use Rattle.table.proofs.Turns.{zeros-end, zeros-next}
-use Rattle.table.specs.Tested.{zerosFrom}
+use Rattle.table.specs.Inner.Tested.{zerosFrom}
 use borrow.Author.Needs.{needs}
 use Rattle.table.proofs.zeros.Statement.{statement}
 use Rattle.table.proofs.zeros.Tie as tie

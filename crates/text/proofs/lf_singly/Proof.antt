@@ -2,7 +2,7 @@
 use Prim.Native.Nat.{_-_}
 use mathlib.Core.Path.{_≡_, refl, sym, _∙_}
 use lib.ListN.{length, drop}
-use Rattle.text.specs.Line.{lfFrom}
+use Rattle.text.specs.Inner.Line.{lfFrom}
 use Rattle.text.proofs.Lines.{lf-none, lf-here, lf-next}
 use borrow.Author.Needs.{needs}
 use Rattle.text.proofs.lf_singly.Statement.{statement}

@@ -2,7 +2,7 @@
 use mathlib.Core.Path.{_≡_, refl, _∙_}
 use Prim.Native.Nat.{_-_, _≤_}
 use lib.ListN.{length, drop}
-use Rattle.writer.specs.Buffer.{puts}
+use Rattle.writer.specs.Inner.Puts.{puts}
 use Rattle.writer.proofs.Buffers.{next-byte, all-put}
 use native.Mathlib.Omega.{arith}
 use borrow.Author.Needs.{needs}

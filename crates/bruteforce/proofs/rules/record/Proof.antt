@@ -1,7 +1,7 @@
 -- `record` meets its contract: no store is at the first word.
 use Prim.Native.Nat.{_+_, _-_, _≤_}
 use mathlib.Core.Path.{_≡_, refl}
-use Rattle.bruteforce.specs.Counts.{first}
+use Rattle.bruteforce.specs.Counts.{firstWord}
 use Rattle.bruteforce.proofs.Counts.{first-kept}
 use native.Mathlib.Omega.{arith}
 use borrow.Author.Needs.{needs}
@@ -9,7 +9,7 @@ use Rattle.bruteforce.proofs.rules.record.Statement.{statement}
 use Rattle.bruteforce.proofs.rules.record.Tie as tie
 
 abbrev Inv-loop : tie.InvT-loop
-Inv-loop events size run₀ i₀ run i = (i ≤ size) × (first run ≡ first run₀)
+Inv-loop events size run₀ i₀ run i = (i ≤ size) × (firstWord run ≡ firstWord run₀)
 
 abbrev μ-loop : tie.MeasureT-loop
 μ-loop events size run₀ i₀ run i = size - i

@@ -1,0 +1,65 @@
+-- The full table: the words of a trace and what the protocol derives from it, a plane of words for each column
+-- (docs/LAYOUT.md). `Columns` says what each column means, by the theory's definitions; everything above cites it.
+-- `Others` says what the other words are.
+use Prim.Native.Nat.{ℕ, _+_, _<_, _≤_}
+use mathlib.Core.Path.{_≡_}
+use mathlib.Core.Bool.{true}
+use mathlib.Core.List.{List}
+use lib.ListN.{length, getD}
+use Rattle.words.specs.Area.{areaWords}
+use Rattle.trace.specs.Trace.{Trace}
+use Rattle.trace.specs.Fit.{wellFormed}
+use Rattle.trace.specs.Table.{tableWord}
+use Rattle.theory.specs.Events.{size, at, sends, recvs, checkpoints, sent, rcvd, sendOf, recvOf}
+use Rattle.theory.specs.Epochs.{epochAt, phaseAt, ruleOf}
+
+-- the words before event 1 of each column
+abbrev pub numberBase : ℕ
+numberBase = 6163
+
+abbrev pub epochBase : ℕ
+epochBase = 8212
+
+abbrev pub phaseBase : ℕ
+phaseBase = 10261
+
+abbrev pub matchBase : ℕ
+matchBase = 12310
+
+-- the words up to here are those of the trace
+abbrev pub traceWords : ℕ
+traceWords = 6163
+
+pub record Columns (t : Trace) (full : List ℕ) : Type 0 where
+  pub whole : length full ≡ areaWords
+  -- the trace's own words
+  pub words : (k : ℕ) → k < traceWords → getD full k 0 ≡ tableWord t k
+  -- the number of the message that an event sends or receives
+  pub number-send : (p q e : ℕ) → sends t p q e ≡ true → 0 < e → e ≤ size t → getD full (numberBase + e) 0 ≡ sent t p q e
+  pub number-recv : (p q e : ℕ) → recvs t p q e ≡ true → 0 < e → e ≤ size t → getD full (numberBase + e) 0 ≡ rcvd t p q e
+  -- the epoch and the phase of an event's process after the event
+  pub epoch : (e : ℕ) → 0 < e → e ≤ size t → getD full (epochBase + e) 0 ≡ epochAt t (ruleOf t) (at t e) e
+  pub phase : (e : ℕ) → 0 < e → e ≤ size t → getD full (phaseBase + e) 0 ≡ phaseAt t (ruleOf t) (at t e) e
+  -- the receive of the message that an event sends, 0 where there is none; the send of the message that it receives
+  pub match-send : (p q e : ℕ) → sends t p q e ≡ true → 0 < e → e ≤ size t → getD full (matchBase + e) 0 ≡ recvOf t p q (sent t p q e)
+  pub match-recv : (p q e : ℕ) → recvs t p q e ≡ true → 0 < e → e ≤ size t → getD full (matchBase + e) 0 ≡ sendOf t p q (rcvd t p q e)
+
+-- The words that `Columns` does not name, where the columns of the first x events are filled in a table that was
+-- `before`. With x = size t both records together name every word (`one-table` of crate protocol).
+pub record Others (t : Trace) (x : ℕ) (before after : List ℕ) : Type 0 where
+  -- a checkpoint has no message
+  pub number-checkpoint : (z e : ℕ) → checkpoints t z e ≡ true → 0 < e → e ≤ x → getD after (numberBase + e) 0 ≡ 0
+  pub match-checkpoint : (z e : ℕ) → checkpoints t z e ≡ true → 0 < e → e ≤ x → getD after (matchBase + e) 0 ≡ 0
+  -- there is no event 0; its word is 0, and a channel's first message gets one more
+  pub number-none : getD after numberBase 0 ≡ 0
+  -- the others are as they were: in each column those after event x, up to the next column's event 0, and all words
+  -- after the last column
+  pub after-number : (k : ℕ) → numberBase + x < k → k ≤ epochBase → getD after k 0 ≡ getD before k 0
+  pub after-epoch : (k : ℕ) → epochBase + x < k → k ≤ phaseBase → getD after k 0 ≡ getD before k 0
+  pub after-phase : (k : ℕ) → phaseBase + x < k → k ≤ matchBase → getD after k 0 ≡ getD before k 0
+  pub after-match : (k : ℕ) → matchBase + x < k → getD after k 0 ≡ getD before k 0
+
+-- the full table of a well-formed trace
+pub record Tabled (t : Trace) (full : List ℕ) : Type 0 where
+  pub formed : wellFormed t ≡ true
+  pub columns : Columns t full

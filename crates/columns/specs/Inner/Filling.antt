@@ -1,0 +1,120 @@
+-- How the full table is filled, one event after another: the words that each kind of event stores, and what the table
+-- and the working words hold after some events. No public contract cites these.
+use Prim.Native.Nat.{ℕ, suc, _+_, _*_, _<_, _≤_}
+use mathlib.Core.Path.{_≡_}
+use mathlib.Core.Bool.{true, cond}
+use mathlib.Core.List.{List}
+use lib.Dec.{ltb, leb, eqb}
+use lib.ListN.{length, getD, set}
+use Rattle.words.specs.Area.{areaWords}
+use Rattle.trace.specs.declared.Event.{Event}
+use Rattle.trace.specs.declared.Event.the-variants.{Send, Recv, Save}
+use Rattle.trace.specs.Trace.{Trace}
+use Rattle.trace.specs.Table.{tableWord}
+use Rattle.theory.specs.Events.{at, sends, recvs, sent, rcvd, sendOf, recvOf}
+use Rattle.theory.specs.Epochs.{joined, epochAt, phaseAt, ruleOf}
+use Rattle.columns.specs.Inner.Columns.{numberBase, epochBase, phaseBase, matchBase, traceWords}
+
+-- Working words: process z's epoch at z and its phase at phasesBase + z; of channel c = 64 p + q the oldest send in
+-- transit and the latest send, as events, 0 where there is none; of a send the next send on its channel.
+abbrev pub phasesBase : ℕ
+phasesBase = 64
+
+abbrev pub oldestBase : ℕ
+oldestBase = 128
+
+abbrev pub latestBase : ℕ
+latestBase = 4224
+
+abbrev pub nextBase : ℕ
+nextBase = 8320
+
+abbrev pub workWords : ℕ
+workWords = 10369
+
+-- the four columns of an event
+abbrev pub stored : List ℕ → ℕ → ℕ → ℕ → ℕ → ℕ → List ℕ
+stored full e number epoch phase mate =
+    set (set (set (set full (numberBase + e) number) (epochBase + e) epoch) (phaseBase + e) phase) (matchBase + e) mate
+
+abbrev pub orNew : ℕ → ℕ → ℕ
+orNew old e = cond (eqb old 0) e old
+
+-- event e, a send of a to b: the next number on the channel, and the channel's latest send
+abbrev pub sendFull : List ℕ → List ℕ → ℕ → ℕ → ℕ → List ℕ
+sendFull full work e a b =
+    stored full e (getD full (numberBase + getD work (latestBase + (64 * a + b)) 0) 0 + 1) (getD work a 0) (getD work (phasesBase + a) 0) 0
+
+abbrev pub sendWork : List ℕ → ℕ → ℕ → ℕ → List ℕ
+sendWork work e a b =
+    set
+    (set (set (set work (nextBase + getD work (latestBase + (64 * a + b)) 0) e) (nextBase + e) 0) (latestBase + (64 * a + b)) e)
+    (oldestBase + (64 * a + b))
+    (orNew (getD work (oldestBase + (64 * a + b)) 0) e)
+
+-- event e, a receive of a from b: the channel's oldest send d is matched with it
+abbrev pub recvPhase : List ℕ → List ℕ → ℕ → ℕ → ℕ
+recvPhase full work d a = joined (ltb (getD full (epochBase + d) 0) (getD work a 0)) (getD work (phasesBase + a) 0) (getD full (phaseBase + d) 0)
+
+abbrev pub recvFull : List ℕ → List ℕ → ℕ → ℕ → ℕ → List ℕ
+recvFull full work e d a = set (stored full e (getD full (numberBase + d) 0) (getD work a 0) (recvPhase full work d a) d) (matchBase + d) e
+
+abbrev pub recvWork : List ℕ → List ℕ → ℕ → ℕ → ℕ → List ℕ
+recvWork full work d a b = set (set work (phasesBase + a) (recvPhase full work d a)) (oldestBase + (64 * b + a)) (getD work (nextBase + d) 0)
+
+-- event e, a checkpoint of a: both rise
+abbrev pub saveFull : List ℕ → List ℕ → ℕ → ℕ → List ℕ
+saveFull full work e a = stored full e 0 (getD work a 0 + 1) (getD work (phasesBase + a) 0 + 1) 0
+
+abbrev pub saveWork : List ℕ → ℕ → List ℕ
+saveWork work a = set (set work a (getD work a 0 + 1)) (phasesBase + a) (getD work (phasesBase + a) 0 + 1)
+
+abbrev pub oldestOf : List ℕ → ℕ → ℕ → ℕ
+oldestOf work a b = getD work (oldestBase + (64 * b + a)) 0
+
+abbrev pub noteFull : List ℕ → List ℕ → ℕ → Event → List ℕ
+noteFull full work e (Send a b v) = sendFull full work e a b
+noteFull full work e (Recv a b) = recvFull full work e (oldestOf work a b) a
+noteFull full work e (Save a) = saveFull full work e a
+
+abbrev pub noteWork : List ℕ → List ℕ → ℕ → Event → List ℕ
+noteWork full work e (Send a b v) = sendWork work e a b
+noteWork full work e (Recv a b) = recvWork full work (oldestOf work a b) a b
+noteWork full work e (Save a) = saveWork work a
+
+-- the full table after x events
+pub record Filled (t : Trace) (x : ℕ) (full : List ℕ) : Type 0 where
+  pub whole : length full ≡ areaWords
+  pub words : (k : ℕ) → k < traceWords → getD full k 0 ≡ tableWord t k
+  pub number-none : getD full numberBase 0 ≡ 0
+  pub number-send : (p q e : ℕ) → sends t p q e ≡ true → 0 < e → e ≤ x → getD full (numberBase + e) 0 ≡ sent t p q e
+  pub number-recv : (p q e : ℕ) → recvs t p q e ≡ true → 0 < e → e ≤ x → getD full (numberBase + e) 0 ≡ rcvd t p q e
+  pub epoch : (e : ℕ) → 0 < e → e ≤ x → getD full (epochBase + e) 0 ≡ epochAt t (ruleOf t) (at t e) e
+  pub phase : (e : ℕ) → 0 < e → e ≤ x → getD full (phaseBase + e) 0 ≡ phaseAt t (ruleOf t) (at t e) e
+  -- a send is matched once its message is received
+  pub match-send : (p q e : ℕ) → sends t p q e ≡ true → 0 < e → e ≤ x
+      → getD full (matchBase + e) 0 ≡ cond (leb (sent t p q e) (rcvd t p q x)) (recvOf t p q (sent t p q e)) 0
+  pub match-recv : (p q e : ℕ) → recvs t p q e ≡ true → 0 < e → e ≤ x → getD full (matchBase + e) 0 ≡ sendOf t p q (rcvd t p q e)
+
+-- the working words after x events
+pub record Working (t : Trace) (x : ℕ) (work : List ℕ) : Type 0 where
+  pub whole : length work ≡ workWords
+  pub epochs : (z : ℕ) → z < 64 → getD work z 0 ≡ epochAt t (ruleOf t) z x
+  pub phases : (z : ℕ) → z < 64 → getD work (phasesBase + z) 0 ≡ phaseAt t (ruleOf t) z x
+  pub oldest : (p q : ℕ) → p < 64 → q < 64
+      → getD work (oldestBase + (64 * p + q)) 0 ≡ cond (ltb (rcvd t p q x) (sent t p q x)) (sendOf t p q (suc (rcvd t p q x))) 0
+  pub latest : (p q : ℕ) → p < 64 → q < 64 → getD work (latestBase + (64 * p + q)) 0 ≡ sendOf t p q (sent t p q x)
+  pub next : (p q d : ℕ) → sends t p q d ≡ true → 0 < d → d ≤ x
+      → getD work (nextBase + d) 0 ≡ cond (ltb (sent t p q d) (sent t p q x)) (sendOf t p q (suc (sent t p q d))) 0
+
+-- the words that an event reads are in their range, so that no index is past its end, no sum wraps and 16 bits are
+-- enough
+abbrev pub Notable : List ℕ → List ℕ → Event → Type 0
+Notable full work (Send a b v) =
+    (a < 64) × (b < 64) × (getD work (latestBase + (64 * a + b)) 0 ≤ 2048) × (getD full (numberBase + getD work (latestBase + (64 * a + b)) 0) 0 < 4294967295)
+Notable full work (Recv a b) = (a < 64) × (b < 64) × (oldestOf work a b ≤ 2048) × (getD full (phaseBase + oldestOf work a b) 0 < 65535)
+Notable full work (Save a) = (a < 64) × (getD work a 0 < 65535) × (getD work (phasesBase + a) 0 < 65535)
+
+-- both tables have their sizes, and the event its place in them
+abbrev pub Storable : List ℕ → List ℕ → ℕ → Type 0
+Storable full work e = (length full ≡ areaWords) × (length work ≡ workWords) × (e ≤ 2048)

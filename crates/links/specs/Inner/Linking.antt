@@ -1,0 +1,67 @@
+-- What sets the links and the first state of a replay, by words: one pass over the events, from the last to the first.
+-- Definitions only. At an event the pass writes where a test of the full table and the gates holds; `proofs/` says what
+-- the tests mean.
+use mathlib.Core.Bool.{Bool, true, false, cond}
+use mathlib.Core.List.{List}
+use Prim.Native.Nat.{ℕ, zero, suc, _+_, _-_, _*_}
+use lib.ListN.{getD, set}
+use lib.Dec.{leb, ltb, eqb}
+use Rattle.machine.specs.Taken.{takenBase}
+use Rattle.machine.specs.Inner.Words.{currentBase, orphanBase, takeBase, putBase, lowPlace, curW, orpW, putW, lowOf}
+use Rattle.columns.specs.Inner.Full.{kindW, peerW, valueW, numberW, atW, epochW, matchW}
+
+-- the message that event e sends was received before its receiver's restart; by the cut
+unfoldable pub backW : List ℕ → List ℕ → ℕ → Bool
+backW t g e = cond (eqb (matchW t e) 0) false (leb (matchW t e) (getD g (64 + peerW t e) 0))
+
+unfoldable pub doneW : List ℕ → ℕ → ℕ → Bool
+doneW t cut e = cond (eqb (matchW t e) 0) false (leb (matchW t e) cut)
+
+-- event e is after the restart of its process
+abbrev pub mineW : List ℕ → List ℕ → ℕ → Bool
+mineW t g e = ltb (getD g (64 + atW t e) 0) e
+
+-- event e sends an orphan again
+unfoldable pub orphanW : List ℕ → List ℕ → ℕ → Bool
+orphanW t g e = cond (eqb (kindW t e) 1) (cond (mineW t g e) (backW t g e) false) false
+
+-- event e sends a message that goes through its channel: not received before the receiver's restart; and sent after the
+-- sender's restart, or not received by the cut, or logged
+unfoldable pub goesW : List ℕ → List ℕ → ℕ → ℕ → Bool
+goesW t g cut e = cond (eqb (kindW t e) 1)
+    (cond (backW t g e) false (cond (mineW t g e) true (cond (doneW t cut e) (ltb (epochW t e) (epochW t (matchW t e))) true))) false
+
+-- event e is a receive before the restart of its process
+unfoldable pub earlyW : List ℕ → List ℕ → ℕ → Bool
+earlyW t g e = cond (eqb (kindW t e) 2) (leb e (getD g (64 + atW t e) 0)) false
+
+-- a word, written where a test holds
+unfoldable pub chainA : Bool → List ℕ → ℕ → ℕ → List ℕ
+chainA b a k v = cond b (set a k v) a
+
+-- the links after event e; the run area after it
+unfoldable pub linkL : List ℕ → List ℕ → ℕ → List ℕ → List ℕ → ℕ → List ℕ
+linkL t g cut l a e =
+    chainA (goesW t g cut e) (chainA (orphanW t g e) (chainA (mineW t g e) l (4 * e) (curW a (atW t e))) (4 * e + 2) (orpW a (atW t e)))
+    (4 * e + 1) (putW a (64 * atW t e + peerW t e))
+
+unfoldable pub linkA : List ℕ → List ℕ → ℕ → List ℕ → ℕ → List ℕ
+linkA t g cut a e =
+    chainA (earlyW t g e) (chainA (earlyW t g e)
+    (chainA (goesW t g cut e) (chainA (goesW t g cut e)
+    (chainA (orphanW t g e) (chainA (mineW t g e) a (currentBase + atW t e) e) (orphanBase + atW t e) e)
+    (putBase + (64 * atW t e + peerW t e)) e) (takeBase + (64 * atW t e + peerW t e)) e)
+    e (numberW t e)) (takenBase + e) (valueW t (matchW t e))
+
+-- the run area and the links after the last d of n events
+unfoldable pub linkedA : List ℕ → List ℕ → ℕ → ℕ → ℕ → List ℕ → List ℕ
+linkedA t g cut n zero a = a
+linkedA t g cut n (suc d) a = linkA t g cut (linkedA t g cut n d a) (n - d)
+
+unfoldable pub linkedL : List ℕ → List ℕ → ℕ → ℕ → ℕ → List ℕ → List ℕ → List ℕ
+linkedL t g cut n zero l a = l
+linkedL t g cut n (suc d) l a = linkL t g cut (linkedL t g cut n d l a) (linkedA t g cut n d a) (n - d)
+
+-- the run area of the first state, once all events are linked: the least phase of an orphan is set
+unfoldable pub beginA : List ℕ → List ℕ → List ℕ
+beginA t a = set a lowPlace (lowOf t a (getD t 0 0))

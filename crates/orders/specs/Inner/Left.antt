@@ -1,0 +1,20 @@
+-- What carrying out an order leaves. No public contract cites this.
+use Prim.Native.Nat.{ℕ, _<_, suc}
+use mathlib.Core.Path.{_≡_}
+use mathlib.Core.List.{List}
+use Rattle.theory.specs.Line.{Run}
+use Rattle.theory.specs.Order.{Outcome, carriedOut, refused, carry}
+use Rattle.theory.specs.Inner.Flow.{Inv}
+use Rattle.machine.specs.Inner.Related.{Rel}
+use lib.ListN.{drop}
+use Rattle.theory.specs.Replay.{State}
+
+-- an order carried out: place 0, and the area stands for the state it comes to; refused: its place
+unfoldable pub Left : Run → List ℕ → Outcome → ℕ → Type 0
+Left R a (carriedOut s) r = (r ≡ 0) × Rel R a s × Inv R s
+Left R a (refused i) r = (r ≡ i) × (0 < i)
+
+module _ (R : Run) where
+  -- what is still to do of an order, i of its choices done: from the state that the area stands for it comes to w
+  abbrev pub Live : List ℕ → ℕ → List ℕ → Outcome → Type 0
+  Live a i ns w = (s : State) × Rel R a s × Inv R s × (carry R s (suc i) (drop i ns) ≡ w)

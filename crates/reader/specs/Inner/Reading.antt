@@ -1,0 +1,47 @@
+-- What the reader's loop holds between two lines: the words it has stored, and how its outcome stands for a `Scan`; and
+-- what it makes of the first line. No public contract cites these.
+use Prim.Native.Nat.{ℕ, _+_, _<_, _≤_}
+use mathlib.Core.Path.{_≡_}
+use mathlib.Core.List.{List}
+use lib.ListN.{length, getD, set, drop}
+use Rattle.words.specs.Area.{areaWords}
+use Rattle.trace.specs.declared.Event.{Event}
+use Rattle.trace.specs.Trace.{Trace}
+use Rattle.trace.specs.Table.{wordOf, valueWord, eventBase, valueBase, tableWord}
+use Rattle.lines.specs.declared.Line.{Line}
+use Rattle.lines.specs.declared.Line.the-variants.{Procs, Send, Recv, Save, Failure, Malformed}
+use Rattle.reader.specs.declared.Judged.{Judged}
+use Rattle.reader.specs.declared.Judged.the-variants.{Fit, Fails, Unfit}
+use Rattle.reader.specs.declared.Scanned.{Scanned}
+use Rattle.reader.specs.declared.Scanned.the-variants.{Refused, Ended, Stopped}
+use Rattle.reader.specs.Verdict.{Scan, refused, ended, stopped, pieces}
+
+-- a process count, or none
+unfoldable pub countOnly : Line → Line
+countOnly (Procs n) = Procs n
+countOnly (Send a b v) = Malformed
+countOnly (Recv a b) = Malformed
+countOnly (Save a) = Malformed
+countOnly (Failure k m) = Malformed
+countOnly Malformed = Malformed
+
+-- the table area's first words are those of a trace
+pub record Holds (table : List ℕ) (t : Trace) : Type 0 where
+  pub size : length table ≡ areaWords
+  pub words : (k : ℕ) → k < areaWords → getD table k 0 ≡ tableWord t k
+
+-- the table after event n + 1 is stored
+abbrev pub appended : List ℕ → ℕ → Event → List ℕ
+appended table n e = set (set (set table 1 (n + 1)) (eventBase + (n + 1)) (wordOf e)) (valueBase + (n + 1)) (valueWord e)
+
+-- where the lines end at a line that is no fit event: line k, and the place after it
+abbrev pub stopOf : Judged → ℕ → ℕ → Scanned
+stopOf (Fit e) k next = Refused 0 k
+stopOf (Fails step set) k next = Stopped step set k next
+stopOf (Unfit n) k next = Refused n k
+
+-- the loop's outcome and table are those of a scan
+unfoldable pub ScanOutcome : List ℕ → Scan → Scanned → List ℕ → Type 0
+ScanOutcome text (refused n k) r table = (r ≡ Refused n k) × (length table ≡ areaWords)
+ScanOutcome text (ended t k) r table = (r ≡ Ended k) × Holds table t
+ScanOutcome text (stopped t step set k rest) r table = (at : ℕ) × (r ≡ Stopped step set k at) × (rest ≡ pieces (drop at text)) × Holds table t × (k ≤ 2050)
