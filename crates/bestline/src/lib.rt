@@ -1,7 +1,7 @@
 // Every line of two or three processes, and the best of those that lose nothing, by trying them all. It names nothing
 // of the engine. Assumes nothing.
 ghost use mathlib.Core.Path.{_≡_};
-ghost use Prim.Native.Nat.{_+_, _*_, _≤_, _<_};
+ghost use Prim.Native.Nat.{_+_, _≤_, _<_};
 ghost use Rattle.bruteforce.specs.Counts.{SmallRun, spare};
 use bruteforce::Failure;
 use bruteforce::STAYS;

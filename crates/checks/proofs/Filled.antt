@@ -1,10 +1,10 @@
 -- Laws of patterns: a byte of one more, the last, and that no place past the buffer is answered.
 use Prim.Native.Nat.{ℕ, _+_, _-_, _<_, _≤_}
-use mathlib.Core.Path.{_≡_, refl, sym, ap, _∙_}
+use mathlib.Core.Path.{_≡_}
 use mathlib.Core.List.{List, [], _∷_, _++_}
 use native.Mathlib.Omega.{arith}
 use native.Mathlib.Numerals.{add-one}
-use lib.ListN.{length, getD, take, drop, set, length-set, drop-of-length-le}
+use lib.ListN.{length, getD, take, drop, length-set, drop-of-length-le}
 use lib.Seq.{drop-cons}
 use borrow.Author.Tests.{eq-eqb, ne-eqb, lt-ltb, le-ltb}
 use Rattle.words.proofs.Cases.{by-lt}
@@ -12,7 +12,7 @@ use Rattle.text.specs.Number.{decimal}
 use Rattle.writer.specs.Inner.Puts.{Laid, putOne, puts, Puts}
 use Rattle.writer.specs.Buffer.{room}
 use Rattle.writer.proofs.Buffers.{none, then, same-bytes, whole}
-use Rattle.checks.specs.Filled.{piece, takes, filled, Fills}
+use Rattle.checks.specs.Inner.Filled.{piece, takes, filled, Fills}
 
 pub piece-number : (b v : ℕ) → b ≡ 35 → decimal v ≡ piece b v
 unfolding piece

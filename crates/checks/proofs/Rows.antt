@@ -1,5 +1,5 @@
 -- Laws of rows: one for each way the search for a byte goes, over the values that the code has.
-use Prim.Native.Nat.{ℕ, suc, _+_, _<_, _≤_}
+use Prim.Native.Nat.{ℕ, _+_, _<_, _≤_}
 use mathlib.Core.Path.{_≡_, sym, ap, _∙_}
 use mathlib.Core.List.{List}
 use native.Mathlib.Omega.{arith}
@@ -10,7 +10,7 @@ use borrow.Author.Tests.{eq-eqb, ne-eqb, lt-ltb, le-ltb}
 use Rattle.text.specs.declared.Num.{Num}
 use Rattle.text.specs.declared.Num.the-variants.{Value, Refused}
 use Rattle.text.specs.Number.{numberAt}
-use Rattle.checks.specs.Rows.{before, rowPlace, Place, fieldPlace, orNone, numberOf}
+use Rattle.checks.specs.Inner.Rows.{before, rowPlace, Place, fieldPlace, orNone, numberOf}
 
 module _ (b from : ℕ) (xs : List ℕ) where
   pub place-past : length xs < from → Place b from xs (length xs)

@@ -1,2 +1,2 @@
-pub mod Rows
-pub mod Filled
+-- internal: no contract of a function that users call reaches these
+pub mod Inner

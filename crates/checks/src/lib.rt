@@ -1,14 +1,14 @@
 // What gate programs share: the rows of their cases taken apart, rows of results put together and printed, and two
-// areas compared. Each function says what it does by a definition of specs/, for every input; no public function has
-// a `requires`. What reaches standard output no contract can say. Assumes what `libc` assumes.
+// areas compared. Each function says what it does by a definition of specs/Inner, for every input; no public function
+// has a `requires`. What reaches standard output no contract can say. Assumes what `libc` assumes.
 ghost use mathlib.Core.Bool.{true, cond};
 ghost use mathlib.Core.Path.{_≡_};
 ghost use Prim.Native.Nat.{_≤_};
 ghost use lib.ListN.{length, getD, take};
 ghost use Rattle.io.specs.Counts.{Counts};
 ghost use Rattle.writer.specs.Inner.Puts.{Puts};
-ghost use Rattle.checks.specs.Filled.{piece, takes, filled, Fills};
-ghost use Rattle.checks.specs.Rows.{Place, fieldPlace, numberOf};
+ghost use Rattle.checks.specs.Inner.Filled.{piece, takes, filled, Fills};
+ghost use Rattle.checks.specs.Inner.Rows.{Place, fieldPlace, numberOf};
 
 // What `number` answers where there is none: no number of a row is as large.
 pub const NONE: u64 = 18446744073709551615;

@@ -5,7 +5,6 @@
 // which phases and steps there are is worked out by crate `bruteforce` from the few events alone; none of the engine's
 // tables or definitions is used. Printed: how much was compared, and how much of it differs; the file `stdout` has 0.
 // Proved safe and ending. Assumes what `libc` assumes.
-ghost use mathlib.Core.Path.{_≡_};
 ghost use Prim.Native.Nat.{_≤_, _<_};
 ghost use Rattle.bruteforce.specs.Counts.{SmallRun};
 use answers::right_replay;

@@ -1,206 +1,140 @@
 -- The class of a send, by the words of the full table, is what the theory says of its message: `class-is`.
-use Prim.Native.Nat.{ℕ, zero, suc, _+_, _*_, _/_, _%_, _<_, _≤_}
+use Prim.Native.Nat.{ℕ, _+_, _<_, _≤_}
 use mathlib.Core.Path.{_≡_, refl, sym, ap, _∙_}
-use mathlib.Core.Bool.{Bool, true, false, _&&_, _||_, not, cond}
-use mathlib.Core.List.{List, [], _∷_, map}
+use mathlib.Core.Bool.{Bool, true, false, _&&_, _||_, not, cond, and-false}
+use mathlib.Core.List.{List}
 use native.Mathlib.Omega.{arith}
 use lib.Dec.{leb, ltb, eqb}
-use lib.ListN.{length, getD}
+use lib.ListN.{getD}
 use borrow.Author.Tests.{le-leb, lt-leb, leb-true, lt-ltb, le-ltb, ltb-true}
-use Rattle.words.proofs.Cases.{by-bool, by-lt, and-left, and-right}
-use Rattle.trace.specs.declared.Event.{Event}
-use Rattle.trace.specs.declared.Event.the-variants.{Send, Recv, Save}
+use Rattle.words.proofs.Cases.{by-lt, clash, and-left, and-right}
 use Rattle.trace.specs.Trace.{Trace}
-use Rattle.trace.specs.Fit.{wellFormed}
-use Rattle.trace.specs.Table.{wordOf}
-use Rattle.table.proofs.Places.{word-event}
-use Rattle.theory.specs.Events.{send, kindOf, processOf, size, eventAt, at, kind, sends, recvs, sent, sendOf, recvOf}
-use Rattle.theory.specs.Epochs.{epochAt, epochOf, loggedBy, ruleOf}
-use Rattle.theory.specs.Line.{Run, sentBefore, sentAfter, received, receivedBefore, undone, lost, orphan, kept, restartIn, runAt}
-use Rattle.theory.proofs.Base.{place-there, place-le}
-use Rattle.theory.proofs.Events.{sends-is, recvs-is, sendOf-at}
-use Rattle.theory.proofs.Epochs.{epochOf-at, restart-cut}
-use Rattle.theory.proofs.WellFormed.{valid}
-use Rattle.columns.specs.Inner.Columns.{Columns}
-use Rattle.columns.proofs.Bounds.{well-few}
-use Rattle.classes.specs.Inner.Classes.{GivenRestarts, Classed}
-use Rattle.classes.specs.Inner.Words.{doneBy, classW}
-use Rattle.columns.specs.Inner.Full.{eventW, matchW}
+use Rattle.trace.specs.Table.{peerIn}
+use Rattle.theory.specs.Events.{size, sends, sent, sendOf, recvOf}
+use Rattle.theory.specs.Line.{Run, sentBefore, sentAfter, received, receivedBefore, undone, lost, orphan, kept}
+use Rattle.theory.proofs.Events.{sendOf-at}
+use Rattle.columns.specs.Inner.Columns.{Tabled}
+use Rattle.columns.specs.Inner.Full.{eventW, atW, matchW, loggedW}
+use Rattle.columns.specs.Inner.Given.{Given}
+use Rattle.columns.proofs.Full.{send-kind, send-ends, send-match-most, send-match, send-logged, recv-match}
+use Rattle.classes.specs.Inner.Classes.{upcoming, Classed}
+use Rattle.classes.specs.Inner.Words.{doneBy, classBy, classW}
 
--- the tests of specs/Line over the tests of the words: a before the sender's restart, c by the cut, b the receive
--- before the receiver's restart, d by the cut, l logged
-pub pick-class : Bool → Bool → Bool → Bool → Bool → ℕ
-pick-class a c b d l = cond a (cond b 0 (cond d (cond l 2 3) 2)) (cond c (cond b 1 0) 0)
+-- the tests of theory's specs/Line over the tests of the words: a before the sender's restart, c by the cut, b the
+-- receive before the receiver's restart, d by the cut, l logged
+pub pick-class : Bool → Bool → Bool → Bool → ℕ
+pick-class a b d l = cond a (cond b 0 (cond d (cond l 2 3) 2)) (cond b 1 4)
 
-orphan-pick : (a c b d l : Bool) → (a ≡ true → c ≡ true) → ((not a && c) && b) ≡ eqb (pick-class a c b d l) 1
+record Picked (a c b d l : Bool) : Type 0 where
+  orphans : ((not a && c) && b) ≡ eqb (pick-class a b d l) 1
+  keeps : (a && (((d && not b) && l) || not d)) ≡ eqb (pick-class a b d l) 2
+  loses : ((d && not b) && (a && not l)) ≡ eqb (pick-class a b d l) 3
+  comes : (not a && not b) ≡ eqb (pick-class a b d l) 4
+
+-- a receive before the receiver's restart is by the cut, and so is its send
+picked : (b c d a l : Bool) → (b ≡ true → c ≡ true) → (b ≡ true → d ≡ true) → Picked a c b d l
 unfolding pick-class
-orphan-pick true c true d l h = refl
-orphan-pick true c false true true h = refl
-orphan-pick true c false true false h = refl
-orphan-pick true c false false l h = refl
-orphan-pick false true true d l h = refl
-orphan-pick false true false d l h = refl
-orphan-pick false false b d l h = refl
-
-kept-pick : (a c b d l : Bool) → (b ≡ true → d ≡ true) → (a && (((d && not b) && l) || not d)) ≡ eqb (pick-class a c b d l) 2
-unfolding pick-class
-kept-pick true c true true l h = refl
-kept-pick true c true false l h = absurd (let q : false ≡ true = h refl in let z : _≡_ {A = ℕ} 0 1 = cc in let w : ⊥ = omega arith in w)
-kept-pick true c false true true h = refl
-kept-pick true c false true false h = refl
-kept-pick true c false false l h = refl
-kept-pick false true true d l h = refl
-kept-pick false true false d l h = refl
-kept-pick false false b d l h = refl
-
-lost-pick : (a c b d l : Bool) → ((d && not b) && (a && not l)) ≡ eqb (pick-class a c b d l) 3
-unfolding pick-class
-lost-pick true c true true l = refl
-lost-pick true c true false l = refl
-lost-pick true c false true true = refl
-lost-pick true c false true false = refl
-lost-pick true c false false l = refl
-lost-pick false true true true l = refl
-lost-pick false true true false l = refl
-lost-pick false true false true l = refl
-lost-pick false true false false l = refl
-lost-pick false false b true l = by-bool b (λ e. rw e) (λ e. rw e)
-lost-pick false false b false l = refl
+picked true false d a l f g = clash {b = false} (f refl) refl
+picked true true false a l f g = clash {b = false} (g refl) refl
+picked true true true true l f g = record { orphans = refl; keeps = refl; loses = refl; comes = refl }
+picked true true true false l f g = record { orphans = refl; keeps = refl; loses = refl; comes = refl }
+picked false c true true true f g = record { orphans = refl; keeps = refl; loses = refl; comes = refl }
+picked false c true true false f g = record { orphans = refl; keeps = refl; loses = refl; comes = refl }
+picked false c true false l f g = record { orphans = and-false c; keeps = refl; loses = refl; comes = refl }
+picked false c false true l f g = record { orphans = refl; keeps = refl; loses = refl; comes = refl }
+picked false c false false l f g = record { orphans = and-false c; keeps = refl; loses = refl; comes = refl }
 
 -- whether a message is logged matters only where its receive is done by the cut
-pick-logged : (a c b d l m : Bool) → (d ≡ true → l ≡ m) → pick-class a c b d l ≡ pick-class a c b d m
+pick-logged : (a b d l m : Bool) → (d ≡ true → l ≡ m) → pick-class a b d l ≡ pick-class a b d m
 unfolding pick-class
-pick-logged a c b true l m h = rw (h refl)
-pick-logged a c b false l m h = refl
+pick-logged a b true l m h = rw (h refl)
+pick-logged a b false l m h = refl
 
 not-leb : (a b : ℕ) → ltb b a ≡ not (leb a b)
 not-leb a b = by-lt b a (λ h. rw (lt-ltb b a h, lt-leb a b h)) (λ h. rw (le-ltb b a h, le-leb a b h))
 
-done-more : (m x y : ℕ) → x ≤ y → doneBy m x ≡ true → doneBy m y ≡ true
-done-more m x y h d =
-    let a = and-left (ltb 0 m) (leb m x) d in
-    let b = leb-true m x (and-right (ltb 0 m) (leb m x) d) in
-    rw (a, le-leb m y (omega arith))
+done-is : (m x : ℕ) → doneBy m x ≡ true → (0 < m) × (m ≤ x)
+done-is m x d = (ltb-true 0 m (and-left (ltb 0 m) (leb m x) d), leb-true m x (and-right (ltb 0 m) (leb m x) d))
 
-getD-mapped : (f : Event → ℕ) (es : List Event) (i : ℕ) (d : Event) → i < length es → getD (map f es) i 0 ≡ f (getD es i d)
-getD-mapped f [] i d h = absurd (let z : ⊥ = omega arith in z)
-getD-mapped f (e ∷ es) zero d h = refl
-getD-mapped f (e ∷ es) (suc i) d h = getD-mapped f es i d (omega arith)
+flag-is : (b : Bool) → eqb (cond b 1 0) 1 ≡ b
+flag-is true = refl
+flag-is false = refl
 
-send-word : (v : Event) (q : ℕ) → kindOf v ≡ send q → wordOf v ≡ processOf v % 64 + 64 * (q % 64) + 4096
-send-word (Send a b v) q h = let e : b ≡ q = cc in rw e
-send-word (Recv a b) q h = absurd (let z : _≡_ {A = ℕ} 0 1 = cc in let w : ⊥ = omega arith in w)
-send-word (Save a) q h = absurd (let z : _≡_ {A = ℕ} 0 1 = cc in let w : ⊥ = omega arith in w)
+-- a message is sent before it is received
+sent-first : (t : Trace) (full : List ℕ) (T : Tabled t full) (p q e : ℕ) → sends t p q e ≡ true → 0 < e → e ≤ size t → 0 < matchW full e → e < matchW full e
+sent-first t full T p q e s a b h =
+    let l = send-match-most t full T p q e s a b in
+    let r = send-match t full T p q e s a b h in
+    let d = recv-match t full T p q (matchW full e) (r .0) h l in
+    let n : matchW full (matchW full e) ≤ size t = omega (arith, d .1) in
+    let i : matchW full (matchW full e) ≡ e =
+    sym (sendOf-at t p q (matchW full (matchW full e)) (d .2) (d .0) n) ∙ ap (sendOf t p q) (d .3 ∙ r .1) ∙ sendOf-at t p q e s a b in
+    omega (arith, i, d .1)
 
-module _ (t : Trace) (full : List ℕ) (fit : wellFormed t ≡ true) (C : Columns t full) where
-  few : size t ≤ 2048
-  few = well-few t fit
+module _ (R : Run) (cut : ℕ) (full gates : List ℕ) (G : Given R cut full gates) (p q e : ℕ)
+    (s : sends (R .trace) p q e ≡ true) (a : 0 < e) (b : e ≤ size (R .trace)) where
+  abbrev t : Trace
+  t = R .trace
 
-  -- the word of an event
-  pub word-at : (e : ℕ) → 0 < e → e ≤ size t → eventW full e ≡ wordOf (eventAt t e)
-  unfolding eventAt
-  word-at zero a b = absurd (let z : ⊥ = omega arith in z)
-  word-at (suc i) a b =
-      C .words (16 + suc i) (omega (arith, few))
-      ∙ word-event t i (16 + suc i) (omega arith) (omega (arith, few))
-      ∙ getD-mapped wordOf (t .events) i (Save (t .procs)) b
+  abbrev k : ℕ
+  k = sent t p q e
 
-  pub send-at : (p q e : ℕ) → sends t p q e ≡ true → 0 < e → e ≤ size t → (eventW full e ≡ p + 64 * q + 4096) × (p < t .procs) × (q < t .procs) × (t .procs ≤ 64)
-  unfolding at kind
-  send-at p q e s a b =
-      let A = valid t fit in
-      let h = sends-is t p q e s in
-      let lp : p < t .procs = omega (arith, A .process-lt e a b, h .0) in
-      let lq : q < t .procs = A .peer-lt e q a b (h .1) in
-      let lN = A .few in
-      let m : q % 64 ≡ q = omega arith in
-      let n : processOf (eventAt t e) % 64 ≡ p = omega (arith, h .0) in
-      (word-at e a b ∙ send-word (eventAt t e) q (h .1) ∙ rw (n, m), lp, lq, lN)
+  abbrev m : ℕ
+  m = matchW full e
 
-  -- the receive of the message that an event sends
-  pub match-most : (p q e : ℕ) → sends t p q e ≡ true → 0 < e → e ≤ size t → matchW full e ≤ 2048
-  unfolding recvOf
-  match-most p q e s a b = omega (arith, C .match-send p q e s a b, place-le (recvs t p q) (sent t p q e) (size t), few)
+  abbrev before : Bool
+  before = leb e (R .restart p)
 
-  match-at : (p q e : ℕ) → sends t p q e ≡ true → 0 < e → e ≤ size t → 0 < recvOf t p q (sent t p q e)
-      → (recvs t p q (recvOf t p q (sent t p q e)) ≡ true) × (recvOf t p q (sent t p q e) ≤ size t)
-  unfolding recvOf
-  match-at p q e s a b h = ((place-there (recvs t p q) (sent t p q e) (size t) h) .0, place-le (recvs t p q) (sent t p q e) (size t))
+  abbrev back : Bool
+  back = doneBy m (R .restart q)
 
-  match-epoch : (p q e : ℕ) → sends t p q e ≡ true → 0 < e → e ≤ size t → 0 < recvOf t p q (sent t p q e)
-      → getD full (8212 + recvOf t p q (sent t p q e)) 0 ≡ epochAt t (ruleOf t) q (recvOf t p q (sent t p q e))
-  match-epoch p q e s a b h =
-      let m = match-at p q e s a b h in
-      C .epoch (recvOf t p q (sent t p q e)) h (m .1) ∙ ap (λ (z : ℕ). epochAt t (ruleOf t) z (recvOf t p q (sent t p q e))) ((recvs-is t p q (recvOf t p q (sent t p q e)) (m .0)) .0)
+  abbrev done : Bool
+  done = doneBy m (R .cut)
 
-  send-epoch : (p q e : ℕ) → sends t p q e ≡ true → 0 < e → e ≤ size t → getD full (8212 + e) 0 ≡ epochOf t (ruleOf t) p q (sent t p q e)
-  send-epoch p q e s a b = C .epoch e a b ∙ ap (λ (z : ℕ). epochAt t (ruleOf t) z e) ((sends-is t p q e s) .0) ∙ sym (epochOf-at t (ruleOf t) p q e s a b)
+  T : Tabled t full
+  T = G .tells .tabled
 
-module _ (t : Trace) (line : ℕ → ℕ) (full restarts : List ℕ) (cut : ℕ) (G : GivenRestarts t line full restarts cut) where
-  abbrev R : Run
-  R = runAt t cut line
+  logged-same : done ≡ true → eqb (loggedW full m) 1 ≡ R .logged p q k
+  logged-same h =
+      ap (λ (w : ℕ). eqb w 1) (send-logged t full T p q e s a b (R .logged) (G .tells .flags) ((done-is m (R .cut) h) .0)) ∙ flag-is (R .logged p q k)
 
-  module _ (p q e : ℕ) (s : sends t p q e ≡ true) (a : 0 < e) (b : e ≤ size t) where
-    k : ℕ
-    k = sent t p q e
+  class-word : classW full gates cut e ≡ pick-class before back done (R .logged p q k)
+  unfolding classW classBy pick-class
+  class-word =
+      let w = send-kind t full T e a b p q s in
+      let n = send-ends t full T p q e s a b in
+      rw (w .1, w .2, G .gated .places p (n .0), G .gated .places q (n .1), G .cut-is)
+      (unfold pick-class in pick-logged before back done (eqb (loggedW full m) 1) (R .logged p q k) logged-same)
 
-    m : ℕ
-    m = recvOf t p q (sent t p q e)
+  at-e : sendOf t p q k ≡ e
+  at-e = sendOf-at t p q e s a b
 
-    sp : Bool
-    sp = leb e (restartIn t cut line p)
+  match-is : recvOf t p q k ≡ m
+  match-is = sym (T .columns .match-send p q e s a b)
 
-    sc : Bool
-    sc = leb e cut
+  tests : Picked before (leb e (R .cut)) back done (R .logged p q k)
+  tests =
+      let L = G .tells .laws in
+      picked back (leb e (R .cut)) done before (R .logged p q k)
+      (λ h. let d = done-is m (R .restart q) h in
+      le-leb e (R .cut) (omega (arith, sent-first t full T p q e s a b (d .0), d .1, L .restart-le q)))
+      (λ h. let d = done-is m (R .restart q) h in
+      rw (lt-ltb 0 m (d .0), le-leb m (R .cut) (omega (arith, d .1, L .restart-le q))))
 
-    rb : Bool
-    rb = doneBy m (restartIn t cut line q)
+  pub class-is : Classed R p q (sent (R .trace) p q e) (classW full gates cut e)
+  unfolding orphan kept lost upcoming sentBefore sentAfter undone received receivedBefore
+  class-is = rw class-word (record {
+    is-orphan = rw (at-e, match-is, not-leb e (R .restart p)) (tests .orphans);
+    is-kept = rw (at-e, match-is, lt-ltb 0 e a) (tests .keeps);
+    is-lost = rw (at-e, match-is, lt-ltb 0 e a) (tests .loses);
+    is-upcoming = rw (at-e, match-is, not-leb e (R .restart p)) (tests .comes);
+  })
 
-    rc : Bool
-    rc = doneBy m cut
-
-    lg : Bool
-    lg = loggedBy t (ruleOf t) p q k
-
-    logged-same : rc ≡ true → ltb (getD full (8212 + e) 0) (getD full (8212 + m) 0) ≡ lg
-    unfolding rc lg k m loggedBy
-    logged-same h =
-        let l : 0 < recvOf t p q (sent t p q e) = ltb-true 0 _ (and-left (ltb 0 (recvOf t p q (sent t p q e))) (leb (recvOf t p q (sent t p q e)) cut) h) in
-        rw (send-epoch t full (G .fit) (G .columns) p q e s a b, match-epoch t full (G .fit) (G .columns) p q e s a b l)
-
-    class-word : classW full restarts cut e ≡ pick-class sp sc rb rc lg
-    unfolding classW pick-class sp sc rb rc m
-    class-word =
-        let w = send-at t full (G .fit) (G .columns) p q e s a b in
-        let f : eventW full e % 64 ≡ p = omega (arith, w .0, w .1, w .3) in
-        let h : eventW full e / 64 ≡ q + 64 = omega (arith, w .0, w .1, w .3) in
-        let g : eventW full e / 64 % 64 ≡ q = omega (arith, h, w .2, w .3) in
-        rw (f, g, G .restart p (w .1), G .restart q (w .2), G .columns .match-send p q e s a b)
-        (unfold pick-class in pick-logged (leb e (restartIn t cut line p)) (leb e cut) (doneBy m (restartIn t cut line q)) (doneBy m cut)
-        (ltb (getD full (8212 + e) 0) (getD full (8212 + m) 0)) lg logged-same)
-
-    at-e : sendOf t p q k ≡ e
-    unfolding k
-    at-e = sendOf-at t p q e s a b
-
-    orphan-is : orphan R p q k ≡ eqb (pick-class sp sc rb rc lg) 1
-    unfolding orphan sentAfter receivedBefore k m sp sc rb
-    orphan-is = rw (at-e, not-leb e (restartIn t cut line p)) (orphan-pick sp sc rb rc lg
-        (λ h. le-leb e cut (omega (arith, leb-true e (restartIn t cut line p) h, restart-cut t cut line p))))
-
-    kept-is : kept R p q k ≡ eqb (pick-class sp sc rb rc lg) 2
-    unfolding kept sentBefore undone received receivedBefore k m sp sc rb rc lg
-    kept-is = rw (at-e, lt-ltb 0 e a) (kept-pick sp sc rb rc lg (done-more m (restartIn t cut line q) cut (restart-cut t cut line q)))
-
-    lost-is : lost R p q k ≡ eqb (pick-class sp sc rb rc lg) 3
-    unfolding lost sentBefore undone received receivedBefore k m sp sc rb rc lg
-    lost-is = rw (at-e, lt-ltb 0 e a) (lost-pick sp sc rb rc lg)
-
-    pub class-is : Classed R p q (sent t p q e) (classW full restarts cut e)
-    unfolding k
-    class-is = rw class-word (orphan-is, kept-is, lost-is)
-
-pub told : (full restarts : List ℕ) (cut e r : ℕ) → r ≡ classW full restarts cut e
-    → (r ≡ classW full restarts cut e) × ((t : Trace) (line : ℕ → ℕ) (p q : ℕ) → GivenRestarts t line full restarts cut → sends t p q e ≡ true → 0 < e → e ≤ size t
-    → Classed (runAt t cut line) p q (sent t p q e) r)
-told full restarts cut e r h = (h, λ t line p q G s a b. rw h (class-is t line full restarts cut G p q e s a b))
+-- what `class_at` promises, from the words that it has: the event's word, the peer q, the two restarts, the receive
+pub told : (full gates : List ℕ) (cut e w q sender receiver m r : ℕ) → w ≡ eventW full e → q ≡ peerIn w
+    → sender ≡ getD gates (64 + atW full e) 0 → receiver ≡ getD gates (64 + q) 0 → m ≡ matchW full e → r ≡ classBy e m sender receiver cut (loggedW full m)
+    → (r ≡ classW full gates cut e) × ((R : Run) (p q : ℕ) → Given R cut full gates → sends (R .trace) p q e ≡ true → 0 < e → e ≤ size (R .trace)
+    → Classed R p q (sent (R .trace) p q e) r)
+told full gates cut e w q sender receiver m r ew eq es er em h =
+    let i : r ≡ classW full gates cut e = unfold classW in h ∙ rw (es, er, em, eq, ew) in
+    (i, λ R p q G s a b. rw i (class-is R cut full gates G p q e s a b))

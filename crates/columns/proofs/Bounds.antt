@@ -1,6 +1,6 @@
 -- The numbers of the columns are small: an event's number is at most 2,048, a phase at most one more than the events so
 -- far.
-use Prim.Native.Nat.{ℕ, zero, suc, _<_, _≤_, _+_}
+use Prim.Native.Nat.{ℕ, zero, suc, _<_, _≤_}
 use mathlib.Core.Path.{_≡_, refl}
 use mathlib.Core.Bool.{Bool, true, false, _&&_}
 use native.Mathlib.Omega.{arith}
@@ -40,7 +40,7 @@ module _ (t : Trace) (A : Valid t) where
   phase-next x l ih z (Recv a b) e =
       by-eq z a
       (λ h. let p = partner t (A .causal) b a (suc x) (recv-here t x a b e) (omega arith) l in
-      rw (h, recv-phase t x a b e A l (p .0) (p .3) (p .1) (omega (arith, p .2)) (p .4))
+      rw (h, recv-phase t x a b e l (p .0) (p .3) (p .1) (omega (arith, p .2)) (p .4) A)
       (joined-most (ltb (epochAt t (ruleOf t) b (p .0)) (epochAt t (ruleOf t) a x)) (phaseAt t (ruleOf t) a x) (phaseAt t (ruleOf t) b (p .0)) (suc (suc x)) (omega (arith, ih x (omega arith) a)) (omega (arith, ih (p .0) (omega (arith, p .2)) b, p .2))))
       (λ n. omega (arith, recv-phase-other t x a b e z n, ih x (omega arith) z))
   phase-next x l ih z (Save a) e =

@@ -7,20 +7,20 @@ use mathlib.Core.Bool.{Bool, true, false, cond}
 use mathlib.Core.List.{List}
 use native.Mathlib.Omega.{arith}
 use lib.Dec.{leb}
-use lib.ListN.{length, getD, length-set}
+use lib.ListN.{length, getD, set, length-set}
 use lib.Seq.{getD-set-same, getD-set-other}
 use borrow.Author.Tests.{le-leb, lt-leb, lt-ltb}
 use Rattle.words.proofs.Cases.{by-eq, by-lt, clash}
 use Rattle.trace.specs.declared.Event.the-variants.{Send, Recv, Save}
 use Rattle.trace.specs.Trace.{Trace}
 use Rattle.theory.specs.Events.{send, recv, size, eventAt, at, kind, sends, recvs, sent, rcvd, sendOf, recvOf}
-use Rattle.theory.specs.Epochs.{epochAt, phaseAt, ruleOf}
+use Rattle.theory.specs.Epochs.{epochAt, phaseAt, loggedBy, ruleOf}
 use Rattle.theory.proofs.Base.{place-zero}
 use Rattle.theory.proofs.WellFormed.{Valid}
-use Rattle.theory.proofs.Events.{sends-is, recvs-is, send-of, sendOf-at, recvOf-at}
-use Rattle.columns.specs.Inner.Filling.{stored, sendFull, recvPhase, recvFull, saveFull, Filled, Working}
-use Rattle.columns.proofs.Moves.{sent-more, sent-same, rcvd-more, rcvd-same, send-at, send-here, send-recvs, send-epoch, send-phase, recv-at, recv-here, recv-else, recv-sends, recv-epoch, recv-phase, save-at, save-sends, save-recvs, save-epoch, save-phase}
-use Rattle.columns.proofs.Storing.{length-stored, stored-match, stored-other, stored-phase, stored-epoch, stored-number, Step, filled-step, by-event}
+use Rattle.theory.proofs.Events.{sends-is, recvs-is, send-of, sendOf-at, recvOf-at, sent-more, sent-same, rcvd-more, rcvd-same}
+use Rattle.columns.specs.Inner.Filling.{placed, stored, sendFull, recvLogged, recvPhase, recvFull, saveFull, Filled, Working}
+use Rattle.columns.proofs.Moves.{send-at, send-here, send-recvs, send-epoch, send-phase, recv-at, recv-here, recv-else, recv-sends, recv-epoch, recv-logged, recv-phase, save-at, save-sends, save-recvs, save-epoch, save-phase}
+use Rattle.columns.proofs.Storing.{length-placed, placed-match, placed-other, placed-phase, placed-epoch, length-stored, stored-match, stored-other, stored-phase, stored-epoch, stored-number, Step, filled-step, by-event}
 
 -- an event is on one channel only
 pub one-channel : (t : Trace) (p q a b e : ℕ) → sends t p q e ≡ true → sends t a b e ≡ true → (p ≡ a) × (q ≡ b)
@@ -69,7 +69,6 @@ module _ (t : Trace) (x : ℕ) (full : List ℕ) (F : Filled t x full) (A : Vali
       whole = length-stored full (suc x) n ep ph 0 (F .whole) most;
       others = λ k h a b c. stored-other full (suc x) n ep ph 0 (F .whole) most k a b c (λ q. omega arith);
       number-send = λ p q s. stored-number full (suc x) n ep ph 0 (F .whole) most ∙ num p q s;
-      number-recv = λ p q s. clash s (none p q);
       epoch = stored-epoch full (suc x) n ep ph 0 (F .whole) most ∙ eps;
       phase = stored-phase full (suc x) n ep ph 0 (F .whole) most ∙ phs;
       match-send = λ p q e s a b. by-event t x full next F few l
@@ -85,6 +84,8 @@ module _ (t : Trace) (x : ℕ) (full : List ℕ) (F : Filled t x full) (A : Vali
           ∙ F .match-recv p q e s a h)
           (λ s a. clash s (none p q))
           s a;
+      flags = λ e h. stored-other full (suc x) n ep ph 0 (F .whole) most (6163 + e) (λ i. omega arith) (λ i. omega arith) (λ i. omega arith) (λ i. omega arith);
+      flag = λ p q s. clash s (none p q);
     }
 
   module _ (work : List ℕ) (W : Working t x work) where
@@ -132,13 +133,22 @@ module _ (t : Trace) (x : ℕ) (full : List ℕ) (F : Filled t x full) (A : Vali
       pub oldest-found : Found t b a (rcvd t b a (suc x)) x
       oldest-found = found t b a (rcvd t b a (suc x)) x (omega (arith, rcvd-more t x b a here)) (omega (arith, rcvd-more t x b a here, waiting)) (omega arith)
 
+      sender-is : at t d ≡ b
+      sender-is = (sends-is t b a d (oldest-found .sends-it)) .0
+
+      sent-epoch : getD full (8212 + d) 0 ≡ epochAt t (ruleOf t) b d
+      sent-epoch = F .epoch d (oldest-found .later) (oldest-found .by) ∙ ap (λ (z : ℕ). epochAt t (ruleOf t) z d) sender-is
+
+      logged-is : recvLogged full work d a ≡ loggedBy t (ruleOf t) b a (rcvd t b a (suc x))
+      logged-is =
+          let f = oldest-found in
+          rw (sent-epoch, W .epochs a la) (sym (recv-logged t x a b e l d (f .sends-it) (f .later) (omega (arith, f .by)) (f .number)))
+
       pub phase-is : recvPhase full work d a ≡ phaseAt t (ruleOf t) a (suc x)
       phase-is =
           let f = oldest-found in
-          let s = (sends-is t b a d (f .sends-it)) .0 in
-          let ep : getD full (8212 + d) 0 ≡ epochAt t (ruleOf t) b d = F .epoch d (f .later) (f .by) ∙ ap (λ (z : ℕ). epochAt t (ruleOf t) z d) s in
-          let ph : getD full (10261 + d) 0 ≡ phaseAt t (ruleOf t) b d = F .phase d (f .later) (f .by) ∙ ap (λ (z : ℕ). phaseAt t (ruleOf t) z d) s in
-          rw (ep, ph, W .epochs a la, W .phases a la) (sym (recv-phase t x a b e A l d (f .sends-it) (f .later) (omega (arith, f .by)) (f .number)))
+          let ph : getD full (10261 + d) 0 ≡ phaseAt t (ruleOf t) b d = F .phase d (f .later) (f .by) ∙ ap (λ (z : ℕ). phaseAt t (ruleOf t) z d) sender-is in
+          rw (sent-epoch, ph, W .epochs a la, W .phases a la) (sym (recv-phase t x a b e l d (f .sends-it) (f .later) (omega (arith, f .by)) (f .number) A))
 
       -- another send is matched after this event as it was before
       unmatched-here : (i : ℕ) → sends t b a i ≡ true → 0 < i → i ≤ x → i ≢ d → leb (sent t b a i) (rcvd t b a x) ≡ leb (sent t b a i) (rcvd t b a (suc x))
@@ -167,40 +177,43 @@ module _ (t : Trace) (x : ℕ) (full : List ℕ) (F : Filled t x full) (A : Vali
       recv-step : Step t x full (recvFull full work (suc x) d a) F few l
       recv-step =
           let f = oldest-found in
-          let n = getD full (6163 + d) 0 in
           let ep = getD work a 0 in
           let ph = recvPhase full work d a in
-          let mid = stored full (suc x) n ep ph d in
+          let mid = placed full (suc x) ep ph d in
           let few′ : suc x ≤ 2048 = omega arith in
           let later : d < suc x = omega (arith, f .by) in
-          let lm : length mid ≡ 16384 = length-stored full (suc x) n ep ph d (F .whole) few′ in
-          let off : (k : ℕ) → k ≢ 12310 + d → getD (recvFull full work (suc x) d a) k 0 ≡ getD mid k 0 = λ k z. getD-set-other mid (12310 + d) k (suc x) 0 z in
+          let lm : length mid ≡ 14359 = length-placed full (suc x) ep ph d (F .whole) few′ in
+          let top = set mid (12310 + d) (suc x) in
+          let lt : length top ≡ 14359 = simp length-set (F .whole) in
+          let flag : ℕ = cond (recvLogged full work d a) 1 0 in
+          let off : (k : ℕ) → k ≢ 12310 + d → k ≢ 6163 + suc x → getD (recvFull full work (suc x) d a) k 0 ≡ getD mid k 0 =
+          λ k z y. getD-set-other top (6163 + suc x) k flag 0 y ∙ getD-set-other mid (12310 + d) k (suc x) 0 z in
           let two : (k : ℕ) → k ≢ 12310 + d → k ≢ 6163 + suc x → k ≢ 8212 + suc x → k ≢ 10261 + suc x → k ≢ 12310 + suc x
           → getD (recvFull full work (suc x) d a) k 0 ≡ getD full k 0 =
-          λ k z a b c g. off k z ∙ stored-other full (suc x) n ep ph d (F .whole) few′ k a b c g in
+          λ k z y b c g. off k z y ∙ placed-other full (suc x) ep ph d (F .whole) few′ k b c g in
           record {
             whole = simp length-set (F .whole);
             others = λ k h a b c. two k (λ q. omega arith) a b c (λ q. omega arith);
             number-send = λ p q s. clash s (recv-sends t x a b e p q);
-            number-recv = λ p q s. let c = one-receive t p q b a (suc x) s here in
-                rw (c .0, c .1) (off (6163 + suc x) (λ i. omega arith) ∙ stored-number full (suc x) n ep ph d (F .whole) few′
-                ∙ F .number-send b a d (f .sends-it) (f .later) (f .by) ∙ f .number);
-            epoch = off (8212 + suc x) (λ i. omega arith) ∙ stored-epoch full (suc x) n ep ph d (F .whole) few′
+            epoch = off (8212 + suc x) (λ i. omega arith) (λ i. omega arith) ∙ placed-epoch full (suc x) ep ph d (F .whole) few′
                 ∙ rw (recv-at t x a b e) (W .epochs a la ∙ sym (recv-epoch t x a b e a));
-            phase = off (10261 + suc x) (λ i. omega arith) ∙ stored-phase full (suc x) n ep ph d (F .whole) few′ ∙ rw (recv-at t x a b e) phase-is;
+            phase = off (10261 + suc x) (λ i. omega arith) (λ i. omega arith) ∙ placed-phase full (suc x) ep ph d (F .whole) few′ ∙ rw (recv-at t x a b e) phase-is;
             match-send = λ p q i s u h. by-eq i d
                 (λ j. let c = one-channel t p q b a i s (subst (λ (y : ℕ). sends t b a y ≡ true) (sym j) (f .sends-it)) in
                 let k : sent t b a d ≡ rcvd t b a (suc x) = f .number in
                 rw (c .0, c .1, j, k, le-leb (rcvd t b a (suc x)) (rcvd t b a (suc x)) (omega arith))
-                (getD-set-same mid (12310 + d) (suc x) 0 (omega arith) ∙ sym (recvOf-at t b a (suc x) here (omega arith) l)))
+                (getD-set-other top (6163 + suc x) (12310 + d) flag 0 (λ z. omega arith) ∙ getD-set-same mid (12310 + d) (suc x) 0 (omega arith) ∙ sym (recvOf-at t b a (suc x) here (omega arith) l)))
                 (λ j. let ne : i ≢ suc x = (λ z. clash (subst (λ (y : ℕ). sends t p q y ≡ true) z s) (recv-sends t x a b e p q)) in
                 two (12310 + i) (λ z. j (omega arith)) (λ z. omega arith) (λ z. omega arith) (λ z. omega arith) (λ z. ne (omega arith))
                 ∙ F .match-send p q i s u (omega (arith, ne)) ∙ ap (λ (c : Bool). cond c (recvOf t p q (sent t p q i)) 0) (unmatched p q i s u (omega (arith, ne)) j));
             match-recv = λ p q i s u h. by-eq i (suc x)
                 (λ j. let c = one-receive t p q b a i s (subst (λ (y : ℕ). recvs t b a y ≡ true) (sym j) here) in
-                rw (c .0, c .1, j) (off (12310 + suc x) (λ z. omega arith) ∙ stored-match full (suc x) n ep ph d (F .whole) few′))
+                rw (c .0, c .1, j) (off (12310 + suc x) (λ z. omega arith) (λ z. omega arith) ∙ placed-match full (suc x) ep ph d (F .whole) few′))
                 (λ j. two (12310 + i) (λ z. not-sent p q i s (omega arith)) (λ z. omega arith) (λ z. omega arith) (λ z. omega arith) (λ z. j (omega arith))
                 ∙ F .match-recv p q i s u (omega arith));
+            flags = λ i h. two (6163 + i) (λ z. omega arith) (λ z. omega arith) (λ z. omega arith) (λ z. omega arith) (λ z. omega arith);
+            flag = λ p q s. let c = one-receive t p q b a (suc x) s here in
+                rw (c .0, c .1) (getD-set-same top (6163 + suc x) flag 0 (omega (arith, lt)) ∙ ap (λ (c : Bool). cond c 1 0) logged-is);
           }
 
       pub recv-filled : Filled t (suc x) (recvFull full work (suc x) d a)

@@ -6,5 +6,6 @@ pub mod Storing
 pub mod Columns
 pub mod Others
 pub mod Work
+pub mod Full
 -- all events
 pub mod Passes

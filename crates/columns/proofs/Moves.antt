@@ -13,7 +13,7 @@ use Rattle.trace.specs.Trace.{Trace}
 use Rattle.words.proofs.Cases.{by-eq}
 use Rattle.theory.specs.Events.{size, eventAt, at, sends, recvs, sent, rcvd}
 use Rattle.theory.specs.Epochs.{Notes, joined, note, notes, epochAt, phaseAt, phaseOf, loggedBy, ruleOf}
-use Rattle.theory.proofs.Base.{eqb-self, cnt-suc, cnt-skip}
+use Rattle.theory.proofs.Base.{eqb-self}
 use Rattle.theory.proofs.WellFormed.{Valid}
 use Rattle.theory.proofs.Epochs.{phase-recv, phaseOf-send, logged-is}
 
@@ -25,22 +25,6 @@ pub elsewhere : (p q a b : ℕ) → ((p ≡ a) × (q ≡ b) → ⊥) → eqb p a
 elsewhere p q a b n = by-eq p a (λ e. by-eq q b (λ f. absurd (n (e, f))) (λ g. rw (eq-eqb p a e, ne-eqb q b g))) (λ g. rw (ne-eqb p a g))
 
 module _ (t : Trace) (x : ℕ) where
-  pub sent-more : (p q : ℕ) → sends t p q (suc x) ≡ true → sent t p q (suc x) ≡ suc (sent t p q x)
-  unfolding sent
-  sent-more p q h = cnt-suc (sends t p q) x h
-
-  pub sent-same : (p q : ℕ) → sends t p q (suc x) ≡ false → sent t p q (suc x) ≡ sent t p q x
-  unfolding sent
-  sent-same p q h = cnt-skip (sends t p q) x h
-
-  pub rcvd-more : (p q : ℕ) → recvs t p q (suc x) ≡ true → rcvd t p q (suc x) ≡ suc (rcvd t p q x)
-  unfolding rcvd
-  rcvd-more p q h = cnt-suc (recvs t p q) x h
-
-  pub rcvd-same : (p q : ℕ) → recvs t p q (suc x) ≡ false → rcvd t p q (suc x) ≡ rcvd t p q x
-  unfolding rcvd
-  rcvd-same p q h = cnt-skip (recvs t p q) x h
-
   noted : (v : Event) → eventAt t (suc x) ≡ v → notes t (ruleOf t) (suc x) ≡ note t (ruleOf t) (notes t (ruleOf t) x) (suc x) v
   unfolding notes
   noted v e = ap (note t (ruleOf t) (notes t (ruleOf t) x) (suc x)) e
@@ -98,14 +82,19 @@ module _ (t : Trace) (x : ℕ) where
     recv-phase-other z n = ap (λ (n : Notes). n .phases z) (noted (Recv a b) e) ∙ rw (ne-eqb z a n)
 
     -- the message was sent by event d, so that it carries what the columns of d say
-    pub recv-phase : Valid t → suc x ≤ size t → (d : ℕ) → sends t b a d ≡ true → 0 < d → d ≤ size t → sent t b a d ≡ rcvd t b a (suc x)
-        → phaseAt t (ruleOf t) a (suc x) ≡ joined (ltb (epochAt t (ruleOf t) b d) (epochAt t (ruleOf t) a x)) (phaseAt t (ruleOf t) a x) (phaseAt t (ruleOf t) b d)
-    recv-phase A l d s p m n =
-        phase-recv t (ruleOf t) A b a x recv-here l
-        ∙ ap (λ (k : ℕ). joined (loggedBy t (ruleOf t) b a k) (phaseAt t (ruleOf t) a x) (phaseOf t (ruleOf t) b a k)) (sym n)
-        ∙ ap (λ (c : Bool). joined c (phaseAt t (ruleOf t) a x) (phaseOf t (ruleOf t) b a (sent t b a d)))
-        (logged-is t (ruleOf t) b a d (suc x) s recv-here p (omega arith) m l n ∙ ap (λ (k : ℕ). ltb (epochAt t (ruleOf t) b d) k) (recv-epoch a))
-        ∙ ap (λ (k : ℕ). joined (ltb (epochAt t (ruleOf t) b d) (epochAt t (ruleOf t) a x)) (phaseAt t (ruleOf t) a x) k) (phaseOf-send t (ruleOf t) b a d s p m)
+    module _ (l : suc x ≤ size t) (d : ℕ) (s : sends t b a d ≡ true) (p : 0 < d) (m : d ≤ size t) (n : sent t b a d ≡ rcvd t b a (suc x)) where
+      pub recv-logged : loggedBy t (ruleOf t) b a (rcvd t b a (suc x)) ≡ ltb (epochAt t (ruleOf t) b d) (epochAt t (ruleOf t) a x)
+      recv-logged =
+          ap (loggedBy t (ruleOf t) b a) (sym n) ∙ logged-is t (ruleOf t) b a d (suc x) s recv-here p (omega arith) m l n
+          ∙ ap (λ (k : ℕ). ltb (epochAt t (ruleOf t) b d) k) (recv-epoch a)
+
+      pub recv-phase : Valid t
+          → phaseAt t (ruleOf t) a (suc x) ≡ joined (ltb (epochAt t (ruleOf t) b d) (epochAt t (ruleOf t) a x)) (phaseAt t (ruleOf t) a x) (phaseAt t (ruleOf t) b d)
+      recv-phase A =
+          phase-recv t (ruleOf t) A b a x recv-here l
+          ∙ ap (λ (c : Bool). joined c (phaseAt t (ruleOf t) a x) (phaseOf t (ruleOf t) b a (rcvd t b a (suc x)))) recv-logged
+          ∙ ap (λ (k : ℕ). joined (ltb (epochAt t (ruleOf t) b d) (epochAt t (ruleOf t) a x)) (phaseAt t (ruleOf t) a x) (phaseOf t (ruleOf t) b a k)) (sym n)
+          ∙ ap (λ (k : ℕ). joined (ltb (epochAt t (ruleOf t) b d) (epochAt t (ruleOf t) a x)) (phaseAt t (ruleOf t) a x) k) (phaseOf-send t (ruleOf t) b a d s p m)
 
   -- a checkpoint of a
   module _ (a : ℕ) (e : eventAt t (suc x) ≡ Save a) where

@@ -3,10 +3,10 @@
 use Prim.Native.Nat.{ℕ, suc, _+_, _-_, _<_, _≤_}
 use mathlib.Core.Path.{_≡_, refl, sym, subst, _∙_}
 use mathlib.Core.Logic.{_≢_}
-use mathlib.Core.Bool.{true}
+use mathlib.Core.Bool.{Bool, true, cond}
 use mathlib.Core.List.{List}
 use native.Mathlib.Omega.{arith}
-use lib.ListN.{getD}
+use lib.ListN.{getD, set}
 use lib.Seq.{getD-set-other, ext-getD}
 use Rattle.words.proofs.Cases.{by-eq, by-lt}
 use Rattle.trace.specs.declared.Event.{Event}
@@ -16,10 +16,10 @@ use Rattle.theory.specs.Events.{size, eventAt, sends, checkpoints, rcvd, sendOf
 use Rattle.theory.proofs.Base.{eqb-self}
 use Rattle.theory.proofs.WellFormed.{Valid}
 use Rattle.theory.proofs.Events.{send-not-checkpoint, recv-not-checkpoint}
-use Rattle.columns.specs.Inner.Columns.{Columns, Others}
-use Rattle.columns.specs.Inner.Filling.{stored, sendFull, recvPhase, recvFull, saveFull, Filled, Working}
+use Rattle.columns.specs.Inner.Columns.{Columns, Flagged, Others}
+use Rattle.columns.specs.Inner.Filling.{placed, sendFull, recvLogged, recvPhase, recvFull, saveFull, Filled, Working}
 use Rattle.columns.proofs.Moves.{send-here, recv-here}
-use Rattle.columns.proofs.Storing.{stored-match, stored-other, stored-number, by-event}
+use Rattle.columns.proofs.Storing.{placed-other, stored-match, stored-other, stored-number, by-event}
 use Rattle.columns.proofs.Columns.{oldest-found}
 
 -- before the first event
@@ -27,6 +27,7 @@ pub begin-others : (t : Trace) (full : List ℕ) → getD full 6163 0 ≡ 0 → 
 begin-others t full z = record {
   number-checkpoint = λ z e s u h. absurd (let y : ⊥ = omega arith in y);
   match-checkpoint = λ z e s u h. absurd (let y : ⊥ = omega arith in y);
+  free = λ k h m. refl;
   number-none = z;
   after-number = λ k h m. refl;
   after-epoch = λ k h m. refl;
@@ -35,22 +36,24 @@ begin-others t full z = record {
 }
 
 -- a table that begins as another from the number of event 1 on
-pub others-from : (t : Trace) (x : ℕ) (before mid after : List ℕ) → ((k : ℕ) → 6163 < k → getD mid k 0 ≡ getD before k 0) → Others t x mid after → Others t x before after
+pub others-from : (t : Trace) (x : ℕ) (before mid after : List ℕ) → ((k : ℕ) → 4114 ≤ k → (k ≡ 6163 → ⊥) → getD mid k 0 ≡ getD before k 0) → Others t x mid after → Others t x before after
 others-from t x before mid after same O = record {
   number-checkpoint = O .number-checkpoint;
   match-checkpoint = O .match-checkpoint;
+  free = λ k h m. O .free k h m ∙ same k h (λ i. omega arith);
   number-none = O .number-none;
-  after-number = λ k h m. O .after-number k h m ∙ same k (omega arith);
-  after-epoch = λ k h m. O .after-epoch k h m ∙ same k (omega arith);
-  after-phase = λ k h m. O .after-phase k h m ∙ same k (omega arith);
-  after-match = λ k h. O .after-match k h ∙ same k (omega arith);
+  after-number = λ k h m. O .after-number k h m ∙ same k (omega arith) (λ i. omega arith);
+  after-epoch = λ k h m. O .after-epoch k h m ∙ same k (omega arith) (λ i. omega arith);
+  after-phase = λ k h m. O .after-phase k h m ∙ same k (omega arith) (λ i. omega arith);
+  after-match = λ k h. O .after-match k h ∙ same k (omega arith) (λ i. omega arith);
 }
 
 module _ (t : Trace) (x : ℕ) (before full : List ℕ) (O : Others t x before full) (F : Filled t x full) (few : size t ≤ 2048) (l : suc x ≤ size t) where
   -- an event stores its own words, and maybe the match of a send before it; a checkpoint stores number 0 and match 0
   others-step : (next : List ℕ)
       → ((k : ℕ) → k ≢ 6163 + suc x → k ≢ 8212 + suc x → k ≢ 10261 + suc x → k ≢ 12310 + suc x
-      → ((p q d : ℕ) → sends t p q d ≡ true → 0 < d → d ≤ x → k ≢ 12310 + d) → getD next k 0 ≡ getD full k 0)
+      → ((p q d : ℕ) → sends t p q d ≡ true → 0 < d → d ≤ x → k ≢ 12310 + d)
+      → getD next k 0 ≡ getD full k 0)
       → ((z : ℕ) → checkpoints t z (suc x) ≡ true → (getD next (6163 + suc x) 0 ≡ 0) × (getD next (12310 + suc x) 0 ≡ 0)) → Others t (suc x) before next
   others-step next off new = record {
     number-checkpoint = λ z e s u h. by-event t x full next F few l (λ e. checkpoints t z e ≡ true → 0 < e → getD next (6163 + e) 0 ≡ 0) e h
@@ -62,6 +65,7 @@ module _ (t : Trace) (x : ℕ) (before full : List ℕ) (O : Others t x before f
         (λ p q d r v w i. send-not-checkpoint t p q z d e r s (omega arith))
         ∙ O .match-checkpoint z e s u g)
         (λ s u. (new z s) .1) s u;
+    free = λ k h m. off k (λ i. omega arith) (λ i. omega arith) (λ i. omega arith) (λ i. omega arith) (λ p q d r v w i. omega arith) ∙ O .free k h m;
     number-none = off 6163 (λ i. omega arith) (λ i. omega arith) (λ i. omega arith) (λ i. omega arith) (λ p q d r v w i. omega arith) ∙ O .number-none;
     after-number = λ k h m. off k (λ i. omega arith) (λ i. omega arith) (λ i. omega arith) (λ i. omega arith) (λ p q d r v w i. omega arith) ∙ O .after-number k (omega arith) m;
     after-epoch = λ k h m. off k (λ i. omega arith) (λ i. omega arith) (λ i. omega arith) (λ i. omega arith) (λ p q d r v w i. omega arith) ∙ O .after-epoch k (omega arith) m;
@@ -88,15 +92,17 @@ module _ (t : Trace) (x : ℕ) (before full : List ℕ) (O : Others t x before f
     recv-others A W a b e la lb =
         let d = sendOf t b a (rcvd t b a (suc x)) in
         let f = oldest-found t x full F A few l work W a b e la lb in
-        let mid = stored full (suc x) (getD full (6163 + d) 0) (getD work a 0) (recvPhase full work d a) d in
+        let mid = placed full (suc x) (getD work a 0) (recvPhase full work d a) d in
+        let flag : ℕ = cond (recvLogged full work d a) 1 0 in
         others-step (recvFull full work (suc x) d a)
-        (λ k m n o p s. getD-set-other mid (12310 + d) k (suc x) 0 (s b a d (f .sends-it) (f .later) (f .by))
-        ∙ stored-other full (suc x) _ _ _ d (F .whole) (omega arith) k m n o p)
+        (λ k m n o p s. getD-set-other (set mid (12310 + d) (suc x)) (6163 + suc x) k flag 0 m
+        ∙ getD-set-other mid (12310 + d) k (suc x) 0 (s b a d (f .sends-it) (f .later) (f .by))
+        ∙ placed-other full (suc x) _ _ d (F .whole) (omega arith) k n o p)
         (λ z s. absurd (recv-not-checkpoint t b a z (suc x) (suc x) (recv-here t x a b e) s refl))
 
 -- Two tables of a trace, filled from tables that were the same, are the same.
-module _ (t : Trace) (before full other : List ℕ) (C : Columns t full) (O : Others t (size t) before full) (D : Columns t other)
-    (P : Others t (size t) before other) where
+module _ (t : Trace) (L : ℕ → ℕ → ℕ → Bool) (before full other : List ℕ) (C : Columns t full) (M : Flagged t L full) (O : Others t (size t) before full)
+    (D : Columns t other) (N : Flagged t L other) (P : Others t (size t) before other) where
   abbrev Same : ℕ → Type 0
   Same k = getD full k 0 ≡ getD other k 0
 
@@ -108,7 +114,7 @@ module _ (t : Trace) (before full other : List ℕ) (C : Columns t full) (O : Ot
   same-number x h (Send a b v) e =
       let s = send-here t x a b v e in C .number-send a b (suc x) s (omega arith) h ∙ sym (D .number-send a b (suc x) s (omega arith) h)
   same-number x h (Recv a b) e =
-      let s = recv-here t x a b e in C .number-recv b a (suc x) s (omega arith) h ∙ sym (D .number-recv b a (suc x) s (omega arith) h)
+      let s = recv-here t x a b e in M b a (suc x) s (omega arith) h ∙ sym (N b a (suc x) s (omega arith) h)
   same-number x h (Save a) e =
       let s = save-here x a e in O .number-checkpoint a (suc x) s (omega arith) h ∙ sym (P .number-checkpoint a (suc x) s (omega arith) h)
 
@@ -128,7 +134,8 @@ module _ (t : Trace) (before full other : List ℕ) (C : Columns t full) (O : Ot
 
   same-word : (k : ℕ) → Same k
   same-word k =
-      by-lt k 6163 (λ h. C .words k h ∙ sym (D .words k h))
+      by-lt k 4114 (λ h. C .words k h ∙ sym (D .words k h))
+      (λ f. by-lt k 6163 (λ h. O .free k f h ∙ sym (P .free k f h))
       (λ n. by-eq k 6163 (λ e. rw e (O .number-none ∙ sym (P .number-none)))
       (λ m. by-lt 8212 k
       (λ h. by-lt 10261 k
@@ -136,7 +143,7 @@ module _ (t : Trace) (before full other : List ℕ) (C : Columns t full) (O : Ot
       (λ h. in-column 12310 k h (λ x l. same-match x l _ refl) (λ q. O .after-match k q ∙ sym (P .after-match k q)))
       (λ g. in-column 10261 k h (λ x l. C .phase (suc x) (omega arith) l ∙ sym (D .phase (suc x) (omega arith) l)) (λ q. O .after-phase k q g ∙ sym (P .after-phase k q g))))
       (λ g. in-column 8212 k h (λ x l. C .epoch (suc x) (omega arith) l ∙ sym (D .epoch (suc x) (omega arith) l)) (λ q. O .after-epoch k q g ∙ sym (P .after-epoch k q g))))
-      (λ g. in-column 6163 k (omega (arith, m)) (λ x l. same-number x l _ refl) (λ q. O .after-number k q g ∙ sym (P .after-number k q g)))))
+      (λ g. in-column 6163 k (omega (arith, m)) (λ x l. same-number x l _ refl) (λ q. O .after-number k q g ∙ sym (P .after-number k q g))))))
 
   pub same-table : full ≡ other
   same-table = ext-getD 0 full other (C .whole ∙ sym (D .whole)) (λ k h. same-word k)

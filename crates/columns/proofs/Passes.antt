@@ -7,7 +7,6 @@ use native.Mathlib.Omega.{arith}
 use lib.ListN.{length, getD, set, replicate}
 use lib.Seq.{getD-set-other}
 use borrow.Author.Tests.{le-leb, lt-leb, le-ltb}
-use Rattle.words.specs.Area.{areaWords}
 use Rattle.words.proofs.Area.{zero-word}
 use Rattle.words.proofs.Cases.{by-eq, by-lt}
 use Rattle.trace.specs.declared.Event.{Event}
@@ -20,7 +19,7 @@ use Rattle.theory.specs.Epochs.{notes, epochAt, phaseAt, ruleOf}
 use Rattle.theory.proofs.Base.{place-le, place-there, cnt-le, cnt-bound}
 use Rattle.theory.proofs.Events.{sends-is, partner}
 use Rattle.theory.proofs.WellFormed.{Valid}
-use Rattle.columns.specs.Inner.Columns.{Columns, Others}
+use Rattle.columns.specs.Inner.Columns.{fullWords, Columns, Others}
 use Rattle.columns.specs.Inner.Filling.{noteFull, noteWork, Notable, Filled, Working}
 use Rattle.columns.proofs.Moves.{send-here, send-at, recv-here, recv-at, save-at}
 use Rattle.columns.proofs.Bounds.{sendOf-most, phase-most, epoch-most}
@@ -31,17 +30,17 @@ use Rattle.columns.proofs.Work.{send-working, recv-working, save-workin
 -- ---- Before the first event
 
 module _ (t : Trace) where
-  pub begin-filled : (full : List ℕ) → length full ≡ areaWords → ((k : ℕ) → k < 6163 → getD full k 0 ≡ tableWord t k) → getD full 6163 0 ≡ 0 → Filled t 0 full
+  pub begin-filled : (full : List ℕ) → length full ≡ fullWords → ((k : ℕ) → k < 4114 → getD full k 0 ≡ tableWord t k) → getD full 6163 0 ≡ 0 → Filled t 0 full
   begin-filled full l w z = record {
     whole = l;
     words = w;
     number-none = z;
     number-send = λ p q e s u h. absurd (let y : ⊥ = omega arith in y);
-    number-recv = λ p q e s u h. absurd (let y : ⊥ = omega arith in y);
     epoch = λ e u h. absurd (let y : ⊥ = omega arith in y);
     phase = λ e u h. absurd (let y : ⊥ = omega arith in y);
     match-send = λ p q e s u h. absurd (let y : ⊥ = omega arith in y);
     match-recv = λ p q e s u h. absurd (let y : ⊥ = omega arith in y);
+    flags = λ p q e s u h. absurd (let y : ⊥ = omega arith in y);
   }
 
   no-sent : (p q : ℕ) → sent t p q 0 ≡ 0
@@ -68,6 +67,7 @@ module _ (t : Trace) where
     oldest = λ p q lp lq. none (128 + (64 * p + q)) (omega arith) ∙ rw (le-ltb (rcvd t p q 0) (sent t p q 0) (omega (arith, no-sent p q, no-rcvd p q)));
     latest = λ p q lp lq. none (4224 + (64 * p + q)) (omega arith) ∙ rw (no-sent p q) (sym (no-message t p q));
     next = λ p q d s u h. absurd (let y : ⊥ = omega arith in y);
+    fresh = λ d h. none (8320 + d) (omega arith);
   }
 
 -- ---- One event
@@ -93,21 +93,31 @@ module _ (t : Trace) (A : Valid t) (few : size t ≤ 2048) (x : ℕ) (l : suc x 
       let la = process-few a (send-at t x a b v e) in
       let lb = receiver-few a b v e in
       let d = W .latest a b la lb in
-      (la, lb, rw d (omega (arith, sendOf-most t A a b (sent t a b x))), rw (d, latest-number t x full F A few l work W a b) (omega (arith, sent-most a b)))
+      record {
+        at-lt = la;
+        to-lt = lb;
+        latest-most = rw d (omega (arith, sendOf-most t A a b (sent t a b x)));
+        number-few = rw (d, latest-number t x full F A few l work W a b) (omega (arith, sent-most a b));
+      }
   notable (Recv a b) e =
       let la = process-few a (recv-at t x a b e) in
       let lb = sender-few a b e in
       let d = oldest-is t x full F A few l work W a b e la lb in
-      let f = oldest-found t x full F A few l work W a b e la lb in (
-        la,
-        lb,
-        rw d (omega (arith, f .by)),
-        rw (d, F .phase (sendOf t b a (rcvd t b a (suc x))) (f .later) (f .by))
-            (omega (arith, f .by, phase-most t A (at t (sendOf t b a (rcvd t b a (suc x)))) (sendOf t b a (rcvd t b a (suc x))) (omega (arith, f .by)))),
-      )
+      let f = oldest-found t x full F A few l work W a b e la lb in
+      let m = sendOf t b a (rcvd t b a (suc x)) in
+      record {
+        at-lt = la;
+        from-lt = lb;
+        oldest-most = rw d (omega (arith, f .by));
+        phase-few = rw (d, F .phase m (f .later) (f .by)) (omega (arith, f .by, phase-most t A (at t m) m (omega (arith, f .by))));
+      }
   notable (Save a) e =
       let la = process-few a (save-at t x a e) in
-      (la, rw (W .epochs a la) (omega (arith, epoch-most t A a x (omega arith))), rw (W .phases a la) (omega (arith, phase-most t A a x (omega arith))))
+      record {
+        at-lt = la;
+        epoch-few = rw (W .epochs a la) (omega (arith, epoch-most t A a x (omega arith)));
+        phase-few = rw (W .phases a la) (omega (arith, phase-most t A a x (omega arith)));
+      }
 
   pub next-filled : (v : Event) → eventAt t (suc x) ≡ v → Filled t (suc x) (noteFull full work (suc x) v)
   next-filled (Send a b v) e = send-filled t x full F A few l work W a b v e (process-few a (send-at t x a b v e)) (receiver-few a b v e)
@@ -148,7 +158,6 @@ filled-columns t full F = record {
   whole = F .whole;
   words = F .words;
   number-send = F .number-send;
-  number-recv = F .number-recv;
   epoch = F .epoch;
   phase = F .phase;
   match-send = λ p q e s u h. F .match-send p q e s u h ∙ by-lt (rcvd t p q (size t)) (sent t p q e)
@@ -158,10 +167,10 @@ filled-columns t full F = record {
 }
 
 -- the copy leaves the words from the number of event 1 on
-pub copied-others : (t : Trace) (x : ℕ) (before full after : List ℕ) → ((k : ℕ) → 6163 < k → getD full k 0 ≡ getD before k 0)
+pub copied-others : (t : Trace) (x : ℕ) (before full after : List ℕ) → ((k : ℕ) → 4114 ≤ k → getD full k 0 ≡ getD before k 0)
     → Others t x (set full 6163 0) after → Others t x before after
 copied-others t x before full after c O =
-    others-from t x before (set full 6163 0) after (λ k h. getD-set-other full 6163 k 0 0 (λ z. omega arith) ∙ c k h) O
+    others-from t x before (set full 6163 0) after (λ k h n. getD-set-other full 6163 k 0 0 n ∙ c k h) O
 
 pub begun-working : (t : Trace) (work : List ℕ) → length work ≡ 10369 → ((k : ℕ) → k < 128 → getD work k 0 ≡ 1)
     → ((k : ℕ) → 128 ≤ k → getD work k 0 ≡ getD (replicate 10369 0) k 0) → Working t 0 work

@@ -15,9 +15,9 @@ use Rattle.trace.specs.declared.Event.the-variants.{Send, Recv, Save}
 use Rattle.trace.specs.Trace.{Trace}
 use Rattle.theory.specs.Events.{size, eventAt, at, sends, sent, rcvd, sendOf}
 use Rattle.theory.proofs.WellFormed.{Valid}
-use Rattle.theory.proofs.Events.{sendOf-at, sent-le}
+use Rattle.theory.proofs.Events.{sendOf-at, sent-le, sent-more, sent-same, rcvd-same}
 use Rattle.columns.specs.Inner.Filling.{orNew, sendWork, recvPhase, recvWork, saveWork, Filled, Working}
-use Rattle.columns.proofs.Moves.{sent-more, sent-same, rcvd-same, send-here, send-else, send-recvs, send-epoch, send-phase, recv-else, recv-sends, recv-epoch, recv-phase-other, save-sends, save-recvs, save-epoch, save-epoch-other, save-phase, save-phase-other}
+use Rattle.columns.proofs.Moves.{send-here, send-else, send-recvs, send-epoch, send-phase, recv-else, recv-sends, recv-epoch, recv-phase-other, save-sends, save-recvs, save-epoch, save-epoch-other, save-phase, save-phase-other}
 use Rattle.columns.proofs.Columns.{one-channel, no-message, found, oldest-found, phase-is}
 
 -- this channel, or another
@@ -68,10 +68,7 @@ module _ (t : Trace) (x : ℕ) (work : List ℕ) (W : Working t x work) (A : Val
     w₁ = set work (8320 + d) (suc x)
 
     w₂ : List ℕ
-    w₂ = set w₁ (8320 + suc x) 0
-
-    w₃ : List ℕ
-    w₃ = set w₂ (4224 + (64 * a + b)) (suc x)
+    w₂ = set w₁ (4224 + (64 * a + b)) (suc x)
 
     l₁ : length w₁ ≡ 10369
     unfolding w₁
@@ -81,10 +78,6 @@ module _ (t : Trace) (x : ℕ) (work : List ℕ) (W : Working t x work) (A : Val
     unfolding w₁ w₂
     l₂ = simp length-set (W .whole)
 
-    l₃ : length w₃ ≡ 10369
-    unfolding w₁ w₂ w₃
-    l₃ = simp length-set (W .whole)
-
     abbrev old : ℕ
     old = getD work (128 + (64 * a + b)) 0
 
@@ -92,35 +85,30 @@ module _ (t : Trace) (x : ℕ) (work : List ℕ) (W : Working t x work) (A : Val
     next = sendWork work (suc x) a b
 
     -- the words that the send leaves
-    others : (k : ℕ) → k ≢ 8320 + d → k ≢ 8320 + suc x → k ≢ 4224 + (64 * a + b) → k ≢ 128 + (64 * a + b) → getD next k 0 ≡ getD work k 0
-    unfolding w₁ w₂ w₃
-    others k n₁ n₂ n₃ n₄ =
-        getD-set-other w₃ (128 + (64 * a + b)) k (orNew old (suc x)) 0 n₄ ∙ getD-set-other w₂ (4224 + (64 * a + b)) k (suc x) 0 n₃
-        ∙ getD-set-other w₁ (8320 + suc x) k 0 0 n₂ ∙ getD-set-other work (8320 + d) k (suc x) 0 n₁
+    others : (k : ℕ) → k ≢ 8320 + d → k ≢ 4224 + (64 * a + b) → k ≢ 128 + (64 * a + b) → getD next k 0 ≡ getD work k 0
+    unfolding w₁ w₂
+    others k n₁ n₂ n₃ =
+        getD-set-other w₂ (128 + (64 * a + b)) k (orNew old (suc x)) 0 n₃ ∙ getD-set-other w₁ (4224 + (64 * a + b)) k (suc x) 0 n₂
+        ∙ getD-set-other work (8320 + d) k (suc x) 0 n₁
 
     at-oldest : getD next (128 + (64 * a + b)) 0 ≡ orNew old (suc x)
-    unfolding w₁ w₂ w₃
-    at-oldest = getD-set-same w₃ (128 + (64 * a + b)) (orNew old (suc x)) 0 (omega (arith, l₃))
+    unfolding w₁ w₂
+    at-oldest = getD-set-same w₂ (128 + (64 * a + b)) (orNew old (suc x)) 0 (omega (arith, l₂))
 
     at-latest : getD next (4224 + (64 * a + b)) 0 ≡ suc x
-    unfolding w₁ w₂ w₃
+    unfolding w₁ w₂
     at-latest =
-        getD-set-other w₃ (128 + (64 * a + b)) (4224 + (64 * a + b)) (orNew old (suc x)) 0 (λ q. omega arith)
-        ∙ getD-set-same w₂ (4224 + (64 * a + b)) (suc x) 0 (omega (arith, l₂))
+        getD-set-other w₂ (128 + (64 * a + b)) (4224 + (64 * a + b)) (orNew old (suc x)) 0 (λ q. omega arith)
+        ∙ getD-set-same w₁ (4224 + (64 * a + b)) (suc x) 0 (omega (arith, l₁))
 
     at-new : getD next (8320 + suc x) 0 ≡ 0
-    unfolding w₁ w₂ w₃
-    at-new =
-        getD-set-other w₃ (128 + (64 * a + b)) (8320 + suc x) (orNew old (suc x)) 0 (λ q. omega arith)
-        ∙ getD-set-other w₂ (4224 + (64 * a + b)) (8320 + suc x) (suc x) 0 (λ q. omega arith)
-        ∙ getD-set-same w₁ (8320 + suc x) 0 0 (omega (arith, l₁))
+    at-new = others (8320 + suc x) (λ q. omega (arith, d-most)) (λ q. omega arith) (λ q. omega arith) ∙ W .fresh (suc x) (omega arith)
 
     at-d : getD next (8320 + d) 0 ≡ suc x
-    unfolding w₁ w₂ w₃
+    unfolding w₁ w₂
     at-d =
-        getD-set-other w₃ (128 + (64 * a + b)) (8320 + d) (orNew old (suc x)) 0 (λ q. omega arith)
-        ∙ getD-set-other w₂ (4224 + (64 * a + b)) (8320 + d) (suc x) 0 (λ q. omega arith)
-        ∙ getD-set-other w₁ (8320 + suc x) (8320 + d) 0 0 (λ q. omega (arith, d-most))
+        getD-set-other w₂ (128 + (64 * a + b)) (8320 + d) (orNew old (suc x)) 0 (λ q. omega arith)
+        ∙ getD-set-other w₁ (4224 + (64 * a + b)) (8320 + d) (suc x) 0 (λ q. omega arith)
         ∙ getD-set-same work (8320 + d) (suc x) 0 (omega (arith, W .whole, d-most))
 
     -- the oldest send in transit is the one that was, or the new one where none was
@@ -144,7 +132,7 @@ module _ (t : Trace) (x : ℕ) (work : List ℕ) (W : Working t x work) (A : Val
         rw (g, lt-ltb (sent t a b x) (sent t a b (suc x)) (omega (arith, m))) new-is in
         ap (λ (y : ℕ). getD next (8320 + y) 0) (d-last i s u h g) ∙ at-d ∙ sym z)
         (λ g. let k : sent t a b i < sent t a b x = omega (arith, g, sent-le t a b i x h) in
-        others (8320 + i) (λ y. g (d-number i s u (omega arith))) (λ y. omega arith) (λ y. omega arith) (λ y. omega arith)
+        others (8320 + i) (λ y. g (d-number i s u (omega arith))) (λ y. omega arith) (λ y. omega arith)
         ∙ W .next a b i s u h ∙ rw (lt-ltb (sent t a b i) (sent t a b x) k, lt-ltb (sent t a b i) (sent t a b (suc x)) (omega (arith, m))))
 
     pub send-working : Working t (suc x) next
@@ -153,22 +141,23 @@ module _ (t : Trace) (x : ℕ) (work : List ℕ) (W : Working t x work) (A : Val
         let m = sent-more t x a b here in
         record {
           whole = simp length-set (W .whole);
-          epochs = λ z lz. others z (λ q. omega arith) (λ q. omega arith) (λ q. omega arith) (λ q. omega arith) ∙ W .epochs z lz ∙ sym (send-epoch t x a b v e z);
-          phases = λ z lz. others (64 + z) (λ q. omega arith) (λ q. omega arith) (λ q. omega arith) (λ q. omega arith) ∙ W .phases z lz ∙ sym (send-phase t x a b v e z);
+          epochs = λ z lz. others z (λ q. omega arith) (λ q. omega arith) (λ q. omega arith) ∙ W .epochs z lz ∙ sym (send-epoch t x a b v e z);
+          phases = λ z lz. others (64 + z) (λ q. omega arith) (λ q. omega arith) (λ q. omega arith) ∙ W .phases z lz ∙ sym (send-phase t x a b v e z);
           oldest = λ p q lp lq. by-channel p q a b
               (λ g h. rw (g, h, at-oldest, oldest-new, r, lt-ltb (rcvd t a b x) (sent t a b (suc x)) (omega (arith, m, A .causal a b x (omega arith)))))
-              (λ n. others (128 + (64 * p + q)) (λ i. omega arith) (λ i. omega arith) (λ i. omega arith) (λ i. n (omega arith, omega arith))
+              (λ n. others (128 + (64 * p + q)) (λ i. omega arith) (λ i. omega arith) (λ i. n (omega arith, omega arith))
               ∙ W .oldest p q lp lq ∙ rw (sent-same t x p q (send-else t x a b v e p q n), rcvd-same t x p q (send-recvs t x a b v e p q)));
           latest = λ p q lp lq. by-channel p q a b
               (λ g h. rw (g, h, at-latest, m) (sym new-is))
-              (λ n. others (4224 + (64 * p + q)) (λ i. omega arith) (λ i. omega arith) (λ i. n (omega arith, omega arith)) (λ i. omega arith)
+              (λ n. others (4224 + (64 * p + q)) (λ i. omega arith) (λ i. n (omega arith, omega arith)) (λ i. omega arith)
               ∙ W .latest p q lp lq ∙ rw (sent-same t x p q (send-else t x a b v e p q n)));
           next = λ p q i s u h. by-eq i (suc x)
               (λ j. rw (j, at-new, le-ltb (sent t p q (suc x)) (sent t p q (suc x)) (omega arith)))
               (λ j. by-channel p q a b
               (λ g k. rw (g, k) (next-here i (rw (g, k) at s) u (omega (arith, j))))
-              (λ n. others (8320 + i) (λ y. d-else p q i s u n (omega arith)) (λ y. j (omega arith)) (λ y. omega arith) (λ y. omega arith)
+              (λ n. others (8320 + i) (λ y. d-else p q i s u n (omega arith)) (λ y. omega arith) (λ y. omega arith)
               ∙ W .next p q i s u (omega (arith, j)) ∙ rw (sent-same t x p q (send-else t x a b v e p q n))));
+          fresh = λ i h. others (8320 + i) (λ y. omega (arith, d-most)) (λ y. omega arith) (λ y. omega arith) ∙ W .fresh i (omega arith);
         }
 
   -- ---- a receive of a from b, whose message is sent by d
@@ -218,6 +207,7 @@ module _ (t : Trace) (x : ℕ) (work : List ℕ) (W : Working t x work) (A : Val
           next = λ p q i s u h. by-eq i (suc x)
               (λ j. clash (subst (λ (y : ℕ). sends t p q y ≡ true) j s) (none p q))
               (λ j. kept (8320 + i) (λ y. omega arith) (λ y. omega arith) ∙ W .next p q i s u (omega (arith, j)) ∙ rw (sent-same t x p q (none p q)));
+          fresh = λ i h. kept (8320 + i) (λ y. omega arith) (λ y. omega arith) ∙ W .fresh i (omega arith);
         }
 
   -- ---- a checkpoint of a
@@ -259,4 +249,5 @@ module _ (t : Trace) (x : ℕ) (work : List ℕ) (W : Working t x work) (A : Val
           next = λ p q i s u h. by-eq i (suc x)
               (λ j. clash (subst (λ (y : ℕ). sends t p q y ≡ true) j s) (none p q))
               (λ j. same (8320 + i) (λ y. omega arith) (λ y. omega arith) ∙ W .next p q i s u (omega (arith, j)) ∙ rw (sent-same t x p q (none p q)));
+          fresh = λ i h. same (8320 + i) (λ y. omega arith) (λ y. omega arith) ∙ W .fresh i (omega arith);
         }

@@ -1,3 +1,4 @@
 pub mod Columns
 pub mod Full
 pub mod Filling
+pub mod Given

@@ -1,14 +1,17 @@
-// The full table of a trace: for each event the number of its message, the epoch and the phase of its process, and the
-// event that it is matched with. specs/Columns says what each word means; the functions store what one event adds, by
-// specs/Filling, and proofs/Passes says that event by event that makes the columns. Assumes nothing.
+// The full table of a trace: for each send the number of its message, for each event the epoch and the phase of its
+// process and the event that it is matched with, for each receive whether its message is logged. specs/Inner/Columns
+// says what each word means; the functions store what one event adds, by specs/Inner/Filling, and proofs/Passes says
+// that event by event that makes the columns. specs/Inner/Given says what the table and the gates of a line tell of a
+// run, for all that reads them. Assumes nothing.
 ghost use mathlib.Core.Path.{_≡_};
 ghost use Prim.Native.Nat.{max, _≤_, _<_};
 ghost use lib.Dec.{ltb};
 ghost use lib.ListN.{length, getD};
-ghost use Rattle.words.specs.Area.{areaWords};
 ghost use Rattle.trace.specs.declared.Event.the-variants.{Send, Recv, Save};
 ghost use Rattle.theory.specs.Epochs.{joined};
-ghost use Rattle.columns.specs.Inner.Filling.{stored, orNew, sendFull, sendWork, recvFull, recvWork, saveFull, saveWork, noteFull, noteWork, oldestOf, Notable, Storable};
+ghost use Rattle.columns.specs.Inner.Columns.{fullWords};
+ghost use Rattle.columns.specs.Inner.Full.{procsW, matchW};
+ghost use Rattle.columns.specs.Inner.Filling.{placed, stored, orNew, sendFull, sendWork, recvFull, recvWork, saveFull, saveWork, noteFull, noteWork, oldestOf, Notable, Storable};
 use trace::Event;
 
 // Where the columns of the full table begin: the word of event e is at the base + e.
@@ -19,6 +22,20 @@ pub const EPOCH_BASE: usize = 8212;
 pub const PHASE_BASE: usize = 10261;
 
 pub const MATCH_BASE: usize = 12310;
+
+// In the column of numbers: a receive has none of its own.
+pub const LOGGED_BASE: usize = 6163;
+
+// The words before this are those of the trace, as in the table area.
+pub const TRACE_WORDS: usize = 4114;
+
+// How many words the full table has.
+pub const FULL_WORDS: usize = 14359;
+
+// How many words the gates of a line have, and where the restarts begin in them (specs/Inner/Given: `Gated`).
+pub const GATE_WORDS: usize = 128;
+
+pub const RESTART_BASE: usize = 64;
 
 // Where the working words begin: each process's phase, each channel's oldest and latest send, each send's next on its
 // channel. They have 16 bits, so that they take less to clear.
@@ -32,6 +49,23 @@ const NEXT: usize = 8320;
 
 pub const WORK_WORDS: usize = 10369;
 
+// The event that event e is matched with: the receive of the message that it sends, or the send of the message that it
+// receives.
+pub fn matched(full: &[u32], e: usize) -> usize
+    requires { ⌜ (length (now full) ≡ fullWords) × (e ≤ 2048) × (matchW (now full) e ≤ 2048) ⌝ }
+    ensures { λ r. ⌜ (r ≡ matchW (now (full .entry)) e) × (r ≤ 2048) ⌝ }
+{
+    full[MATCH_BASE + e] as usize
+}
+
+// How many processes the trace has.
+pub fn processes(full: &[u32]) -> usize
+    requires { ⌜ (length (now full) ≡ fullWords) × (procsW (now full) ≤ 64) ⌝ }
+    ensures { λ r. ⌜ (r ≡ procsW (now (full .entry))) × (r ≤ 64) ⌝ }
+{
+    full[0] as usize
+}
+
 // A word that is an event's number, as an index.
 fn event_no(words: &[u16], k: usize) -> usize
     requires { ⌜ (k < length (now words)) × (getD (now words) k 0 ≤ 2048) ⌝ }
@@ -40,15 +74,23 @@ fn event_no(words: &[u16], k: usize) -> usize
     words[k] as usize
 }
 
-// Stores the columns of event e.
-fn store(full: &mut [u32], e: usize, number: u32, epoch: u32, phase: u32, mate: u32)
-    requires { ⌜ (e ≤ 2048) × (length (now full) ≡ areaWords) ⌝ }
-    ensures { λ _. ⌜ now (full .exit) ≡ stored (now (full .entry)) e number epoch phase mate ⌝ }
+// Stores the columns of event e, all but its number.
+fn place(full: &mut [u32], e: usize, epoch: u32, phase: u32, mate: u32)
+    requires { ⌜ (e ≤ 2048) × (length (now full) ≡ fullWords) ⌝ }
+    ensures { λ _. ⌜ now (full .exit) ≡ placed (now (full .entry)) e epoch phase mate ⌝ }
 {
-    full[NUMBER_BASE + e] = number;
     full[EPOCH_BASE + e] = epoch;
     full[PHASE_BASE + e] = phase;
     full[MATCH_BASE + e] = mate;
+}
+
+// Stores the columns of event e.
+fn store(full: &mut [u32], e: usize, number: u32, epoch: u32, phase: u32, mate: u32)
+    requires { ⌜ (e ≤ 2048) × (length (now full) ≡ fullWords) ⌝ }
+    ensures { λ _. ⌜ now (full .exit) ≡ stored (now (full .entry)) e number epoch phase mate ⌝ }
+{
+    full[NUMBER_BASE + e] = number;
+    place(full, e, epoch, phase, mate);
 }
 
 fn or_new(old: u16, e: u16) -> u16
@@ -57,18 +99,27 @@ fn or_new(old: u16, e: u16) -> u16
     if old == 0 { e } else { old }
 }
 
-fn larger(a: u16, b: u16) -> u16
+fn larger(a: u32, b: u32) -> u32
     ensures { λ r. ⌜ r ≡ max a b ⌝ }
 {
     if a < b { b } else { a }
 }
 
-// The phase after a receive: a message sent in an epoch before the receive's is logged, and counts one more.
-fn joined_phase(sent: u32, received: u32, own: u16, carried: u16) -> u16
-    requires { ⌜ carried < 65535 ⌝ }
-    ensures { λ r. ⌜ r ≡ joined (ltb sent received) own carried ⌝ }
+// Is a message logged that was sent in one epoch and received in another: it is decided here, and every layer above
+// reads what this says.
+fn is_logged(sent: u32, received: u32) -> bool
+    ensures { λ r. ⌜ r ≡ ltb sent received ⌝ }
 {
-    if sent < received {
+    sent < received
+}
+
+// The phase after a receive: a logged message counts one more.
+fn joined_phase(logged: bool, own: u32, carried: u32) -> u32
+    requires { ⌜ (own < 65536) × (carried < 65535) ⌝ }
+    ensures phase { λ r. ⌜ r ≡ joined logged own carried ⌝ }
+    ensures bound { λ r. ⌜ r < 65536 ⌝ }
+{
+    if logged {
         larger(own, carried + 1)
     } else {
         larger(own, carried)
@@ -87,7 +138,6 @@ fn note_send(full: &mut [u32], work: &mut [u16], e: usize, a: usize, b: usize)
     let number = full[NUMBER_BASE + latest] + 1;
     store(full, e, number, work[a] as u32, work[PHASES + a] as u32, 0);
     work[NEXT + latest] = e as u16;
-    work[NEXT + e] = 0;
     work[LATEST + c] = e as u16;
     work[OLDEST + c] = oldest;
 }
@@ -102,16 +152,12 @@ fn note_recv(full: &mut [u32], work: &mut [u16], e: usize, a: usize, b: usize)
     let d = event_no(work, OLDEST + c);
     let next = work[NEXT + d];
     let epoch = work[a] as u32;
-    let phase = joined_phase(
-        full[EPOCH_BASE + d],
-        epoch,
-        work[PHASES + a],
-        full[PHASE_BASE + d] as u16,
-    );
-    let number = full[NUMBER_BASE + d];
-    store(full, e, number, epoch, phase as u32, d as u32);
+    let logged = is_logged(full[EPOCH_BASE + d], epoch);
+    let phase = joined_phase(logged, work[PHASES + a] as u32, full[PHASE_BASE + d]);
+    place(full, e, epoch, phase, d as u32);
     full[MATCH_BASE + d] = e as u32;
-    work[PHASES + a] = phase;
+    full[LOGGED_BASE + e] = words::one_if(logged);
+    work[PHASES + a] = phase as u16;
     work[OLDEST + c] = next;
 }
 

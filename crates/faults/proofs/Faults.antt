@@ -1,27 +1,29 @@
 -- The numbers 8, 9 and 10 by the words of the table and of the line.
 use mathlib.Core.Path.{_≡_, refl, sym, _∙_, ap, ap₂}
-use mathlib.Core.Bool.{Bool, true, false, _&&_, _||_, not, cond}
+use mathlib.Core.Bool.{Bool, true, false, _&&_, not, cond}
 use mathlib.Core.List.{List}
-use Prim.Native.Nat.{ℕ, zero, suc, _+_, _/_, _%_, _^_, _≤_, _<_}
+use Prim.Native.Nat.{ℕ, _+_, _/_, _%_, _^_, _≤_, _<_}
 use native.Mathlib.Omega.{arith}
 use native.Mathlib.Numerals.{add-one}
-use lib.ListN.{getD}
+use lib.ListN.{length, getD}
 use lib.Dec.{leb, ltb, eqb}
 use borrow.Author.Tests.{lt-ltb, le-ltb, le-leb, lt-leb, eq-eqb, ne-eqb}
-use Rattle.words.specs.Area.{wordsFrom}
 use Rattle.words.proofs.Area.{getD-words}
-use Rattle.words.proofs.Cases.{by-bool}
 use Rattle.trace.specs.Trace.{Trace}
 use Rattle.theory.specs.Lists.{all-below}
 use Rattle.theory.specs.Events.{size}
 use Rattle.theory.specs.Epochs.{ruleOf}
 use Rattle.theory.specs.Line.{inSet, may, current, usableAt}
-use Rattle.theory.specs.Refusals.{failureFault, permits, lineFault}
+use Rattle.theory.specs.Refusals.{failureFault, permits, numbersFault}
+use Rattle.theory.proofs.Base.{all-same}
 use Rattle.theory.proofs.Refusals.{set-shifted}
-use Rattle.columns.specs.Inner.Columns.{Tabled}
+use Rattle.columns.specs.Inner.Columns.{epochBase, Tabled}
+use Rattle.columns.specs.Inner.Full.{procsW, eventsW}
+use Rattle.positions.specs.Inner.Positions.{NewestRanged, afterW}
+use Rattle.positions.proofs.Newest.{epochs-made}
 use Rattle.recovery_line.specs.Given.{each}
-use Rattle.faults.specs.Inner.Permitted.{reachedW, mayStayW, mayW}
-use Rattle.recovery_line.proofs.Table.{fit, procs-is, size-is}
+use Rattle.faults.specs.Inner.Permitted.{reachedW, mayStayW, mayW, Judgeable}
+use Rattle.columns.proofs.Full.{fit, few, procs-is, size-is}
 
 -- ---- `names_beyond`, `has_reached`, `may_stay`, `may_hold`
 
@@ -63,11 +65,11 @@ all-next f z one all r a b e = e ∙ ap₂ (λ (x y : Bool). x && y) a b ∙ rw 
 -- ---- `failure_fault`
 
 module _ (t : Trace) (full : List ℕ) (G : Tabled t full) (step set : ℕ) where
-  pub fault-8 : getD full 1 0 < step → 8 ≡ failureFault t step set
+  pub fault-8 : eventsW full < step → 8 ≡ failureFault t step set
   unfolding failureFault
   fault-8 h = let s : ltb (size t) step ≡ true = lt-ltb (size t) step (omega (arith, size-is t full G)) in rw s
 
-  module _ (h : step ≤ getD full 1 0) where
+  module _ (h : step ≤ eventsW full) where
     in-time : ltb (size t) step ≡ false
     in-time = le-ltb (size t) step (omega (arith, size-is t full G))
 
@@ -75,7 +77,7 @@ module _ (t : Trace) (full : List ℕ) (G : Tabled t full) (step set : ℕ) wher
     unfolding failureFault
     fault-empty e = rw (in-time, eq-eqb set 0 e)
 
-    module _ (n : set ≡ 0 → ⊥) (count : ℕ) (ec : count ≡ getD full 0 0) (r : Bool) (er : r ≡ leb (2 ^ count) set) where
+    module _ (n : set ≡ 0 → ⊥) (count : ℕ) (ec : count ≡ procsW full) (r : Bool) (er : r ≡ leb (2 ^ count) set) where
       beyond : leb (2 ^ (t .procs)) set ≡ r
       beyond = ap (λ (c : ℕ). leb (2 ^ c) set) (sym (ec ∙ procs-is t full G)) ∙ sym er
 
@@ -89,63 +91,43 @@ module _ (t : Trace) (full : List ℕ) (G : Tabled t full) (step set : ℕ) wher
 
 -- ---- `line_fault`
 
-all-same : (n : ℕ) (f g : ℕ → Bool) → ((z : ℕ) → z < n → f z ≡ g z) → all-below n f ≡ all-below n g
-unfolding all-below
-all-same zero f g h = refl
-all-same (suc n) f g h = ap₂ (λ (x y : Bool). x && y) (h n (omega arith)) (all-same n f g (λ z l. h z (omega arith)))
+module _ (t : Trace) (full latest : List ℕ) (cut : ℕ) (J : Judgeable t full latest cut) (set n : ℕ) (line : ℕ → ℕ) (count : ℕ) (ec : count ≡ procsW full) where
+  count-is : count ≡ t .procs
+  count-is = ec ∙ procs-is t full (J .tabled)
 
-module _ (t : Trace) (full : List ℕ) (G : Tabled t full) (step set : ℕ) (n : ℕ) (line : ℕ → ℕ) (f : ℕ) (ef : f ≡ failureFault t step set) where
-  -- what is wrong with the failure comes first
-  pub fault-first : (f ≡ 0 → ⊥) → f ≡ lineFault t step set n line
-  unfolding failureFault lineFault
-  fault-first h =
-      by-bool (ltb (size t) step)
-      (λ a. ef ∙ rw a)
-      (λ a. by-bool (eqb set 0 || leb (2 ^ (t .procs)) set)
-      (λ b. ef ∙ rw (a, b))
-      (λ b. absurd (h (ef ∙ rw (a, b)))))
+  pub fault-count : (n ≡ count → ⊥) → 10 ≡ numbersFault t cut set n line
+  fault-count h = let s : eqb n (t .procs) ≡ false = ne-eqb n (t .procs) (λ q. h (q ∙ sym count-is)) in rw s
 
-  module _ (z : f ≡ 0) (count : ℕ) (ec : count ≡ getD full 0 0) where
-    rest : ℕ
-    rest = cond (not (eqb n (t .procs) && permits t (usableAt t step) (inSet set) line)) 10 0
+  pub ranged : (m : List ℕ) → length m ≡ 64 → NewestRanged full m latest
+  ranged m l = record {
+    whole = J .tabled .columns .whole;
+    long = l;
+    wide = J .linked .wide;
+    few = λ z h. omega (arith, J .linked .last z h .within, J .within, few t full (J .tabled));
+  }
 
-    fault-rest : rest ≡ lineFault t step set n line
-    unfolding failureFault lineFault rest
-    fault-rest =
-        by-bool (ltb (size t) step)
-        (λ a. let c : _≡_ {A = ℕ} 8 0 = sym (ef ∙ rw a) ∙ z in absurd (let y : ⊥ = omega arith in y))
-        (λ a. by-bool (eqb set 0 || leb (2 ^ (t .procs)) set)
-        (λ b. let c : _≡_ {A = ℕ} 9 0 = sym (ef ∙ rw (a, b)) ∙ z in absurd (let y : ⊥ = omega arith in y))
-        (λ b. rw (a, b)))
+  module _ (en : n ≡ count) (epochs numbers : List ℕ) (len : length epochs ≡ 64)
+      (ee : (z : ℕ) → z < 64 → getD epochs z 0 ≡ cond (ltb z count) (afterW full epochBase (getD latest z 0)) 0)
+      (ln : (z : ℕ) → z < t .procs → line z ≡ getD numbers z 0) (r : Bool) (er : r ≡ all-below count (mayW set epochs numbers)) where
+    n-is : eqb n (t .procs) ≡ true
+    n-is = eq-eqb n (t .procs) (en ∙ count-is)
 
-    pub fault-count : (n ≡ count → ⊥) → 10 ≡ lineFault t step set n line
-    unfolding rest
-    fault-count h =
-        let s : eqb n (t .procs) ≡ false = ne-eqb n (t .procs) (λ q. h (q ∙ sym (ec ∙ procs-is t full G))) in
-        (let w : 10 ≡ rest = rw s in w) ∙ fault-rest
+    epoch-at : (z : ℕ) → z < t .procs → getD epochs z 0 ≡ current t (ruleOf t) cut z
+    epoch-at z l =
+        let s : ltb (0 + z) (t .procs) ≡ true = lt-ltb (0 + z) (t .procs) (omega arith) in
+        let e : 0 + z ≡ z = omega arith in
+        let all = epochs-made t full (J .tabled) cut (J .within) count ec (J .earlier) latest epochs (J .linked) len ee in
+        ap (λ (x : List ℕ). getD x z 0) all ∙ getD-words (each t (current t (ruleOf t) cut)) 0 64 z (omega (arith, fit t full (J .tabled) .few))
+        ∙ rw s (ap (current t (ruleOf t) cut) e)
 
-    module _ (en : n ≡ count) (epochs numbers : List ℕ) (ee : epochs ≡ wordsFrom (each t (current t (ruleOf t) step)) 0 64)
-        (ln : (z : ℕ) → z < t .procs → line z ≡ getD numbers z 0) (r : Bool) (er : r ≡ all-below count (mayW set epochs numbers)) where
-      n-is : eqb n (t .procs) ≡ true
-      n-is = eq-eqb n (t .procs) (en ∙ ec ∙ procs-is t full G)
+    permits-is : permits t (usableAt t cut) (inSet set) line ≡ r
+    unfolding permits
+    permits-is =
+        all-same (t .procs) (λ z. may (usableAt t cut) (inSet set) z (line z)) (mayW set epochs numbers) (λ z l. rw (ln z l, epoch-at z l))
+        ∙ ap (λ (c : ℕ). all-below c (mayW set epochs numbers)) (sym count-is) ∙ sym er
 
-      epoch-at : (z : ℕ) → z < t .procs → getD epochs z 0 ≡ current t (ruleOf t) step z
-      epoch-at z l =
-          let s : ltb (0 + z) (t .procs) ≡ true = lt-ltb (0 + z) (t .procs) (omega arith) in
-          let e : 0 + z ≡ z = omega arith in
-          ap (λ (x : List ℕ). getD x z 0) ee ∙ getD-words (each t (current t (ruleOf t) step)) 0 64 z (omega (arith, fit t full G .few))
-          ∙ rw s (ap (current t (ruleOf t) step) e)
+    pub fault-fit : r ≡ true → 0 ≡ numbersFault t cut set n line
+    fault-fit q = rw (n-is, permits-is, q)
 
-      permits-is : permits t (usableAt t step) (inSet set) line ≡ r
-      unfolding permits
-      permits-is =
-          all-same (t .procs) (λ z. may (usableAt t step) (inSet set) z (line z)) (mayW set epochs numbers) (λ z l. rw (ln z l, epoch-at z l))
-          ∙ ap (λ (c : ℕ). all-below c (mayW set epochs numbers)) (sym (ec ∙ procs-is t full G)) ∙ sym er
-
-      pub fault-fit : r ≡ true → 0 ≡ lineFault t step set n line
-      unfolding rest
-      fault-fit q = (let w : 0 ≡ rest = rw (n-is, permits-is, q) in w) ∙ fault-rest
-
-      pub fault-10 : r ≡ false → 10 ≡ lineFault t step set n line
-      unfolding rest
-      fault-10 q = (let w : 10 ≡ rest = rw (n-is, permits-is, q) in w) ∙ fault-rest
+    pub fault-10 : r ≡ false → 10 ≡ numbersFault t cut set n line
+    fault-10 q = rw (n-is, permits-is, q)

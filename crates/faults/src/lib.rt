@@ -1,50 +1,19 @@
-// What is wrong with a failure and a line, from the full table of a trace: 8, 9, 10, or 0. The contracts are the
+// What is wrong with a failure, 8 or 9, and with a line, 10, from the full table of a trace. The contracts are the
 // theory's definitions, for every trace that the table is of. Assumes nothing.
 ghost use mathlib.Core.Path.{_≡_};
 ghost use mathlib.Core.Bool.{_&&_};
 ghost use lib.Dec.{leb};
-ghost use Prim.Native.Nat.{_^_, _≤_, _<_};
-ghost use lib.ListN.{length, getD, set};
-ghost use Rattle.words.specs.Area.{wordsFrom};
+ghost use Prim.Native.Nat.{ℕ, _^_, _≤_, _<_};
+ghost use lib.ListN.{length};
 ghost use Rattle.trace.specs.Trace.{Trace};
 ghost use Rattle.theory.specs.Lists.{all-below};
-ghost use Rattle.theory.specs.Refusals.{failureFault, lineFault};
-ghost use Rattle.theory.specs.Events.{size};
-ghost use Rattle.theory.specs.Epochs.{past, ruleOf};
-ghost use Rattle.theory.specs.Line.{current};
+ghost use Rattle.theory.specs.Refusals.{failureFault, numbersFault};
 ghost use Rattle.columns.specs.Inner.Columns.{Tabled};
-ghost use Rattle.recovery_line.specs.Given.{each, lineIn};
-ghost use Rattle.faults.specs.Inner.Permitted.{Begun, reachedW, mayStayW, mayW};
-use columns::EPOCH_BASE;
+ghost use Rattle.columns.specs.Inner.Full.{eventsW};
+ghost use Rattle.recovery_line.specs.Given.{lineIn};
+ghost use Rattle.faults.specs.Inner.Permitted.{reachedW, mayStayW, mayW, Judgeable};
 use recovery_line::Line;
 use recovery_line::STAYS;
-use trace::EVENT_BASE;
-
-// Every process begins in epoch 1; places past the last are 0.
-fn begin(epochs: &mut [u32], count: usize)
-    requires { ⌜ length (now epochs) ≡ 64 ⌝ }
-    ensures { λ _. ⌜ Begun count (now (epochs .exit)) ⌝ }
-{
-    let mut z = 0;
-    while z < 64 {
-        epochs[z] = recovery_line::one_if(z < count);
-        z += 1;
-    }
-}
-
-// The epochs of the processes at the cut.
-fn epochs_at(full: &[u32], cut: usize, epochs: &mut [u32])
-    requires { ⌜ (length (now epochs) ≡ 64) × ((t : Trace) × Tabled t (now full) × (cut ≤ size t)) ⌝ }
-    ensures { λ _. ⌜ ((t : Trace) → Tabled t (now (full .entry)) → cut ≤ size t → now (epochs .exit) ≡ wordsFrom (each t (current t (ruleOf t) cut)) 0 64) ⌝ }
-{
-    begin(epochs, recovery_line::processes(full));
-    let mut e: usize = 0;
-    while e < cut {
-        e += 1;
-        let z = trace::process(full[EVENT_BASE + e]);
-        epochs[z] = full[EPOCH_BASE + e];
-    }
-}
 
 // Does a set name a process that is none of the first `count`.
 fn names_beyond(set: u64, count: usize) -> bool
@@ -61,7 +30,7 @@ fn names_beyond(set: u64, count: usize) -> bool
 pub fn failure_fault(full: &[u32], step: u64, set: u64) -> u32
     requires { ⌜ ((t : Trace) × Tabled t (now full)) ⌝ }
     ensures number { λ r. ⌜ ((t : Trace) → Tabled t (now (full .entry)) → r ≡ failureFault t step set) ⌝ }
-    ensures within { λ r. ⌜ (r ≡ 0 → step ≤ getD (now (full .entry)) 1 0) ⌝ }
+    ensures within { λ r. ⌜ (r ≡ 0 → step ≤ eventsW (now (full .entry))) ⌝ }
 {
     let size = full[1];
     if step > size as u64 {
@@ -70,7 +39,7 @@ pub fn failure_fault(full: &[u32], step: u64, set: u64) -> u32
     if set == 0 {
         return 9;
     }
-    if names_beyond(set, recovery_line::processes(full)) {
+    if names_beyond(set, columns::processes(full)) {
         return 9;
     }
     0
@@ -128,21 +97,18 @@ fn permitted(epochs: &[u32], numbers: &[u32], count: usize, set: u64) -> bool
     all
 }
 
-// What is wrong with a failure and a line: 8, 9, 10, or 0.
-pub fn line_fault(full: &[u32], step: u64, set: u64, line: Line) -> u32
-    requires { ⌜ ((t : Trace) × Tabled t (now full)) ⌝ }
-    ensures { λ r. ⌜ ((t : Trace) → Tabled t (now (full .entry)) → r ≡ lineFault t step set (line .count) (lineIn line)) ⌝ }
+// What is wrong with a line, where nothing is with the failure: 10, or 0. `latest` has the newest event of each process
+// up to the cut.
+pub fn line_fault(full: &[u32], latest: &[u16], set: u64, line: Line) -> u32
+    requires { ⌜ ((t : Trace) × (cut : ℕ) × Judgeable t (now full) (now latest) cut) ⌝ }
+    ensures { λ r. ⌜ ((t : Trace) (cut : ℕ) → Judgeable t (now (full .entry)) (now (latest .entry)) cut → r ≡ numbersFault t cut set (line .count) (lineIn line)) ⌝ }
 {
-    let f = failure_fault(full, step, set);
-    if f != 0 {
-        return f;
-    }
-    let count = recovery_line::processes(full);
+    let count = columns::processes(full);
     if line.count != count {
         return 10;
     }
     let mut epochs = [0u32; 64];
-    epochs_at(full, step as usize, &mut epochs);
+    positions::epochs_at(full, latest, count, &mut epochs);
     let numbers = line.epochs;
     if permitted(&epochs, &numbers, count, set) {
         0

@@ -1,4 +1,3 @@
-pub mod Claims
 pub mod Laws
 pub mod Lowering
-pub mod Newest
+pub mod Done

@@ -1,5 +1,5 @@
 -- The words of a line, lowered at one event after another, become the greatest line without a lost message:
--- `greatest-words`.
+-- `greatest-words`, whatever the rule by which messages are marked as logged.
 use mathlib.Core.Path.{_≡_, refl, sym, _∙_, ap, subst, fun-ext}
 use mathlib.Core.Bool.{Bool, true, false, _&&_, not, cond}
 use mathlib.Core.List.{List}
@@ -15,106 +15,111 @@ use Rattle.words.proofs.Cases.{by-bool, by-lt, clash, and-left, and-right}
 use Rattle.trace.specs.Trace.{Trace}
 use Rattle.theory.specs.Lists.{lastOf}
 use Rattle.theory.specs.Events.{size, at, sends, recvs, sent, rcvd, sendOf}
-use Rattle.theory.specs.Epochs.{epochAt, epochOf, loggedBy, ruleOf}
-use Rattle.theory.specs.Line.{inSet, lost, LossFree, current, Greatest, lower, highest, greatestLine, usableAt, runAt, engineLine}
+use Rattle.theory.specs.Epochs.{Rule, epochAt, epochOf, loggedBy, ruleOf}
+use Rattle.theory.specs.Line.{inSet, lost, LossFree, recorded, current, Greatest, lower, highest, greatestLine, usableAt}
 use Rattle.theory.specs.Inner.Lines.{Usable, Above}
 use Rattle.theory.specs.Answers.{lineOf}
 use Rattle.theory.proofs.Base.{lastOf-le, lastOf-top}
-use Rattle.theory.proofs.Events.{sends-is, recvs-is, partner, sendOf-at}
-use Rattle.theory.proofs.Epochs.{epochOf-at, logged-is}
-use Rattle.theory.proofs.Lines.{Number, ByEpochs, epoch-le, number-of, lost-in, lost-epochs, epochs-lost, past-unlogged}
+use Rattle.theory.proofs.Events.{sends-is, recvs-is, sendOf-at}
+use Rattle.theory.proofs.Epochs.{epochOf-at, epoch-same}
+use Rattle.theory.proofs.Lines.{Number, ByEpochs, epoch-le, number-of, lost-in, lost-epochs, epochs-lost}
 use Rattle.theory.proofs.Claims.{epoch-counts, reached-usable, lowering-begins, lowering-goes-on, lowering-ends, greatest-line, greatest-only}
 use Rattle.recovery_line.specs.declared.Line.{Line}
-use Rattle.columns.specs.Inner.Columns.{Tabled}
+use Rattle.columns.specs.Inner.Columns.{Tabled, Flagged}
 use Rattle.recovery_line.specs.Given.{each, lineIn, lineTo}
-use Rattle.columns.specs.Inner.Full.{atW, peerW, kindW, epochW, matchW}
+use Rattle.columns.specs.Inner.Full.{procsW, atW, peerW, kindW, epochW, matchW, loggedW}
 use Rattle.lowering.specs.Inner.Lowering.{lostE, lostW, lowerAt, Lowers, Rising, Lowered}
 use Rattle.lowering.specs.Inner.Lowering.Lowers.{same, more}
-use Rattle.recovery_line.proofs.Table.{fit, procs-is, at-is, kind-receive, receive-kind}
+use Rattle.columns.proofs.Full.{fit, procs-is, at-is, kind-receive, receive-kind, recv-match}
+use Rattle.columns.specs.Inner.Given.{Marked}
+use Rattle.greatest.specs.Inner.Line.{lineBy}
 use Rattle.lowering.proofs.Worklist.{length-lower}
 
 not-true : (b : Bool) → not b ≡ true → b ≡ false
 not-true true h = clash {b = false} h refl
 not-true false h = refl
 
-module _ (t : Trace) (full : List ℕ) (G : Tabled t full) (cut : ℕ) (cl : cut ≤ size t) where
+module _ (t : Trace) (full : List ℕ) (G : Tabled t full) (rule : Rule) (F : Flagged t (loggedBy t rule) full) (cut : ℕ) (cl : cut ≤ size t) where
   -- ---- A receive up to the cut, by words
 
   module _ (e p q : ℕ) (a : 0 < e) (b : e ≤ cut) (r : recvs t p q e ≡ true) where
-    X : (d : ℕ) × (0 < d) × (d < e) × (sends t p q d ≡ true) × (sent t p q d ≡ rcvd t p q e)
-    X = partner t (fit t full G .causal) p q e r a (omega arith)
+    in-trace : e ≤ size t
+    in-trace = omega arith
 
-    d-in : X .0 ≤ size t
-    d-in = omega (arith, X .2)
+    -- the send of its message
+    abbrev d : ℕ
+    d = matchW full e
 
-    match-is : matchW full e ≡ X .0
-    match-is =
-        G .columns .match-recv p q e r a (omega arith) ∙ ap (sendOf t p q) (sym (X .4)) ∙ sendOf-at t p q (X .0) (X .3) (X .1) d-in
+    X : (0 < d) × (d < e) × (sends t p q d ≡ true) × (sent t p q d ≡ rcvd t p q e)
+    X = recv-match t full G p q e r a in-trace
 
-    d-at : at t (X .0) ≡ p
-    d-at = (sends-is t p q (X .0) (X .3)) .0
+    d-in : d ≤ size t
+    d-in = omega (arith, X .1)
+
+    d-at : at t d ≡ p
+    d-at = (sends-is t p q d (X .2)) .0
 
     e-at : at t e ≡ q
     e-at = (recvs-is t p q e r) .0
 
     sender-in : p < t .procs
-    sender-in = omega (arith, d-at, fit t full G .process-lt (X .0) (X .1) d-in)
+    sender-in = omega (arith, d-at, fit t full G .process-lt d (X .0) d-in)
 
     receiver-in : q < t .procs
-    receiver-in = omega (arith, e-at, fit t full G .process-lt e a (omega arith))
+    receiver-in = omega (arith, e-at, fit t full G .process-lt e a in-trace)
 
-    sent-epoch : epochW full (matchW full e) ≡ epochAt t (ruleOf t) p (X .0)
-    sent-epoch =
-        ap (λ (x : ℕ). epochW full x) match-is ∙ G .columns .epoch (X .0) (X .1) d-in ∙ ap (λ (z : ℕ). epochAt t (ruleOf t) z (X .0)) d-at
+    sent-epoch : epochW full d ≡ epochAt t rule p d
+    sent-epoch = G .columns .epoch d (X .0) d-in ∙ ap (λ (z : ℕ). epochAt t (ruleOf t) z d) d-at ∙ epoch-same t (ruleOf t) rule p d
 
-    taken-epoch : epochW full e ≡ epochAt t (ruleOf t) q e
-    taken-epoch = G .columns .epoch e a (omega arith) ∙ ap (λ (z : ℕ). epochAt t (ruleOf t) z e) e-at
+    taken-epoch : epochW full e ≡ epochAt t rule q e
+    taken-epoch = G .columns .epoch e a in-trace ∙ ap (λ (z : ℕ). epochAt t (ruleOf t) z e) e-at ∙ epoch-same t (ruleOf t) rule q e
+
+    flag-is : eqb (loggedW full e) 1 ≡ loggedBy t rule p q (rcvd t p q e)
+    flag-is = ap (λ (w : ℕ). eqb w 1) (F p q e r a in-trace) ∙ by-bool (loggedBy t rule p q (rcvd t p q e)) (λ l. rw l) (λ l. rw l)
 
     -- lost by the words is lost by the epochs
-    by-words : (m : List ℕ) → lostE full m p q (matchW full e) e ≡ true → ByEpochs t (ruleOf t) cut (lineOf m) p q (rcvd t p q e)
+    by-words : (m : List ℕ) → lostE full m p q (matchW full e) e ≡ true → ByEpochs t rule cut (lineOf m) p q (rcvd t p q e)
     unfolding lostE
     by-words m h =
         let u = leb (getD m q 0) (epochW full e) in
-        let v = ltb (epochW full (matchW full e)) (getD m p 0) in
-        let w = ltb (epochW full (matchW full e)) (epochW full e) in
+        let v = ltb (epochW full d) (getD m p 0) in
+        let w = eqb (loggedW full e) 1 in
         let h1 : u ≡ true = and-left u (v && not w) h in
         let h2 : v ≡ true = and-left v (not w) (and-right u (v && not w) h) in
         let h3 : w ≡ false = not-true w (and-right v (not w) (and-right u (v && not w) h)) in
-        let lg : loggedBy t (ruleOf t) p q (sent t p q (X .0)) ≡ false =
-        logged-is t (ruleOf t) p q (X .0) e (X .3) r (X .1) a d-in (omega arith) (X .4) ∙ rw (sent-epoch, taken-epoch) at h3 in
         record {
-          d = X .0;
+          d = d;
           e = e;
-          d-pos = X .1;
-          d-cut = omega (arith, X .2);
-          d-send = X .3;
-          d-is = X .4;
+          d-pos = X .0;
+          d-cut = omega (arith, X .1);
+          d-send = X .2;
+          d-is = X .3;
           e-pos = a;
           e-cut = b;
           e-recv = r;
           e-is = refl;
-          unlogged = rw (X .4) at lg;
-          below = omega (arith, sent-epoch, ltb-true (epochW full (matchW full e)) (getD m p 0) h2);
+          unlogged = sym flag-is ∙ h3;
+          below = omega (arith, sent-epoch, ltb-true (epochW full d) (getD m p 0) h2);
           above = omega (arith, taken-epoch, leb-true (getD m q 0) (epochW full e) h1);
         }
 
   -- and the other way round
-  by-epochs : (m : List ℕ) (p q k : ℕ) (x : ByEpochs t (ruleOf t) cut (lineOf m) p q k) → lostE full m p q (matchW full (x .e)) (x .e) ≡ true
+  by-epochs : (m : List ℕ) (p q k : ℕ) (x : ByEpochs t rule cut (lineOf m) p q k) → lostE full m p q (matchW full (x .e)) (x .e) ≡ true
   unfolding lostE
   by-epochs m p q k x =
       let e = x .e in
       let y = X e p q (x .e-pos) (x .e-cut) (x .e-recv) in
-      let same : y .0 ≡ x .d =
-      sym (sendOf-at t p q (y .0) (y .3) (y .1) (omega (arith, y .2, x .e-cut)))
-      ∙ ap (sendOf t p q) (y .4 ∙ x .e-is ∙ sym (x .d-is))
+      let same : matchW full e ≡ x .d =
+      sym (sendOf-at t p q (matchW full e) (y .2) (y .0) (omega (arith, y .1, x .e-cut)))
+      ∙ ap (sendOf t p q) (y .3 ∙ x .e-is ∙ sym (x .d-is))
       ∙ sendOf-at t p q (x .d) (x .d-send) (x .d-pos) (omega (arith, x .d-cut)) in
-      let s : epochW full (matchW full e) ≡ epochAt t (ruleOf t) p (x .d) =
-      sent-epoch e p q (x .e-pos) (x .e-cut) (x .e-recv) ∙ ap (λ (w : ℕ). epochAt t (ruleOf t) p w) same in
+      let s : epochW full (matchW full e) ≡ epochAt t rule p (x .d) =
+      sent-epoch e p q (x .e-pos) (x .e-cut) (x .e-recv) ∙ ap (λ (w : ℕ). epochAt t rule p w) same in
       let r = taken-epoch e p q (x .e-pos) (x .e-cut) (x .e-recv) in
-      let n = past-unlogged t (fit t full G) cut cl (lineOf m) p q k x in
       let h1 : leb (getD m q 0) (epochW full e) ≡ true = le-leb (getD m q 0) (epochW full e) (omega (arith, r, x .above)) in
       let h2 : ltb (epochW full (matchW full e)) (getD m p 0) ≡ true = lt-ltb (epochW full (matchW full e)) (getD m p 0) (omega (arith, s, x .below)) in
-      let h3 : ltb (epochW full (matchW full e)) (epochW full e) ≡ false = le-ltb (epochW full (matchW full e)) (epochW full e) (omega (arith, s, r, n)) in
+      let h3 : eqb (loggedW full e) 1 ≡ false =
+      flag-is e p q (x .e-pos) (x .e-cut) (x .e-recv) ∙ ap (loggedBy t rule p q) (x .e-is) ∙ x .unlogged in
       rw (h1, h2, h3)
 
   -- no event lowers the epoch of a process
@@ -127,8 +132,14 @@ module _ (t : Trace) (full : List ℕ) (G : Tabled t full) (cut : ℕ) (cl : cut
 
   -- ---- Lowering
 
-  abbrev U : Usable t (ruleOf t) cut (usableAt t cut)
-  U = reached-usable t (G .formed) (ruleOf t) cut cl
+  -- what a process has reached is the same by any rule
+  current-same : (z : ℕ) → current t (ruleOf t) cut z ≡ current t rule cut z
+  current-same z = epoch-same t (ruleOf t) rule z cut
+
+  abbrev U : Usable t rule cut (usableAt t cut)
+  U =
+      let own = reached-usable t (G .formed) (ruleOf t) cut cl in
+      record { start = own .start; within = λ z e h. (own .within z e h .0, omega (arith, own .within z e h .1, current-same z)) }
 
   -- the last epoch reached that is not above a reached one is that one
   pub last-reached : (p x : ℕ) → 1 ≤ x → x ≤ current t (ruleOf t) cut p → lastOf (usableAt t cut p) x ≡ x
@@ -140,7 +151,7 @@ module _ (t : Trace) (full : List ℕ) (G : Tabled t full) (cut : ℕ) (cl : cut
 
   module _ (failed : ℕ → Bool) where
     abbrev Over : (ℕ → ℕ) → Type 0
-    Over l = Above t (ruleOf t) cut (usableAt t cut) failed l
+    Over l = Above t rule cut (usableAt t cut) failed l
 
     above-same : (f g : ℕ → ℕ) → ((z : ℕ) → z < t .procs → f z ≡ g z) → Over f → Over g
     above-same f g h a = record {
@@ -148,34 +159,35 @@ module _ (t : Trace) (full : List ℕ) (G : Tabled t full) (cut : ℕ) (cl : cut
       top = λ m b n z l. rw (← h z l) (a .top m b n z l);
     }
 
-    number : (m : List ℕ) → Over (lineOf m) → (z : ℕ) → z < t .procs → Number t (ruleOf t) cut z (getD m z 0)
-    number m v z l = number-of t (ruleOf t) (fit t full G) cut cl (usableAt t cut) U failed (lineOf m) (v .permitted) z l
+    number : (m : List ℕ) → Over (lineOf m) → (z : ℕ) → z < t .procs → Number t rule cut z (getD m z 0)
+    number m v z l = number-of t rule (fit t full G) cut cl (usableAt t cut) U failed (lineOf m) (v .permitted) z l
 
     module _ (m : List ℕ) (e p q : ℕ) (v : Over (lineOf m)) (len : length m ≡ 64) (a : 0 < e) (b : e ≤ cut) (r : recvs t p q e ≡ true)
         (h : lostE full m p q (matchW full e) e ≡ true) where
-      low-by : ByEpochs t (ruleOf t) cut (lineOf m) p q (rcvd t p q e)
+      low-by : ByEpochs t rule cut (lineOf m) p q (rcvd t p q e)
       low-by = by-words e p q a b r m h
 
-      low-lost : lost (runAt t cut (lineOf m)) p q (rcvd t p q e) ≡ true
+      low-lost : lost (recorded t rule cut (lineOf m)) p q (rcvd t p q e) ≡ true
       low-lost =
-          epochs-lost t (ruleOf t) (fit t full G) cut cl (lineOf m) p q (rcvd t p q e)
+          epochs-lost t rule (fit t full G) cut cl (lineOf m) p q (rcvd t p q e)
           (number m v p (sender-in e p q a b r)) (number m v q (receiver-in e p q a b r)) low-by
 
-      low-to : lastOf (usableAt t cut p) (epochOf t (ruleOf t) p q (rcvd t p q e)) ≡ epochW full (matchW full e)
+      low-to : lastOf (usableAt t cut p) (epochOf t rule p q (rcvd t p q e)) ≡ epochW full (matchW full e)
       low-to =
           let x = X e p q a b r in
-          let i : epochOf t (ruleOf t) p q (rcvd t p q e) ≡ epochAt t (ruleOf t) p (x .0) =
-          ap (epochOf t (ruleOf t) p q) (sym (x .4)) ∙ epochOf-at t (ruleOf t) p q (x .0) (x .3) (x .1) (d-in e p q a b r) in
-          let c = epoch-counts t (G .formed) (ruleOf t) p (x .0) in
+          let d = matchW full e in
+          let i : epochOf t rule p q (rcvd t p q e) ≡ epochAt t rule p d =
+          ap (epochOf t rule p q) (sym (x .3)) ∙ epochOf-at t rule p q d (x .2) (x .0) (d-in e p q a b r) in
+          let c = epoch-counts t (G .formed) rule p d in
           ap (λ (y : ℕ). lastOf (usableAt t cut p) y) i
-          ∙ last-reached p (epochAt t (ruleOf t) p (x .0)) (omega (arith, c)) (epoch-le t (ruleOf t) (fit t full G) cut cl p (x .0) (omega (arith, x .2)))
+          ∙ last-reached p (epochAt t rule p d) (omega (arith, c)) (omega (arith, current-same p, epoch-le t rule (fit t full G) cut cl p d (omega (arith, x .1))))
           ∙ sym (sent-epoch e p q a b r)
 
       pub low-above : Over (lineOf (set m p (epochW full (matchW full e))))
       low-above =
-          let w = lowering-goes-on t (G .formed) (ruleOf t) cut cl (usableAt t cut) U failed (lineOf m) v p q (rcvd t p q e) low-lost in
+          let w = lowering-goes-on t (G .formed) rule cut cl (usableAt t cut) U failed (lineOf m) v p q (rcvd t p q e) low-lost in
           let s = sender-in e p q a b r in
-          above-same (lower t (ruleOf t) cut (usableAt t cut) (lineOf m) p q (rcvd t p q e)) (lineOf (set m p (epochW full (matchW full e))))
+          above-same (lower t rule cut (usableAt t cut) (lineOf m) p q (rcvd t p q e)) (lineOf (set m p (epochW full (matchW full e))))
           (λ z l. by-bool (eqb z p)
           (λ y. let i : z ≡ p = eqb-true z p y in
           rw (y, i, getD-set-same m p (epochW full (matchW full e)) 0 (omega (arith, len, fit t full G .few))) low-to)
@@ -207,12 +219,12 @@ module _ (t : Trace) (full : List ℕ) (G : Tabled t full) (cut : ℕ) (cl : cut
         (w .0, λ z l. w .1 z l ∙ ih .1 z l, length-lower full x e ∙ ih .2)
 
     -- no event up to the cut receives a lost message: none is lost
-    none-lost : (m : List ℕ) → Over (lineOf m) → ((e : ℕ) → 0 < e → e ≤ cut → lostW full m e ≡ false) → LossFree (runAt t cut (lineOf m))
+    none-lost : (m : List ℕ) → Over (lineOf m) → ((e : ℕ) → 0 < e → e ≤ cut → lostW full m e ≡ false) → LossFree (recorded t rule cut (lineOf m))
     unfolding lostW
-    none-lost m v f p q k = by-bool (lost (runAt t cut (lineOf m)) p q k)
+    none-lost m v f p q k = by-bool (lost (recorded t rule cut (lineOf m)) p q k)
         (λ h.
-        let i = lost-in t (ruleOf t) (fit t full G) cut cl (lineOf m) p q k h in
-        let x = lost-epochs t (ruleOf t) (fit t full G) cut cl (lineOf m) p q k (number m v p (i .0)) (number m v q (i .1)) h in
+        let i = lost-in t rule (fit t full G) cut cl (lineOf m) p q k h in
+        let x = lost-epochs t rule (fit t full G) cut cl (lineOf m) p q k (number m v p (i .0)) (number m v q (i .1)) h in
         let w = receive-kind t full G (x .e) (x .e-pos) (omega (arith, x .e-cut)) p q (x .e-recv) in
         let n : cond (eqb (kindW full (x .e)) 2) (lostE full m (peerW full (x .e)) (atW full (x .e)) (matchW full (x .e)) (x .e)) false ≡ false =
         f (x .e) (x .e-pos) (x .e-cut) in
@@ -226,36 +238,36 @@ module _ (t : Trace) (full : List ℕ) (G : Tabled t full) (cut : ℕ) (cl : cut
     first-above : (m : List ℕ) → ((z : ℕ) → z < t .procs → getD m z 0 ≡ cond (failed z) (current t (ruleOf t) cut z) 32) → Over (lineOf m)
     unfolding highest
     first-above m f =
-        above-same (highest t (ruleOf t) cut (usableAt t cut) failed) (lineOf m)
-        (λ z l. let c = epoch-counts t (G .formed) (ruleOf t) z cut in
-        ap (λ (y : ℕ). cond (failed z) y 32) (last-reached z (current t (ruleOf t) cut z) (omega (arith, c)) (omega arith)) ∙ sym (f z l))
-        (lowering-begins t (G .formed) (ruleOf t) cut cl (usableAt t cut) U failed)
+        above-same (highest t rule cut (usableAt t cut) failed) (lineOf m)
+        (λ z l. let c = epoch-counts t (G .formed) rule z cut in
+        ap (λ (y : ℕ). cond (failed z) y 32) (last-reached z (current t rule cut z) (omega (arith, c)) (omega (arith, current-same z)) ∙ sym (current-same z)) ∙ sym (f z l))
+        (lowering-begins t (G .formed) rule cut cl (usableAt t cut) U failed)
 
     module _ (m r : List ℕ) (len : length m ≡ 64) (f : (z : ℕ) → z < t .procs → getD m z 0 ≡ cond (failed z) (current t (ruleOf t) cut z) 32)
         (past-zero : (z : ℕ) → t .procs ≤ z → getD m z 0 ≡ 0) (L : Lowered full cut m r) where
       all : Over (lineOf r) × ((z : ℕ) → t .procs ≤ z → getD r z 0 ≡ getD m z 0) × (length r ≡ 64)
       all = lowers-above m r (L .steps) len (first-above m f)
 
-      greatest-words : Greatest t (ruleOf t) cut (usableAt t cut) failed (lineOf r)
-      greatest-words = lowering-ends t (G .formed) (ruleOf t) cut cl (usableAt t cut) U failed (lineOf r) (all .0) (none-lost r (all .0) (L .none-lost rising))
+      greatest-words : Greatest t rule cut (usableAt t cut) failed (lineOf r)
+      greatest-words = lowering-ends t (G .formed) rule cut cl (usableAt t cut) U failed (lineOf r) (all .0) (none-lost r (all .0) (L .none-lost rising))
 
       -- the words are those of the theory's line
-      pub greatest-list : r ≡ wordsFrom (each t (greatestLine t (ruleOf t) cut (usableAt t cut) failed)) 0 64
+      pub greatest-list : r ≡ wordsFrom (each t (greatestLine t rule cut (usableAt t cut) failed)) 0 64
       greatest-list =
-          words-ext (each t (greatestLine t (ruleOf t) cut (usableAt t cut) failed)) 64 r (all .2)
+          words-ext (each t (greatestLine t rule cut (usableAt t cut) failed)) 64 r (all .2)
           (λ z h. by-lt z (t .procs)
-          (λ l. greatest-only t (G .formed) (ruleOf t) cut cl (usableAt t cut) U failed (lineOf r) (greatestLine t (ruleOf t) cut (usableAt t cut) failed) greatest-words
-          (greatest-line t (G .formed) (ruleOf t) cut cl (usableAt t cut) U failed) z l
+          (λ l. greatest-only t (G .formed) rule cut cl (usableAt t cut) U failed (lineOf r) (greatestLine t rule cut (usableAt t cut) failed) greatest-words
+          (greatest-line t (G .formed) rule cut cl (usableAt t cut) U failed) z l
           ∙ rw (lt-ltb z (t .procs) l))
           (λ l. all .1 z l ∙ past-zero z l ∙ rw (le-ltb z (t .procs) l)))
 
 -- ---- `greatest`: the epochs at the cut d, the first line m, the last line r
 
-module _ (t : Trace) (full : List ℕ) (cut set count : ℕ) (d m r : List ℕ) (G : Tabled t full) (cl : cut ≤ size t) (ec : count ≡ getD full 0 0)
+module _ (t : Trace) (rule : Rule) (full : List ℕ) (cut set count : ℕ) (d m r : List ℕ) (M : Marked t rule full) (cl : cut ≤ size t) (ec : count ≡ procsW full)
     (ed : d ≡ wordsFrom (each t (current t (ruleOf t) cut)) 0 64) (len : length m ≡ 64)
     (below : (z : ℕ) → z < count → getD m z 0 ≡ cond (inSet set z) (getD d z 0) 32) (others : (z : ℕ) → count ≤ z → getD m z 0 ≡ 0) (L : Lowered full cut m r) where
   count-is : count ≡ t .procs
-  count-is = ec ∙ procs-is t full G
+  count-is = ec ∙ procs-is t full (M .tabled)
 
   cut-at : (z : ℕ) → z < 64 → getD d z 0 ≡ each t (current t (ruleOf t) cut) z
   cut-at z h = ap (λ (l : List ℕ). getD l z 0) ed ∙ getD-words (each t (current t (ruleOf t) cut)) 0 64 z h ∙ ap (each t (current t (ruleOf t) cut)) (let e : 0 + z ≡ z = omega arith in e)
@@ -263,7 +275,7 @@ module _ (t : Trace) (full : List ℕ) (cut set count : ℕ) (d m r : List ℕ) 
   first-is : (z : ℕ) → z < t .procs → getD m z 0 ≡ cond (inSet set z) (current t (ruleOf t) cut z) 32
   first-is z h =
       let s : ltb z (t .procs) ≡ true = lt-ltb z (t .procs) h in
-      below z (omega (arith, count-is)) ∙ ap (λ (x : ℕ). cond (inSet set z) x 32) (cut-at z (omega (arith, fit t full G .few)) ∙ rw s)
+      below z (omega (arith, count-is)) ∙ ap (λ (x : ℕ). cond (inSet set z) x 32) (cut-at z (omega (arith, fit t full (M .tabled) .few)) ∙ rw s)
 
   past-is : (z : ℕ) → t .procs ≤ z → getD m z 0 ≡ 0
   past-is z h = others z (omega (arith, count-is))
@@ -271,18 +283,18 @@ module _ (t : Trace) (full : List ℕ) (cut set count : ℕ) (d m r : List ℕ) 
   abbrev made : Line
   made = record { epochs = r; count = count }
 
-  r-is : r ≡ wordsFrom (each t (engineLine t cut set)) 0 64
-  r-is = greatest-list t full G cut cl (inSet set) m r len first-is past-is L
+  r-is : r ≡ wordsFrom (each t (lineBy t rule cut set)) 0 64
+  r-is = greatest-list t full (M .tabled) rule (M .flags) cut cl (inSet set) m r len first-is past-is L
 
-  pub greatest-made : made ≡ lineTo t (engineLine t cut set)
-  greatest-made = ap (λ (x : List ℕ). record { epochs = x; count = count }) r-is ∙ ap (λ (x : ℕ). record { epochs = wordsFrom (each t (engineLine t cut set)) 0 64; count = x }) count-is
+  pub greatest-made : made ≡ lineTo t (lineBy t rule cut set)
+  greatest-made = ap (λ (x : List ℕ). record { epochs = x; count = count }) r-is ∙ ap (λ (x : ℕ). record { epochs = wordsFrom (each t (lineBy t rule cut set)) 0 64; count = x }) count-is
 
   r-past : (z : ℕ) → count ≤ z → getD r z 0 ≡ 0
   r-past z h =
       by-lt z 64
-      (λ l. ap (λ (x : List ℕ). getD x z 0) r-is ∙ getD-words (each t (engineLine t cut set)) 0 64 z l
+      (λ l. ap (λ (x : List ℕ). getD x z 0) r-is ∙ getD-words (each t (lineBy t rule cut set)) 0 64 z l
       ∙ (let s : ltb (0 + z) (t .procs) ≡ false = le-ltb (0 + z) (t .procs) (omega (arith, count-is)) in rw s))
-      (λ l. List·getD-eq-default r 0 {n = z} (omega (arith, ap length r-is, length-words (each t (engineLine t cut set)) 0 64)))
+      (λ l. List·getD-eq-default r 0 {n = z} (omega (arith, ap length r-is, length-words (each t (lineBy t rule cut set)) 0 64)))
 
   numbers-same : (z : ℕ) → lineOf r z ≡ lineIn made z
   numbers-same z =
@@ -290,7 +302,7 @@ module _ (t : Trace) (full : List ℕ) (cut set count : ℕ) (d m r : List ℕ) 
       (λ l. rw (lt-ltb z count l))
       (λ l. rw (le-ltb z count l) (r-past z l))
 
-  pub greatest-means : Greatest t (ruleOf t) cut (usableAt t cut) (inSet set) (lineIn made)
+  pub greatest-means : Greatest t rule cut (usableAt t cut) (inSet set) (lineIn made)
   greatest-means =
-      subst (Greatest t (ruleOf t) cut (usableAt t cut) (inSet set)) (fun-ext numbers-same)
-      (greatest-words t full G cut cl (inSet set) m r len first-is past-is L)
+      subst (Greatest t rule cut (usableAt t cut) (inSet set)) (fun-ext numbers-same)
+      (greatest-words t full (M .tabled) rule (M .flags) cut cl (inSet set) m r len first-is past-is L)

@@ -28,7 +28,7 @@ key-split (b ∷ x) (k ∷ key) e =
     let same : b ≡ k = eqb-true b k (and-left (eqb b k) (startsWith x key) e) in
     (more .0, ap₂ _∷_ same (more .1))
 
-split-key : (key rest : List ℕ) → startsWith (key ++ rest) key ≡ true
+pub split-key : (key rest : List ℕ) → startsWith (key ++ rest) key ≡ true
 unfolding startsWith
 split-key [] rest = refl
 split-key (k ∷ key) rest = rw (eq-eqb k k refl) (split-key key rest)

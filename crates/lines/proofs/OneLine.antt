@@ -3,17 +3,19 @@
 use Prim.Native.Nat.{ℕ, _≤_}
 use mathlib.Core.Path.{_≡_, refl, ap, _∙_}
 use mathlib.Core.List.{List, [], _∷_, _++_, append-assoc, append-nil}
-use mathlib.Core.Bool.{true}
+use mathlib.Core.Bool.{true, false}
+use native.Mathlib.Omega.{arith}
 use Rattle.words.proofs.Cases.{by-bool}
-use Rattle.text.specs.Number.{isDigit, decimal}
-use Rattle.text.specs.Key.{startsWith, keyAt}
+use lib.ListN.{length, getD}
+use Rattle.text.specs.Number.{isDigit, numberAt, decimal}
+use Rattle.text.specs.Key.{startsWith, keyAt, fieldAt}
 use Rattle.text.proofs.Keys.{field-1}
 use Rattle.trace.specs.declared.Event.{Event}
 use Rattle.trace.specs.declared.Event.the-variants.{Send, Recv, Save}
 use Rattle.lines.specs.declared.Line.{Line}
-use Rattle.lines.specs.Line.{kProcs, kSend, kTo, kVal, kRecv, kFrom, kSave, kFail, kSet, most, mostSet, procsSaid, sendSaid, recvSaid, saveSaid, failSaid, lineSaid}
+use Rattle.lines.specs.Line.{kProcs, kSend, kTo, kVal, kRecv, kFrom, kSave, kFail, kSet, most, mostSet, thenLine, procsSaid, sendSaid, recvSaid, saveSaid, failSaid, lineSaid}
 use Rattle.lines.specs.Render.{renderEvent, renderFailure}
-use Rattle.lines.proofs.Field.{behind-start, read-field, read-end, rendered-field, rendered-end}
+use Rattle.lines.proofs.Field.{Behind, behind-start, split-key, read-field, read-end, rendered-field, rendered-end}
 use Rattle.lines.specs.declared.Line as line
 
 -- no number of an event is more than its key can hold
@@ -56,48 +58,45 @@ pub failure-text : (step set : ℕ) (rest : List ℕ) → renderFailure step set
 unfolding renderFailure
 failure-text step set rest = simp (append-assoc, append-nil)
 
+-- behind a key at the line's start a number is read as a field's is
+start-field : (l key : List ℕ) → keyAt l 0 key ≡ true → numberAt l (length key) most ≡ fieldAt l 0 key most
+start-field l key t = ap (λ (i : ℕ). numberAt l i most) (omega arith) ∙ field-1 l 0 key most (keyAt l 0 key) refl t
+
 -- ---- what is read is what stands there
 
--- each form, its key at the line's start: the number behind that key is read as a field's is
+-- each form, its key at the line's start
 module _ (l : List ℕ) where
+  begun : (key : List ℕ) (next : ℕ → ℕ → Line) → keyAt l 0 key ≡ true
+      → ((v p : ℕ) (rest : List ℕ) → l ≡ key ++ (decimal v ++ rest) → Behind l p rest → v ≤ most → Says l (next v p))
+      → Says l (thenLine (numberAt l (length key) most) next)
+  begun key next t good = rw (start-field l key t) (read-field most refl l (Says l) 0 key l next (behind-start l) tt good)
+
   send-says : keyAt l 0 kSend ≡ true → Says l (sendSaid l)
   unfolding sendSaid
-  send-says t =
-      rw (field-1 l 0 kSend most (keyAt l 0 kSend) refl t)
-      (read-field most refl l (Says l) 0 kSend l _ (behind-start l) tt (λ a p x e s h.
+  send-says t = begun kSend _ t (λ a p x e s h.
       read-field most refl l (Says l) p kTo x _ s tt (λ b q y f u i.
       read-field most refl l (Says l) q kVal y _ u tt (λ v r z g w j.
-      read-end (Says l) l r z (line.the-variants.Send a b v) w tt (λ n. (rw (e, f, g, n, send-text), (h, i, j)))))))
+      read-end (Says l) l r z (line.the-variants.Send a b v) w tt (λ n. (rw (e, f, g, n, send-text), (h, i, j))))))
 
   recv-says : keyAt l 0 kRecv ≡ true → Says l (recvSaid l)
   unfolding recvSaid
-  recv-says t =
-      rw (field-1 l 0 kRecv most (keyAt l 0 kRecv) refl t)
-      (read-field most refl l (Says l) 0 kRecv l _ (behind-start l) tt (λ a p x e s h.
+  recv-says t = begun kRecv _ t (λ a p x e s h.
       read-field most refl l (Says l) p kFrom x _ s tt (λ b q y f u i.
-      read-end (Says l) l q y (line.the-variants.Recv a b) u tt (λ n. (rw (e, f, n, recv-text), (h, i))))))
+      read-end (Says l) l q y (line.the-variants.Recv a b) u tt (λ n. (rw (e, f, n, recv-text), (h, i)))))
 
   save-says : keyAt l 0 kSave ≡ true → Says l (saveSaid l)
   unfolding saveSaid
-  save-says t =
-      rw (field-1 l 0 kSave most (keyAt l 0 kSave) refl t)
-      (read-field most refl l (Says l) 0 kSave l _ (behind-start l) tt (λ a p x e s h.
-      read-end (Says l) l p x (line.the-variants.Save a) s tt (λ n. (rw (e, n, save-text), h))))
+  save-says t = begun kSave _ t (λ a p x e s h. read-end (Says l) l p x (line.the-variants.Save a) s tt (λ n. (rw (e, n, save-text), h)))
 
   procs-says : keyAt l 0 kProcs ≡ true → Says l (procsSaid l)
   unfolding procsSaid
-  procs-says t =
-      rw (field-1 l 0 kProcs most (keyAt l 0 kProcs) refl t)
-      (read-field most refl l (Says l) 0 kProcs l _ (behind-start l) tt (λ a p x e s h.
-      read-end (Says l) l p x (line.the-variants.Procs a) s tt (λ n. (rw (e, n, append-nil), h))))
+  procs-says t = begun kProcs _ t (λ a p x e s h. read-end (Says l) l p x (line.the-variants.Procs a) s tt (λ n. (rw (e, n, append-nil), h)))
 
   fail-says : keyAt l 0 kFail ≡ true → Says l (failSaid l)
   unfolding failSaid
-  fail-says t =
-      rw (field-1 l 0 kFail most (keyAt l 0 kFail) refl t)
-      (read-field most refl l (Says l) 0 kFail l _ (behind-start l) tt (λ k p x e s h.
+  fail-says t = begun kFail _ t (λ k p x e s h.
       read-field mostSet refl l (Says l) p kSet x _ s tt (λ m q y f u i.
-      read-end (Says l) l q y (line.the-variants.Failure k m) u tt (λ n. (rw (e, f, n), h, i)))))
+      read-end (Says l) l q y (line.the-variants.Failure k m) u tt (λ n. (rw (e, f, n), h, i))))
 
   pub line-says : Says l (lineSaid l)
   unfolding lineSaid
@@ -110,13 +109,16 @@ module _ (l : List ℕ) where
 
 -- ---- what is rendered is read
 
+-- a key at a line's start, its number, and no digit behind it
+starts : (key : List ℕ) (v : ℕ) (rest : List ℕ) (next : ℕ → ℕ → Line) (said : Line) → v ≤ most → isDigit (getD rest 0 256) ≡ false
+    → ((p : ℕ) → Behind (key ++ (decimal v ++ rest)) p rest → next v p ≡ said) → thenLine (numberAt (key ++ (decimal v ++ rest)) (length key) most) next ≡ said
+starts key v rest next said h n good =
+    let l = key ++ (decimal v ++ rest) in
+    rw (start-field l key (split-key key (decimal v ++ rest))) (rendered-field most refl l 0 key v rest next said (behind-start l) h n good)
+
 pub procs-line : (n : ℕ) → n ≤ most → lineSaid (kProcs ++ decimal n) ≡ line.the-variants.Procs n
 unfolding lineSaid procsSaid startsWith isDigit
-procs-line n h =
-    let l = kProcs ++ (decimal n ++ []) in
-    ap lineSaid (procs-text n)
-    ∙ rw (field-1 l 0 kProcs most true refl refl)
-    (rendered-field most refl l 0 kProcs n _ _ _ (behind-start l) h refl (λ p s. rendered-end l p _ s))
+procs-line n h = ap lineSaid (procs-text n) ∙ starts kProcs n [] _ _ h refl (λ p s. rendered-end (kProcs ++ (decimal n ++ [])) p _ s)
 
 -- an event as a line
 abbrev pub lineFor : Event → Line
@@ -129,26 +131,17 @@ unfolding lineSaid sendSaid recvSaid saveSaid startsWith isDigit
 event-line (Send a b v) h =
     let l = kSend ++ (decimal a ++ (kTo ++ (decimal b ++ (kVal ++ (decimal v ++ []))))) in
     ap lineSaid (send-text a b v)
-    ∙ rw (field-1 l 0 kSend most true refl refl)
-    (rendered-field most refl l 0 kSend a _ _ _ (behind-start l) (h .0) refl (λ p s.
+    ∙ starts kSend a _ _ _ (h .0) refl (λ p s.
     rendered-field most refl l p kTo b _ _ _ s (h .1) refl (λ q u.
-    rendered-field most refl l q kVal v _ _ _ u (h .2) refl (λ r w. rendered-end l r _ w))))
+    rendered-field most refl l q kVal v _ _ _ u (h .2) refl (λ r w. rendered-end l r _ w)))
 event-line (Recv a b) h =
     let l = kRecv ++ (decimal a ++ (kFrom ++ (decimal b ++ []))) in
     ap lineSaid (recv-text a b)
-    ∙ rw (field-1 l 0 kRecv most true refl refl)
-    (rendered-field most refl l 0 kRecv a _ _ _ (behind-start l) (h .0) refl (λ p s.
-    rendered-field most refl l p kFrom b _ _ _ s (h .1) refl (λ q u. rendered-end l q _ u)))
-event-line (Save a) h =
-    let l = kSave ++ (decimal a ++ []) in
-    ap lineSaid (save-text a)
-    ∙ rw (field-1 l 0 kSave most true refl refl)
-    (rendered-field most refl l 0 kSave a _ _ _ (behind-start l) h refl (λ p s. rendered-end l p _ s))
+    ∙ starts kRecv a _ _ _ (h .0) refl (λ p s. rendered-field most refl l p kFrom b _ _ _ s (h .1) refl (λ q u. rendered-end l q _ u))
+event-line (Save a) h = ap lineSaid (save-text a) ∙ starts kSave a [] _ _ h refl (λ p s. rendered-end (kSave ++ (decimal a ++ [])) p _ s)
 
 pub failure-line : (step set : ℕ) → step ≤ most → set ≤ mostSet → lineSaid (failureText step set) ≡ line.the-variants.Failure step set
 unfolding lineSaid failSaid startsWith isDigit
 failure-line step set h i =
-    let l = failureText step set in
-    rw (field-1 l 0 kFail most true refl refl)
-    (rendered-field most refl l 0 kFail step _ _ _ (behind-start l) h refl (λ p s.
-    rendered-field mostSet refl l p kSet set _ _ _ s i refl (λ q u. rendered-end l q _ u)))
+    starts kFail step _ _ _ h refl (λ p s.
+    rendered-field mostSet refl (failureText step set) p kSet set _ _ _ s i refl (λ q u. rendered-end (failureText step set) q _ u))

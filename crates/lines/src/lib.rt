@@ -2,7 +2,9 @@
 // none of these. specs/Line says it for every line, specs/Render the text of an event and of a failure; proofs/OneLine
 // that a line says it exactly if it is that text. No public function has a `requires`. Assumes nothing.
 ghost use mathlib.Core.Path.{_≡_};
-ghost use Rattle.lines.specs.Line.{lineSaid, procsSaid, sendSaid, recvSaid, saveSaid, failSaid};
+ghost use lib.Dec.{eqb};
+ghost use lib.ListN.{length};
+ghost use Rattle.lines.specs.Line.{whenEnd, lineSaid, procsSaid, sendSaid, recvSaid, saveSaid, failSaid};
 use text::Num;
 
 // What a line says: a process count, a send, a receive, a checkpoint or a failure, each with its numbers; or none of
@@ -20,17 +22,24 @@ const MOST: u64 = 4294967295;
 
 const MOST_SET: u64 = 18446744073709551615;
 
+// What was read, where the line ends at a place; else no line.
+fn when_end(line: &[u8], at: usize, said: Line) -> Line
+    ensures { λ r. ⌜ r ≡ whenEnd (eqb at (length (now (line .entry)))) said ⌝ }
+{
+    if at == line.len() {
+        said
+    } else {
+        Line::Malformed
+    }
+}
+
 pub fn procs_line(line: &[u8]) -> Line
     ensures { λ r. ⌜ r ≡ procsSaid (now (line .entry)) ⌝ }
 {
     let Num::Value(n, p) = text::number(line, 6, MOST) else {
         return Line::Malformed;
     };
-    if p == line.len() {
-        Line::Procs(n)
-    } else {
-        Line::Malformed
-    }
+    when_end(line, p, Line::Procs(n))
 }
 
 fn send_line(line: &[u8]) -> Line
@@ -51,11 +60,7 @@ fn send_line(line: &[u8]) -> Line
     let Num::Value(v, r) = text::number(line, q + 5, MOST) else {
         return Line::Malformed;
     };
-    if r == line.len() {
-        Line::Send(a, b, v)
-    } else {
-        Line::Malformed
-    }
+    when_end(line, r, Line::Send(a, b, v))
 }
 
 fn recv_line(line: &[u8]) -> Line
@@ -70,11 +75,7 @@ fn recv_line(line: &[u8]) -> Line
     let Num::Value(b, q) = text::number(line, p + 6, MOST) else {
         return Line::Malformed;
     };
-    if q == line.len() {
-        Line::Recv(a, b)
-    } else {
-        Line::Malformed
-    }
+    when_end(line, q, Line::Recv(a, b))
 }
 
 fn save_line(line: &[u8]) -> Line
@@ -83,11 +84,7 @@ fn save_line(line: &[u8]) -> Line
     let Num::Value(a, p) = text::number(line, 11, MOST) else {
         return Line::Malformed;
     };
-    if p == line.len() {
-        Line::Save(a)
-    } else {
-        Line::Malformed
-    }
+    when_end(line, p, Line::Save(a))
 }
 
 fn fail_line(line: &[u8]) -> Line
@@ -102,11 +99,7 @@ fn fail_line(line: &[u8]) -> Line
     let Num::Value(m, q) = text::number(line, p + 5, MOST_SET) else {
         return Line::Malformed;
     };
-    if q == line.len() {
-        Line::Failure(k, m)
-    } else {
-        Line::Malformed
-    }
+    when_end(line, q, Line::Failure(k, m))
 }
 
 // What a line says, by the key at its start.

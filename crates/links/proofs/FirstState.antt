@@ -3,7 +3,7 @@
 use mathlib.Core.Path.{_≡_, refl, sym, _∙_, ap}
 use mathlib.Core.Logic.{_≢_}
 use mathlib.Core.Bool.{Bool, true, false, _&&_, cond}
-use mathlib.Core.List.{List, [], _∷_, _++_, map}
+use mathlib.Core.List.{List, [], _∷_, _++_, map, map-append}
 use Prim.Native.Nat.{ℕ, _+_, _-_, _*_, _≤_, _<_}
 use native.Mathlib.Omega.{arith}
 use lib.ListN.{length, length-set, getD, set}
@@ -23,7 +23,9 @@ use Rattle.theory.proofs.Loss.{inv-start}
 use Rattle.machine.specs.Taken.{takenBase, takenNumber, takenValue}
 use Rattle.machine.specs.Inner.Words.{currentBase, orphanBase, takeBase, putBase, lowPlace, orpW, lowOf}
 use Rattle.theory.specs.Inner.Lists.{head0}
-use Rattle.machine.specs.Inner.Related.{goes, evs, orph, Base, Cols, Rel}
+use Rattle.machine.specs.Inner.Related.{goes, evs, orph, Cols, Rel}
+use Rattle.machine.proofs.Told.{told-of}
+use Rattle.columns.specs.Inner.Given.{Tells, Gated}
 use Rattle.links.specs.Inner.Linking.{beginA}
 use Rattle.links.specs.Inner.Linked.{mine, rest, Chained}
 use Rattle.machine.proofs.Facts.{ready-low}
@@ -32,10 +34,6 @@ map-keep : (f : ℕ → ℕ) (g : ℕ → Bool) (l : List ℕ) → keep g (map f
 unfolding keep
 map-keep f g [] = refl
 map-keep f g (x ∷ xs) = by (g (f x)) (λ t. rw t (ap (λ r. f x ∷ r) (map-keep f g xs))) (λ t. rw t (map-keep f g xs))
-
-map-append : (f : ℕ → ℕ) (xs ys : List ℕ) → map f (xs ++ ys) ≡ map f xs ++ map f ys
-map-append f [] ys = refl
-map-append f (x ∷ xs) ys = ap (λ r. f x ∷ r) (map-append f xs ys)
 
 module _ (R : Run) (L : Laws R) where
   mine-listed : (z : ℕ) → rest R (mine R z) 0 ≡ listed R z (R .restart z)
@@ -95,10 +93,11 @@ module _ (R : Run) (L : Laws R) where
         let z : 0 + R .restart p ≡ R .restart p = omega arith in
         rw (e, iv-append 0 (R .restart p) (size (R .trace) - R .restart p), z, keep-append (goes R p q) (iv 0 (R .restart p)), map-append (sent (R .trace) p q) (keep (goes R p q) (iv 0 (R .restart p))), early, late)
 
-  module _ (t g : List ℕ) (B : Base R t g) (l a : List ℕ) (H : Chained R 0 l a) where
+  module _ (t g : List ℕ) (T : Tells R t) (G : Gated R g) (l a : List ℕ) (H : Chained R 0 l a) where
     pub begin-cols : Cols R t l g
     begin-cols = record {
-      base = B;
+      tells = T;
+      gated = G;
       spread = H .l-long;
       next = λ e h k m.
           let w : mine R (at (R .trace) e) e ≡ true = rw (lt-ltb (R .restart (at (R .trace) e)) e m, eqb-self (at (R .trace) e)) in
@@ -120,7 +119,7 @@ module _ (R : Run) (L : Laws R) where
           room = rw length-set (omega (arith, H .a-long));
           cur = λ z h. far (currentBase + z) (λ q. omega arith) ∙ H .cur z h ∙ ap head0 (mine-listed z);
           orp = λ z h. far (orphanBase + z) (λ q. omega arith) ∙ orps z h;
-          low = λ r h. ready-low R L t g B (start R) ((inv-start R L) .cursors) a orps r h ∙ ap (ltb r) (sym (getD-set-same a lowPlace v 0 (omega (arith, H .a-long))));
+          low = λ r h. ready-low R L t g (told-of R t g T G) (start R) ((inv-start R L) .cursors) a orps r h ∙ ap (ltb r) (sym (getD-set-same a lowPlace v 0 (omega (arith, H .a-long))));
           chan = λ p q hp hq. record {
             C = [];
             F = evs R p q 0;

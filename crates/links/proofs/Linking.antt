@@ -22,7 +22,7 @@ use Rattle.machine.specs.Inner.Related.{goes, evs, orph}
 use Rattle.links.specs.Inner.Linking.{chainA}
 use Rattle.links.specs.Inner.Linked.{mine, rest, Chained}
 
-far-A : (b : Bool) (a : List ℕ) (k v j : ℕ) → j ≢ k → getD (chainA b a k v) j 0 ≡ getD a j 0
+pub far-A : (b : Bool) (a : List ℕ) (k v j : ℕ) → j ≢ k → getD (chainA b a k v) j 0 ≡ getD a j 0
 unfolding chainA
 far-A true a k v j n = getD-set-other a k j v 0 n
 far-A false a k v j n = refl

@@ -1,5 +1,5 @@
--- The whole pass of specs/Linking, from the last event to the first: it sets the links of the run and its first state.
--- From what its tests mean at every event (`Tested`), by Linking and Begin.
+-- The whole pass of specs/Inner/Linking, from the last event to the first: it sets the links of the run and its first
+-- state. From what its tests mean at every event (`Tested`), by Linking and Begin.
 use mathlib.Core.Path.{_≡_, refl, sym, _∙_, ap, subst}
 use mathlib.Core.Bool.{Bool, true, false, _&&_, cond}
 use mathlib.Core.List.{List, [], _∷_}
@@ -12,13 +12,13 @@ use Rattle.theory.specs.Lists.{iv, keep}
 use Rattle.theory.specs.Events.{size}
 use Rattle.theory.specs.Line.{Run}
 use Rattle.theory.specs.Replay.{start}
-use Rattle.theory.specs.Inner.Laws.{Laws}
 use Rattle.theory.proofs.Base.{by, keep-head}
 use Rattle.machine.specs.Taken.{takenBase, takenNumber, takenValue}
 use Rattle.machine.specs.Inner.Words.{currentBase, orphanBase, takeBase, putBase, curW, orpW, putW, Small}
 use Rattle.columns.specs.Inner.Full.{peerW, valueW, numberW, atW, matchW}
 use Rattle.theory.specs.Inner.Lists.{head0}
-use Rattle.machine.specs.Inner.Related.{goes, evs, orph, Base, Cols, Rel}
+use Rattle.machine.specs.Inner.Related.{goes, evs, orph, Cols, Rel}
+use Rattle.columns.specs.Inner.Given.{Tells, Gated}
 use Rattle.links.specs.Inner.Linking.{mineW, orphanW, goesW, earlyW, linkL, linkA, linkedL, linkedA, beginA}
 use Rattle.links.specs.Inner.Linked.{mine, rest, Chained}
 use Rattle.links.proofs.Linking.{Tests, stepL, stepA, chained-next}
@@ -27,7 +27,7 @@ use Rattle.links.proofs.FirstState.{begin-cols, begin-rel}
 -- the tests by words mean what they should, at every event
 unfoldable pub Tested : Run → List ℕ → List ℕ → ℕ → Type 0
 Tested R t g cut = (e : ℕ) → 0 < e → e ≤ size (R .trace)
-    → Tests R e (atW t e) (peerW t e) (mineW t g e) (orphanW t g e) (goesW t g cut e) (earlyW t g e) (numberW t e) (valueW t (matchW t e))
+    → Tests R e (atW t e) (peerW t e) (mineW t g e) (orphanW t g cut e) (goesW t g cut e) (earlyW t g e) (numberW t (matchW t e)) (valueW t (matchW t e))
 
 pub head-lt : (R : Run) (f : ℕ → Bool) (x : ℕ) → x ≤ size (R .trace) → size (R .trace) ≤ 2048 → head0 (rest R f x) < 2049
 head-lt R f x h k = go (rest R f x) refl
@@ -86,15 +86,15 @@ module _ (R : Run) (t g : List ℕ) (cut : ℕ) where
       let b₃ : putW a (64 * z + q) < 2049 = rw (H .puts z q (omega arith) (omega arith)) (evs-lt z q x k n) in
       rw (el, ea) (go x (x - 1) e (omega arith) H (Q x h k) b₁ b₂ b₃)
     where
-      go : (e y : ℕ) → e ≡ suc y → y < size (R .trace) → Chained R e l a → Tests R e (atW t x) (peerW t x) (mineW t g x) (orphanW t g x) (goesW t g cut x) (earlyW t g x) (numberW t x) (valueW t (matchW t x))
+      go : (e y : ℕ) → e ≡ suc y → y < size (R .trace) → Chained R e l a → Tests R e (atW t x) (peerW t x) (mineW t g x) (orphanW t g cut x) (goesW t g cut x) (earlyW t g x) (numberW t (matchW t x)) (valueW t (matchW t x))
           → curW a (atW t x) < 2049 → orpW a (atW t x) < 2049 → putW a (64 * atW t x + peerW t x) < 2049
-          → Chained R y (stepL R l a e (atW t x) (peerW t x) (mineW t g x) (orphanW t g x) (goesW t g cut x))
-          (stepA R a e (atW t x) (peerW t x) (mineW t g x) (orphanW t g x) (goesW t g cut x) (earlyW t g x) (numberW t x) (valueW t (matchW t x)))
+          → Chained R y (stepL R l a e (atW t x) (peerW t x) (mineW t g x) (orphanW t g cut x) (goesW t g cut x))
+          (stepA R a e (atW t x) (peerW t x) (mineW t g x) (orphanW t g cut x) (goesW t g cut x) (earlyW t g x) (numberW t (matchW t x)) (valueW t (matchW t x)))
       go e y i j H Q b₁ b₂ b₃ =
-          subst (λ e. Chained R e l a → Tests R e (atW t x) (peerW t x) (mineW t g x) (orphanW t g x) (goesW t g cut x) (earlyW t g x) (numberW t x) (valueW t (matchW t x))
-          → Chained R y (stepL R l a e (atW t x) (peerW t x) (mineW t g x) (orphanW t g x) (goesW t g cut x))
-          (stepA R a e (atW t x) (peerW t x) (mineW t g x) (orphanW t g x) (goesW t g cut x) (earlyW t g x) (numberW t x) (valueW t (matchW t x)))) (sym i)
-          (λ H Q. chained-next R y j n l a H (atW t x) (peerW t x) (mineW t g x) (orphanW t g x) (goesW t g cut x) (earlyW t g x) (numberW t x) (valueW t (matchW t x)) Q b₁ b₂ b₃) H Q
+          subst (λ e. Chained R e l a → Tests R e (atW t x) (peerW t x) (mineW t g x) (orphanW t g cut x) (goesW t g cut x) (earlyW t g x) (numberW t (matchW t x)) (valueW t (matchW t x))
+          → Chained R y (stepL R l a e (atW t x) (peerW t x) (mineW t g x) (orphanW t g cut x) (goesW t g cut x))
+          (stepA R a e (atW t x) (peerW t x) (mineW t g x) (orphanW t g cut x) (goesW t g cut x) (earlyW t g x) (numberW t (matchW t x)) (valueW t (matchW t x)))) (sym i)
+          (λ H Q. chained-next R y j n l a H (atW t x) (peerW t x) (mineW t g x) (orphanW t g cut x) (goesW t g cut x) (earlyW t g x) (numberW t (matchW t x)) (valueW t (matchW t x)) Q b₁ b₂ b₃) H Q
 
   module _ (few : size (R .trace) ≤ 2048) (Q : Tested R t g cut) (l a : List ℕ) (hl : 8197 ≤ length l) (ha : length a ≡ 16384)
       (zl : (k : ℕ) → getD l k 0 ≡ 0) (za : (k : ℕ) → getD a k 0 ≡ 0) where
@@ -113,12 +113,12 @@ module _ (R : Run) (t g : List ℕ) (cut : ℕ) where
     all-chained = let e : n - n ≡ 0 = omega arith in rw e at (chained-after n (omega arith))
 
     -- links and first state
-    module _ (L : Laws R) (B : Base R t g) where
+    module _ (T : Tells R t) (G : Gated R g) where
       pub linked-cols : Cols R t (linkedL t g cut n n l a) g
-      linked-cols = begin-cols R L t g B _ _ all-chained
+      linked-cols = begin-cols R (T .laws) t g T G _ _ all-chained
 
       pub linked-rel : Rel R (beginA t (linkedA t g cut n n a)) (start R)
-      linked-rel = begin-rel R L t g B _ _ all-chained
+      linked-rel = begin-rel R (T .laws) t g T G _ _ all-chained
 
       pub linked-small : Small (linkedL t g cut n n l a)
       linked-small = all-chained .small

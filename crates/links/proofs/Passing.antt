@@ -1,20 +1,24 @@
 -- One law for each way out of the functions that link the events, over the values that the code has there.
 use mathlib.Core.Path.{_≡_, refl, sym, _∙_}
+use mathlib.Core.Logic.{_≢_}
 use mathlib.Core.Bool.{Bool, true, false}
 use mathlib.Core.List.{List}
 use Prim.Native.Nat.{ℕ, suc, _+_, _-_, _*_, _≤_, _<_}
 use native.Mathlib.Omega.{arith}
 use lib.ListN.{length, length-set, getD, set}
 use lib.Seq.{getD-set-same, getD-set-other}
-use lib.Dec.{leb, ltb, eqb}
-use borrow.Author.Tests.{eq-eqb, ne-eqb, lt-leb, le-leb, eqb-true}
-use Rattle.words.proofs.Cases.{by-bool, by-eq, clash}
+use lib.Dec.{ltb, eqb}
+use borrow.Author.Tests.{lt-leb, le-leb, eq-eqb, ne-eqb}
+use Rattle.words.proofs.Cases.{by-bool, by-eq}
 use Rattle.words.specs.Area.{areaWords}
 use Rattle.machine.specs.Taken.{takenBase}
-use Rattle.machine.specs.Inner.Words.{currentBase, orphanBase, takeBase, putBase, Bounded}
-use Rattle.columns.specs.Inner.Full.{kindW, peerW, valueW, numberW, atW, epochW, matchW}
-use Rattle.links.specs.Inner.Linking.{backW, doneW, mineW, orphanW, goesW, earlyW, chainA, linkL, linkA, linkedA, linkedL}
+use Rattle.machine.specs.Inner.Words.{currentBase, orphanBase, takeBase, putBase, curW, orpW, putW, Bounded}
+use Rattle.machine.specs.Inner.Shapes.{Pointed}
+use Rattle.columns.specs.Inner.Full.{kindW, peerW, valueW, numberW, atW, matchW}
+use Rattle.classes.specs.Inner.Words.{classW}
+use Rattle.links.specs.Inner.Linking.{mineW, sentClass, goesClass, earlyW, chainA, sentL, sentA, linkL, linkA, linkedA, linkedL}
 use Rattle.links.specs.Inner.Shapes.{Paired, PairedTo}
+use Rattle.links.proofs.Linking.{far-A}
 
 pub paired-at : (t : List ℕ) (n e : ℕ) → PairedTo t n → 0 < e → e ≤ n → Paired t e
 unfolding PairedTo
@@ -28,78 +32,75 @@ pub chain-no : (b : Bool) (a : List ℕ) (k v : ℕ) → b ≡ false → a ≡ c
 unfolding chainA
 chain-no b a k v h = rw h
 
-module _ (t g : List ℕ) (e m : ℕ) (em : m ≡ matchW t e) where
-  pub back-none : m ≡ 0 → false ≡ backW t g e
-  unfolding backW
-  back-none h = rw (eq-eqb (matchW t e) 0 (sym em ∙ h))
+-- the class of what event e sends, by its kind k
+module _ (t g : List ℕ) (cut e k : ℕ) (ek : k ≡ kindW t e) where
+  pub class-send : k ≡ 1 → (r : ℕ) → r ≡ classW t g cut e → r ≡ sentClass t g cut e
+  unfolding sentClass
+  class-send h r er = rw (eq-eqb (kindW t e) 1 (sym ek ∙ h)) er
 
-  pub back-some : (w : ℕ) → (m ≡ 0 → ⊥) → w ≡ getD g (64 + peerW t e) 0 → leb m w ≡ backW t g e
-  unfolding backW
-  back-some w h ew = rw (ne-eqb (matchW t e) 0 (λ q. h (em ∙ q)), ← em, ew)
+  pub class-none : k ≢ 1 → 0 ≡ sentClass t g cut e
+  unfolding sentClass
+  class-none h = rw (ne-eqb (kindW t e) 1 (λ i. h (ek ∙ i)))
 
-module _ (t g : List ℕ) (e : ℕ) where
-  pub orphan-kind : (kindW t e ≡ 1 → ⊥) → false ≡ orphanW t g e
-  unfolding orphanW
-  orphan-kind h = rw (ne-eqb (kindW t e) 1 h)
+pub goes-kept : (c : ℕ) → c ≡ 2 → true ≡ goesClass c
+unfolding goesClass
+goes-kept c h = rw h
 
-  pub orphan-mine : (r b : Bool) → kindW t e ≡ 1 → r ≡ mineW t g e → r ≡ true → b ≡ backW t g e → b ≡ orphanW t g e
-  unfolding orphanW
-  orphan-mine r b h er f eb = rw (eq-eqb (kindW t e) 1 h, ← er, f) eb
+pub goes-ahead : (c : ℕ) → c ≢ 2 → eqb c 4 ≡ goesClass c
+unfolding goesClass
+goes-ahead c h = rw (ne-eqb c 2 h)
 
-  pub orphan-not : (r : Bool) → kindW t e ≡ 1 → r ≡ mineW t g e → r ≡ false → false ≡ orphanW t g e
-  unfolding orphanW
-  orphan-not r h er f = rw (eq-eqb (kindW t e) 1 h, ← er, f)
+-- the message that event e sends linked, over what the code has: the links and the area after its orphan, and the test
+-- whether it goes
+module _ (l a : List ℕ) (z c e class : ℕ) (h : z < 64) (l₁ a₁ : List ℕ) (f : Bool) (el : l₁ ≡ chainA (eqb class 1) l (4 * e + 2) (orpW a z))
+    (ea : a₁ ≡ chainA (eqb class 1) a (orphanBase + z) e) (ef : f ≡ goesClass class) where
+  pub sent-l : (b : List ℕ) → b ≡ chainA f l₁ (4 * e + 1) (putW a₁ c) → b ≡ sentL l a z c e class
+  unfolding sentL
+  sent-l b eb =
+      let i : putW a₁ c ≡ putW a c = rw ea (far-A (eqb class 1) a (orphanBase + z) e (putBase + c) (λ q. omega (arith, h))) in
+      eb ∙ rw (i, el, ef)
 
-  pub early-kind : (kindW t e ≡ 2 → ⊥) → false ≡ earlyW t g e
+  pub sent-a : (a₂ b : List ℕ) → a₂ ≡ chainA f a₁ (putBase + c) e → b ≡ chainA f a₂ (takeBase + c) e → b ≡ sentA a z c e class
+  unfolding sentA
+  sent-a a₂ b e₂ eb = eb ∙ rw (e₂, ea, ef)
+
+-- event e linked: the process z, the peer q, its restart w, whether it is listed, the links and the area after its own
+-- chain, the class
+module _ (t g : List ℕ) (cut : ℕ) (l a : List ℕ) (e z q w class : ℕ) (l₁ a₁ : List ℕ) (f₁ : Bool) (ez : z ≡ atW t e) (eq : q ≡ peerW t e)
+    (ew : w ≡ getD g (64 + z) 0) (e₁ : ltb w e ≡ f₁) (el : l₁ ≡ chainA f₁ l (4 * e) (curW a z)) (ea : a₁ ≡ chainA f₁ a (currentBase + z) e)
+    (ec : class ≡ sentClass t g cut e) where
+  own : z < 64
+  own = rw ez (omega arith)
+
+  is-mine : mineW t g e ≡ f₁
+  is-mine = rw (← ez, ← ew) e₁
+
+  pub linked-l : (b : List ℕ) → b ≡ sentL l₁ a₁ z (64 * z + q) e class → b ≡ linkL t g cut l a e
+  unfolding linkL sentL
+  linked-l b eb =
+      let i : orpW a₁ z ≡ orpW a z = rw ea (far-A f₁ a (currentBase + z) e (orphanBase + z) (λ y. omega (arith, own))) in
+      let j : putW a₁ (64 * z + q) ≡ putW a (64 * z + q) = rw ea (far-A f₁ a (currentBase + z) e (putBase + (64 * z + q)) (λ y. omega (arith, own))) in
+      eb ∙ rw (is-mine, i, j, el, ec, ez, eq)
+
+  pub linked-a : (f : Bool) (b d : List ℕ) → f ≡ earlyW t g e → d ≡ sentA a₁ z (64 * z + q) e class
+      → b ≡ chainA f (chainA f d e (numberW t (matchW t e))) (takenBase + e) (valueW t (matchW t e)) → b ≡ linkA t g cut a e
+  unfolding linkA sentA
+  linked-a f b d ef ed eb = eb ∙ rw (is-mine, ed, ef, ea, ec, ez, eq)
+
+-- nothing is written where a test does not hold, twice
+pub chain-none : (a : List ℕ) (k v j u : ℕ) → a ≡ chainA false (chainA false a k v) j u
+unfolding chainA
+chain-none a k v j u = refl
+
+-- a listed event is no receive before the restart; another is, if it is a receive
+module _ (t g : List ℕ) (e z w : ℕ) (ez : z ≡ atW t e) (ew : w ≡ getD g (64 + z) 0) where
+  pub early-listed : w < e → false ≡ earlyW t g e
   unfolding earlyW
-  early-kind h = rw (ne-eqb (kindW t e) 2 h)
+  early-listed h = rw (← ez, ← ew, lt-leb e w h) (by-bool (eqb (kindW t e) 2) (λ x. rw x) (λ x. rw x))
 
-  pub early-is : (w : ℕ) → kindW t e ≡ 2 → w ≡ getD g (64 + atW t e) 0 → leb e w ≡ earlyW t g e
+  pub early-other : e ≤ w → (k : ℕ) → k ≡ kindW t e → eqb k 2 ≡ earlyW t g e
   unfolding earlyW
-  early-is w h ew = rw (eq-eqb (kindW t e) 2 h, ew)
-
-module _ (t g : List ℕ) (cut e : ℕ) where
-  pub goes-kind : (kindW t e ≡ 1 → ⊥) → false ≡ goesW t g cut e
-  unfolding goesW
-  goes-kind h = rw (ne-eqb (kindW t e) 1 h)
-
-  module _ (k : kindW t e ≡ 1) (b : Bool) (eb : b ≡ backW t g e) where
-    pub goes-back : b ≡ true → false ≡ goesW t g cut e
-    unfolding goesW
-    goes-back h = rw (eq-eqb (kindW t e) 1 k, ← eb, h)
-
-    module _ (nb : b ≡ false) (r : Bool) (er : r ≡ mineW t g e) where
-      pub goes-mine : r ≡ true → true ≡ goesW t g cut e
-      unfolding goesW
-      goes-mine h = rw (eq-eqb (kindW t e) 1 k, ← eb, nb, ← er, h)
-
-      module _ (nr : r ≡ false) (m : ℕ) (em : m ≡ matchW t e) where
-        pub goes-none : m ≡ 0 → true ≡ goesW t g cut e
-        unfolding goesW doneW
-        goes-none h = rw (eq-eqb (kindW t e) 1 k, ← eb, nb, ← er, nr, ← em, eq-eqb m 0 h)
-
-        pub goes-later : (m ≡ 0 → ⊥) → cut < m → true ≡ goesW t g cut e
-        unfolding goesW doneW
-        goes-later n h = rw (eq-eqb (kindW t e) 1 k, ← eb, nb, ← er, nr, ← em, ne-eqb m 0 n, lt-leb m cut h)
-
-        pub goes-logged : (m ≡ 0 → ⊥) → m ≤ cut → ltb (epochW t e) (epochW t m) ≡ goesW t g cut e
-        unfolding goesW doneW
-        goes-logged n h = rw (eq-eqb (kindW t e) 1 k, ← eb, nb, ← er, nr, ← em, ne-eqb m 0 n, le-leb m cut h)
-
-module _ (t g : List ℕ) (cut : ℕ) (l a : List ℕ) (e : ℕ) (f₁ f₂ f₃ f₄ : Bool) (e₁ : f₁ ≡ mineW t g e) (e₂ : f₂ ≡ orphanW t g e) (e₃ : f₃ ≡ goesW t g cut e) (e₄ : f₄ ≡ earlyW t g e) where
-  pub linked-l : (b : List ℕ) → b ≡ chainA f₃ (chainA f₂ (chainA f₁ l (4 * e) (getD a (currentBase + atW t e) 0)) (4 * e + 2) (getD a (orphanBase + atW t e) 0)) (4 * e + 1) (getD a (putBase + (64 * atW t e + peerW t e)) 0) → b ≡ linkL t g cut l a e
-  unfolding linkL
-  linked-l b eb = eb ∙ rw (e₁, e₂, e₃)
-
-  pub linked-a : (b d : List ℕ) → d ≡ chainA f₃ (chainA f₃ (chainA f₂ (chainA f₁ a (currentBase + atW t e) e) (orphanBase + atW t e) e) (putBase + (64 * atW t e + peerW t e)) e) (takeBase + (64 * atW t e + peerW t e)) e
-      → b ≡ chainA f₄ (chainA f₄ d e (numberW t e)) (takenBase + e) (valueW t (matchW t e)) → b ≡ linkA t g cut a e
-  unfolding linkA
-  linked-a b d ed eb = eb ∙ rw (ed, e₁, e₂, e₃, e₄)
-
--- a receive before the restart is a receive
-pub early-recv : (t g : List ℕ) (e : ℕ) (f : Bool) → f ≡ earlyW t g e → f ≡ true → kindW t e ≡ 2
-unfolding earlyW
-early-recv t g e f ef h = by-bool (eqb (kindW t e) 2) (λ x. eqb-true (kindW t e) 2 x) (λ x. clash {b = false} (rw x at (sym ef ∙ h)) refl)
+  early-other h k ek = rw (← ez, ← ew, le-leb e w h, ek) (by-bool (eqb (kindW t e) 2) (λ x. rw x) (λ x. rw x))
 
 module _ (t g : List ℕ) (cut n x : ℕ) (p : 0 < x) (q : x ≤ n) (l₀ a₀ l a l′ a′ : List ℕ) where
   last : n - (x - 1) ≡ suc (n - x)
@@ -117,29 +118,36 @@ module _ (t g : List ℕ) (cut n x : ℕ) (p : 0 < x) (q : x ≤ n) (l₀ a₀ l
   links-turn ea el e = rw (last, here, ← ea, ← el) e
 
 -- Every pointer that the pass writes is an event; the record is before the pointers.
-abbrev Pointed : List ℕ → Type 0
-Pointed a = (length a ≡ areaWords) × Bounded a
-
 pointed-chain : (b : Bool) (a : List ℕ) (k v : ℕ) → k < areaWords → (currentBase ≤ k → v < 2049) → Pointed a → Pointed (chainA b a k v)
 unfolding chainA Bounded
-pointed-chain true a k v h w p = (
-  length-set a k v ∙ p .0,
-  λ j l m. by-eq j k
-      (λ e. rw (e, getD-set-same a k v 0 (omega (arith, h, p .0))) (w (omega (arith, e, l))))
-      (λ n. rw (getD-set-other a k j v 0 n) (p .1 j l m)),
-)
+pointed-chain true a k v h w p = record {
+  area-long = length-set a k v ∙ p .area-long;
+  bounded = λ j l m. by-eq j k
+      (λ e. rw (e, getD-set-same a k v 0 (omega (arith, h, p .area-long))) (w (omega (arith, e, l))))
+      (λ n. rw (getD-set-other a k j v 0 n) (p .bounded j l m));
+}
 pointed-chain false a k v h w p = p
 
-pub bounded-turn : (t g : List ℕ) (cut e : ℕ) (a b : List ℕ) → e < 2049 → length a ≡ areaWords → Bounded a → b ≡ linkA t g cut a e → Bounded b
+-- an event written
+pub pointed-next : (b : Bool) (a : List ℕ) (k e : ℕ) (a′ : List ℕ) → k < areaWords → e < 2049 → Pointed a → a′ ≡ chainA b a k e → Pointed a′
+pointed-next b a k e a′ h l p i = rw i (pointed-chain b a k e h (λ y. l) p)
+
+pub pointed-turn : (t g : List ℕ) (cut e : ℕ) (a b : List ℕ) → e < 2049 → Pointed a → b ≡ linkA t g cut a e → Pointed b
 unfolding linkA
-bounded-turn t g cut e a b h l p eb =
+pointed-turn t g cut e a b h p eb =
     let z : atW t e < 64 = omega arith in
     let c : 64 * atW t e + peerW t e < 4096 = omega arith in
-    let q : Pointed (linkA t g cut a e) =
-    pointed-chain _ _ _ _ (omega arith) (λ k. absurd (omega arith)) (pointed-chain _ _ _ _ (omega arith) (λ k. absurd (omega arith))
+    rw eb (pointed-chain _ _ _ _ (omega arith) (λ k. absurd (omega arith)) (pointed-chain _ _ _ _ (omega arith) (λ k. absurd (omega arith))
     (pointed-chain _ _ _ _ (omega (arith, c)) (λ k. h) (pointed-chain _ _ _ _ (omega (arith, c)) (λ k. h)
-    (pointed-chain _ _ _ _ (omega (arith, z)) (λ k. h) (pointed-chain _ _ _ _ (omega (arith, z)) (λ k. h) (l, p)))))) in
-    rw eb (q .1)
+    (pointed-chain _ _ _ _ (omega (arith, z)) (λ k. h) (pointed-chain _ _ _ _ (omega (arith, z)) (λ k. h) p))))))
+
+-- the events after x are linked
+pub record LinkedTo (t g : List ℕ) (cut n : ℕ) (l₀ a₀ l a : List ℕ) (x : ℕ) : Type 0 where
+  pub within : x ≤ n
+  pub links-same : length l ≡ length l₀
+  pub links-are : l ≡ linkedL t g cut n (n - x) l₀ a₀
+  pub words-are : a ≡ linkedA t g cut n (n - x) a₀
+  pub pointed : Pointed a
 
 pub words-none : (t g : List ℕ) (cut n : ℕ) (a₀ : List ℕ) → a₀ ≡ linkedA t g cut n (n - n) a₀
 unfolding linkedA

@@ -1,4 +1,3 @@
-pub mod Given
 pub mod Linked
 pub mod Linking
 pub mod Shapes

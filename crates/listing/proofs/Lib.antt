@@ -2,7 +2,6 @@ pub mod Chains
 pub mod Channels
 pub mod Following
 pub mod Laying
-pub mod Pairs
 pub mod Room
 pub mod Rows
 pub mod Whole

@@ -8,7 +8,7 @@ use lib.ListN.{getD, set}
 use lib.Dec.{leb, ltb, eqb}
 use borrow.Author.Tests.{lt-ltb, le-ltb, le-leb, lt-leb, eq-eqb, ne-eqb}
 use Rattle.sets.specs.Inner.Sets.{withIn}
-use Rattle.columns.specs.Inner.Full.{atW, peerW, kindW, epochW, matchW}
+use Rattle.columns.specs.Inner.Full.{atW, peerW, kindW, epochW, matchW, loggedW}
 use Rattle.lowering.specs.Inner.Lowering.{lostE, lostW, lowerAt, joinedBy, undoneW}
 
 -- ---- `lower_at`
@@ -18,39 +18,38 @@ module _ (t m : List ℕ) (e k : ℕ) (ek : k ≡ kindW t e) where
   unfolding lostW
   no-receive h = let n : eqb (kindW t e) 2 ≡ false = ne-eqb (kindW t e) 2 (λ q. h (ek ∙ q)) in rw n
 
-  module _ (q p d : ℕ) (ek2 : k ≡ 2) (eq : q ≡ atW t e) (ep : p ≡ peerW t e) (ed : d ≡ matchW t e) where
+  module _ (ek2 : k ≡ 2) where
     is-two : eqb (kindW t e) 2 ≡ true
     is-two = eq-eqb (kindW t e) 2 (sym ek ∙ ek2)
 
-    pub received-early : epochW t e < getD m q 0 → lostW t m e ≡ false
+    pub is-logged : loggedW t e ≡ 1 → lostW t m e ≡ false
     unfolding lostW lostE
-    received-early h =
+    is-logged l =
+        rw (is-two, eq-eqb (loggedW t e) 1 l, and-false (ltb (epochW t (matchW t e)) (getD m (peerW t e) 0)), and-false (leb (getD m (atW t e) 0) (epochW t e)))
+
+    pub received-early : (q : ℕ) → q ≡ atW t e → epochW t e < getD m q 0 → lostW t m e ≡ false
+    unfolding lostW lostE
+    received-early q eq h =
         let a : leb (getD m (atW t e) 0) (epochW t e) ≡ false = rw (← eq) (lt-leb (getD m q 0) (epochW t e) h) in
         rw (is-two, a)
 
-    pub is-logged : epochW t d < epochW t e → lostW t m e ≡ false
-    unfolding lostW lostE
-    is-logged l =
-        let c : ltb (epochW t (matchW t e)) (epochW t e) ≡ true = rw (← ed) (lt-ltb (epochW t d) (epochW t e) l) in
-        rw (is-two, c, and-false (ltb (epochW t (matchW t e)) (getD m (peerW t e) 0)), and-false (leb (getD m (atW t e) 0) (epochW t e)))
+    module _ (q p d : ℕ) (eq : q ≡ atW t e) (ep : p ≡ peerW t e) (ed : d ≡ matchW t e) where
+      pub sent-late : getD m p 0 ≤ epochW t d → lostW t m e ≡ false
+      unfolding lostW lostE
+      sent-late h =
+          let b : ltb (epochW t (matchW t e)) (getD m (peerW t e) 0) ≡ false = rw (← ed, ← ep) (le-ltb (epochW t d) (getD m p 0) h) in
+          rw (is-two, b, and-false (leb (getD m (atW t e) 0) (epochW t e)))
 
-    pub sent-late : getD m p 0 ≤ epochW t d → lostW t m e ≡ false
-    unfolding lostW lostE
-    sent-late h =
-        let b : ltb (epochW t (matchW t e)) (getD m (peerW t e) 0) ≡ false = rw (← ed, ← ep) (le-ltb (epochW t d) (getD m p 0) h) in
-        rw (is-two, b, and-false (leb (getD m (atW t e) 0) (epochW t e)))
+      pub is-lost : (loggedW t e ≡ 1 → ⊥) → getD m q 0 ≤ epochW t e → epochW t d < getD m p 0 → lostW t m e ≡ true
+      unfolding lostW lostE
+      is-lost l g h =
+          let a : leb (getD m (atW t e) 0) (epochW t e) ≡ true = rw (← eq) (le-leb (getD m q 0) (epochW t e) g) in
+          let b : ltb (epochW t (matchW t e)) (getD m (peerW t e) 0) ≡ true = rw (← ed, ← ep) (lt-ltb (epochW t d) (getD m p 0) h) in
+          rw (is-two, a, b, ne-eqb (loggedW t e) 1 l)
 
-    pub is-lost : getD m q 0 ≤ epochW t e → epochW t d < getD m p 0 → epochW t e ≤ epochW t d → lostW t m e ≡ true
-    unfolding lostW lostE
-    is-lost g h l =
-        let a : leb (getD m (atW t e) 0) (epochW t e) ≡ true = rw (← eq) (le-leb (getD m q 0) (epochW t e) g) in
-        let b : ltb (epochW t (matchW t e)) (getD m (peerW t e) 0) ≡ true = rw (← ed, ← ep) (lt-ltb (epochW t d) (getD m p 0) h) in
-        let c : ltb (epochW t (matchW t e)) (epochW t e) ≡ false = rw (← ed) (le-ltb (epochW t d) (epochW t e) l) in
-        rw (is-two, a, b, c)
-
-    pub is-lowered : lostW t m e ≡ true → set m p (epochW t d) ≡ lowerAt t m e
-    unfolding lowerAt
-    is-lowered h = rw (h, ed, ep)
+      pub is-lowered : lostW t m e ≡ true → set m p (epochW t d) ≡ lowerAt t m e
+      unfolding lowerAt
+      is-lowered h = rw (h, ed, ep)
 
 pub not-lowered : (t m : List ℕ) (e : ℕ) → lostW t m e ≡ false → m ≡ lowerAt t m e
 unfolding lowerAt

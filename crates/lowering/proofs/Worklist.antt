@@ -13,52 +13,12 @@ use Rattle.words.proofs.Cases.{by-bool, by-lt, by-eq, clash, and-left, and-righ
 use Rattle.theory.specs.Line.{inSet}
 use Rattle.sets.specs.Inner.Sets.{firstIn, Outside}
 use Rattle.sets.proofs.Sets.{none-in, first-in, with-out, with-lt}
-use Rattle.columns.specs.Inner.Full.{atW, peerW, kindW, epochW, matchW}
+use Rattle.columns.specs.Inner.Full.{atW, peerW, kindW, epochW, matchW, loggedW}
 use Rattle.recovery_line.specs.Inner.Words.{Sized}
-use Rattle.lowering.specs.Inner.Lowering.{lostE, lostW, lowerAt, Lowerable, Lowers, Lowered, Newest, Linked, Pending, undoneW, joinedBy, Before}
+use Rattle.lowering.specs.Inner.Lowering.{lostE, lostW, lowerAt, Lowerable, Lowers, Lowered, undoneW, joinedBy}
+use Rattle.positions.specs.Inner.Positions.{Newest, Linked, NewestRanged, Before}
 use Rattle.lowering.specs.Inner.Lowering.Lowers.{more}
 use Rattle.lowering.proofs.Laws.{no-receive, received-early, sent-late, is-logged, is-lost}
-
--- ---- `link`
-
-pub linked-none : (t earlier latest : List ℕ) → length earlier ≡ 2049 → length latest ≡ 64 → ((z : ℕ) → getD latest z 0 ≡ 0) → Linked t 0 earlier latest
-linked-none t earlier latest a b h = record {
-  long = a;
-  wide = b;
-  before = λ e u v. absurd (let y : ⊥ = omega arith in y);
-  last = λ z l. record {
-    within = omega (arith, h z);
-    own = λ u. absurd (let y : ⊥ = omega (arith, h z) in y);
-    others = λ y u v i. omega arith;
-  };
-}
-
-pub linked-next : (t earlier latest : List ℕ) (x z : ℕ) → x < 2048 → z ≡ atW t (x + 1) → Linked t x earlier latest
-    → Linked t (x + 1) (set earlier (x + 1) (getD latest z 0)) (set latest z (x + 1))
-linked-next t earlier latest x z few ez L = record {
-  long = simp length-set (L .long);
-  wide = simp length-set (L .wide);
-  before = λ e u v. by-eq e (x + 1)
-      (λ i. let n = L .last z (omega arith) in
-      rw (i, getD-set-same earlier (x + 1) (getD latest z 0) 0 (omega (arith, L .long))) (record {
-        within = omega (arith, n .within);
-        own = λ p. n .own p ∙ ez;
-        others = λ y p q j. n .others y p (omega arith) (j ∙ sym ez);
-      }))
-      (λ i. rw (getD-set-other earlier (x + 1) e (getD latest z 0) 0 i) (L .before e u (omega arith)));
-  last = λ y l. by-eq y z
-      (λ i. rw (i, getD-set-same latest z (x + 1) 0 (omega (arith, L .wide))) (record {
-        within = omega arith;
-        own = λ p. sym ez;
-        others = λ w p q j. omega arith;
-      }))
-      (λ i. let n = L .last y l in
-      rw (getD-set-other latest z y (x + 1) 0 i) (record {
-        within = omega (arith, n .within);
-        own = n .own;
-        others = λ w p q j. by-eq w (x + 1) (λ k. i (sym j ∙ ap (λ (v : ℕ). atW t v) k ∙ sym ez)) (λ k. n .others w p (omega arith) j);
-      }));
-}
 
 -- ---- Lowering at an event
 
@@ -67,7 +27,7 @@ unfolding lostW lostE
 lost-below t m e h =
     by-bool (eqb (kindW t e) 2)
     (λ k. let l : lostE t m (peerW t e) (atW t e) (matchW t e) e ≡ true = rw k at h in
-    let n = not (ltb (epochW t (matchW t e)) (epochW t e)) in
+    let n = not (eqb (loggedW t e) 1) in
     let b = ltb (epochW t (matchW t e)) (getD m (peerW t e) 0) in
     ltb-true (epochW t (matchW t e)) (getD m (peerW t e) 0) (and-left b n (and-right (leb (getD m (atW t e) 0) (epochW t e)) (b && n) l)))
     (λ k. clash {b = false} (rw k at h) refl)
@@ -90,7 +50,7 @@ lower-falls t m e z len =
 -- The message that event e receives is not lost, whatever becomes of its receiver: it is logged, or its sender restarts
 -- no later than the send.
 abbrev Settled : List ℕ → List ℕ → ℕ → Type 0
-Settled t m e = kindW t e ≡ 2 → epochW t e ≤ epochW t (matchW t e) → getD m (peerW t e) 0 ≤ epochW t (matchW t e)
+Settled t m e = kindW t e ≡ 2 → (loggedW t e ≡ 1 → ⊥) → getD m (peerW t e) 0 ≤ epochW t (matchW t e)
 
 settled-stays : (t m : List ℕ) (e x : ℕ) → length m ≡ 64 → Settled t m x → Settled t (lowerAt t m e) x
 settled-stays t m e x len s k l = omega (arith, s k l, lower-falls t m e (peerW t x) len)
@@ -98,15 +58,15 @@ settled-stays t m e x len s k l = omega (arith, s k l, lower-falls t m e (peerW 
 settled-safe : (t m : List ℕ) (e : ℕ) → Settled t m e → lostW t m e ≡ false
 settled-safe t m e s =
     by-eq (kindW t e) 2
-    (λ k. by-lt (epochW t (matchW t e)) (epochW t e)
-    (λ l. is-logged t m e _ refl _ _ _ k refl refl refl l)
-    (λ l. sent-late t m e _ refl _ _ _ k refl refl refl (s k l)))
+    (λ k. by-eq (loggedW t e) 1
+    (λ l. is-logged t m e _ refl k l)
+    (λ l. sent-late t m e _ refl k _ _ _ refl refl refl (s k l)))
     (λ n. no-receive t m e _ refl n)
 
 -- a receive before the restart of its process is not undone
 early-safe : (t m : List ℕ) (e : ℕ) → epochW t e < getD m (atW t e) 0 → lostW t m e ≡ false
 early-safe t m e h =
-    by-eq (kindW t e) 2 (λ k. received-early t m e _ refl _ _ _ k refl refl refl h) (λ n. no-receive t m e _ refl n)
+    by-eq (kindW t e) 2 (λ k. received-early t m e _ refl k _ refl h) (λ n. no-receive t m e _ refl n)
 
 -- lowering at an undone event settles it
 lower-settles : (t m : List ℕ) (e : ℕ) → length m ≡ 64 → getD m (atW t e) 0 ≤ epochW t e → Settled t (lowerAt t m e) e
@@ -114,8 +74,8 @@ unfolding lowerAt
 lower-settles t m e len u k l =
     let d = epochW t (matchW t e) in
     by-lt d (getD m (peerW t e) 0)
-    (λ h. rw (is-lost t m e _ refl _ _ _ k refl refl refl u h l, getD-set-same m (peerW t e) d 0 (omega (arith, len))) (omega arith))
-    (λ h. rw (sent-late t m e _ refl _ _ _ k refl refl refl h) h)
+    (λ h. rw (is-lost t m e _ refl k _ _ _ refl refl refl l u h, getD-set-same m (peerW t e) d 0 (omega (arith, len))) (omega arith))
+    (λ h. rw (sent-late t m e _ refl k _ _ _ refl refl refl h) h)
 
 -- ---- `lower`
 
@@ -163,8 +123,8 @@ sum-set (x ∷ xs) zero v h k = omega arith
 sum-set (x ∷ xs) (suc i) v h k = omega (arith, sum-set xs i v (omega arith) k)
 
 module _ (t : List ℕ) (cut : ℕ) (m latest : List ℕ) (L : Looking t cut m latest) where
-  pub pending : Sized t cut → Pending t m latest
-  pending S = record {
+  pub ranged : Sized t cut → NewestRanged t m latest
+  ranged S = record {
     whole = S .whole;
     long = L .long;
     wide = L .wide;

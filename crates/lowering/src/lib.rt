@@ -1,16 +1,16 @@
 // A line lowered until it loses no message: a worklist of processes that may have undone events not looked at.
-// specs/Lowering says what lowering at an event does and when it is done. Assumes nothing.
+// specs/Inner/Lowering says what lowering at an event does and when it is done. Assumes nothing.
 ghost use mathlib.Core.Path.{_≡_};
 ghost use Prim.Native.Nat.{ℕ, _<_};
 ghost use lib.ListN.{length, getD, set};
 ghost use Rattle.recovery_line.specs.Inner.Words.{Sized};
-ghost use Rattle.lowering.specs.Inner.Lowering.{lostW, lowerAt, Lowered, joinedBy, Linked, Pending, undoneW, Before, Lowerable};
+ghost use Rattle.positions.specs.Inner.Positions.{Linked, NewestRanged, Before};
+ghost use Rattle.lowering.specs.Inner.Lowering.{lostW, lowerAt, Lowered, joinedBy, undoneW, Lowerable, Lookable};
 use columns::EPOCH_BASE;
+use columns::LOGGED_BASE;
 use sets::EVERYONE;
 use trace::EVENT_BASE;
-
-// The kinds of an event's word.
-const RECEIVE: u32 = 2;
+use trace::RECEIVE;
 
 // Where event e receives a message that the line loses, its sender is lowered to the epoch of the send; whether that is
 // so.
@@ -23,42 +23,25 @@ fn lower_at(full: &[u32], epochs: &mut [u32], e: usize) -> bool
     if trace::kind(w) != RECEIVE {
         return false;
     }
+    if full[LOGGED_BASE + e] == 1 {
+        return false;
+    }
     let q = trace::process(w);
     let p = trace::peer(w);
-    let d = recovery_line::matched(full, e);
-    let taken = full[EPOCH_BASE + e];
-    let sent = full[EPOCH_BASE + d];
-    if epochs[q] > taken {
+    if epochs[q] > full[EPOCH_BASE + e] {
         return false;
     }
+    let sent = full[EPOCH_BASE + columns::matched(full, e)];
     if epochs[p] <= sent {
-        return false;
-    }
-    if sent < taken {
         return false;
     }
     epochs[p] = sent;
     true
 }
 
-// Links the events of each process up to the cut, from the newest back: for each event the one of its process before
-// it, and for each process its newest; 0 where there is none. Links have 16 bits, so that they take less to clear.
-pub fn link(full: &[u32], cut: usize, earlier: &mut [u16], latest: &mut [u16])
-    requires { ⌜ Sized (now full) cut × (length (now earlier) ≡ 2049) × (length (now latest) ≡ 64) × ((z : ℕ) → getD (now latest) z 0 ≡ 0) ⌝ }
-    ensures { λ _. ⌜ Linked (now (full .entry)) cut (now (earlier .exit)) (now (latest .exit)) ⌝ }
-{
-    let mut e: usize = 0;
-    while e < cut {
-        e += 1;
-        let z = trace::process(full[EVENT_BASE + e]);
-        earlier[e] = latest[z];
-        latest[z] = e as u16;
-    }
-}
-
 // Does the line undo the newest event of process z that was not looked at yet.
 fn undoes(full: &[u32], epochs: &[u32], latest: &[u16], z: usize) -> bool
-    requires { ⌜ Pending (now full) (now epochs) (now latest) × (z < 64) ⌝ }
+    requires { ⌜ NewestRanged (now full) (now epochs) (now latest) × (z < 64) ⌝ }
     ensures { λ r. ⌜ r ≡ undoneW (now (full .entry)) (now (epochs .entry)) (now (latest .entry)) z ⌝ }
 {
     let e = latest[z] as usize;
@@ -78,7 +61,7 @@ fn look(
     pending: u64,
     z: usize,
 ) -> u64
-    requires { ⌜ (length (now earlier) ≡ 2049) × (length (now latest) ≡ 64) × (z < 64) × Lowerable (now full) (now epochs) (getD (now latest) z 0) ⌝ }
+    requires { ⌜ Lookable (now full) (now earlier) (now epochs) (now latest) z ⌝ }
     ensures line { λ _. ⌜ now (epochs .exit) ≡ lowerAt (now (full .entry)) (now (epochs .entry)) (getD (now (latest .entry)) z 0) ⌝ }
     ensures rest { λ _. ⌜ now (latest .exit) ≡ set (now (latest .entry)) z (getD (now (earlier .entry)) (getD (now (latest .entry)) z 0) 0) ⌝ }
     ensures pending { λ r. ⌜ r ≡ joinedBy (now (full .entry)) (now (epochs .entry)) (getD (now (latest .entry)) z 0) pending ⌝ }

@@ -19,10 +19,11 @@ use Rattle.theory.proofs.Base.{by, on}
 use Rattle.theory.proofs.Events.{sends-is}
 use Rattle.theory.proofs.Flow.{inv-step}
 use Rattle.theory.specs.Inner.Flow.{ahead, Inv}
-use Rattle.machine.specs.Inner.Words.{noPhase, kindBy, curW, orpW, takeW, putW, lowW, sendOk, eventOk, processOk, handOk, allowedW, movedW, putInW, eventStepW, processW, applyW}
-use Rattle.columns.specs.Inner.Full.{kindW, peerW, phaseW}
+use Rattle.machine.specs.Inner.Words.{noPhase, curW, orpW, takeW, putW, lowW, sendOk, eventOk, processOk, handOk, allowedW, movedW, putInW, eventStepW, processW, applyW}
+use Rattle.columns.specs.Inner.Full.{kindBy, kindW, peerW, phaseW}
 use Rattle.theory.specs.Inner.Lists.{head0}
 use Rattle.machine.specs.Inner.Related.{goes, orph, Cols, Chan, Rel}
+use Rattle.machine.proofs.Told.{told}
 use Rattle.machine.proofs.Facts.{ph-at, evs-head, goes-send, left-none, left-some, to-put, chan-none, chan-some}
 use Rattle.machine.proofs.Moves.{at-next, orp-test, rel-other, rel-drop, rel-send, rel-recv, rel-hand}
 
@@ -74,7 +75,7 @@ module _ (R : Run) (L : Laws R) (t l g : List ℕ) (K : Cols R t l g) where
       unfolding processOk
       process-ok =
           let n0 : eqb (curW a z) 0 ≡ false = ne-eqb (curW a z) 0 (λ q. omega (arith, e-cur, e-in .0)) in
-          let gt : ltb (getD g z 0) (lowW a) ≡ true = rw (K .base .gated .gates z z-in) (sym (r .low (gate R z) (K .base .gate-lt z z-in)) ∙ b) in
+          let gt : ltb (getD g z 0) (lowW a) ≡ true = rw (K .gated .gates z z-in) (sym (r .low (gate R z) ((told R t l g K) .gate-lt z)) ∙ b) in
           rw (n0, gt, e-cur)
 
       step-event : (k : Kind) → kind (R .trace) e ≡ k → step R s (process z) ≡ eventStep R s z e es k
@@ -88,7 +89,7 @@ module _ (R : Run) (L : Laws R) (t l g : List ℕ) (K : Cols R t l g) where
       send-agrees : (q : ℕ) → kind (R .trace) e ≡ send q → (ls : List ℕ) → s .left z q ≡ ls → Agrees (eventOk t g a z e) (movedW l (eventStepW t l a z e) z e) (sendStep R s z q e es ls)
       unfolding eventOk eventStepW sendStep
       send-agrees q k [] lf =
-          let kk = kind-send (kindW t e) (peerW t e) q (sym (K .base .kinds e (e-in .0) (e-in .1)) ∙ k) in
+          let kk = kind-send (kindW t e) (peerW t e) q (sym ((told R t l g K) .kinds e (e-in .0) (e-in .1)) ∙ k) in
           let hq : q < 64 = omega (arith, peer-lt, kk .1) in
           let u = sending R s z q e es in
           let so : step R s (process z) ≡ some u = step-event (send q) k ∙ (unfold eventStep in unfold sendStep in rw lf) in
@@ -97,24 +98,24 @@ module _ (R : Run) (L : Laws R) (t l g : List ℕ) (K : Cols R t l g) where
           let ot : eqb (orpW a z) e ≡ orph R z e = ap (λ x. eqb x e) (r .orp z hz) ∙ orp-test R L t l g K s i z e es h in
           by (orph R z e)
           (λ o. let oo : eqb (orpW a z) e ≡ true = ot ∙ o in
-          allows u (rw (kk .0, kk .1, K .base .gated .places z z-in) ok) (rw (kk .0, oo) (rel-drop R L t l g K a s r i z e es hz h q k o iu)) iu)
+          allows u (rw (kk .0, kk .1, K .gated .places z z-in) ok) (rw (kk .0, oo) (rel-drop R L t l g K a s r i z e es hz h q k o iu)) iu)
           (λ o. let oo : eqb (orpW a z) e ≡ false = ot ∙ o in
-          allows u (rw (kk .0, kk .1, K .base .gated .places z z-in) ok) (rw (kk .0, kk .1, oo) (rel-send R L t l g K a s r i z e es hz h q hq k o lf)) iu)
+          allows u (rw (kk .0, kk .1, K .gated .places z z-in) ok) (rw (kk .0, kk .1, oo) (rel-send R L t l g K a s r i z e es hz h q hq k o lf)) iu)
       send-agrees q k (m ∷ ms) lf =
-          let kk = kind-send (kindW t e) (peerW t e) q (sym (K .base .kinds e (e-in .0) (e-in .1)) ∙ k) in
+          let kk = kind-send (kindW t e) (peerW t e) q (sym ((told R t l g K) .kinds e (e-in .0) (e-in .1)) ∙ k) in
           let hq : q < 64 = omega (arith, peer-lt, kk .1) in
           let no : sendOk (R .restart z) (putW a (64 * z + q)) ≡ false = left-some R L s i z q _ _ (r .chan z q hz hq) m ms lf in
-          refuses (rw (kk .0, kk .1, K .base .gated .places z z-in) no)
+          refuses (rw (kk .0, kk .1, K .gated .places z z-in) no)
 
       recv-agrees : (p : ℕ) → kind (R .trace) e ≡ recv p → (cs : List ℕ) → s .chan p z ≡ cs → Agrees (eventOk t g a z e) (movedW l (eventStepW t l a z e) z e) (recvStep R s z p es cs)
       unfolding eventOk eventStepW recvStep
       recv-agrees p k [] cm =
-          let kk = kind-recv (kindW t e) (peerW t e) p (sym (K .base .kinds e (e-in .0) (e-in .1)) ∙ k) in
+          let kk = kind-recv (kindW t e) (peerW t e) p (sym ((told R t l g K) .kinds e (e-in .0) (e-in .1)) ∙ k) in
           let hp : p < 64 = omega (arith, peer-lt, kk .2) in
           let no : eqb (takeW a (64 * p + z)) (putW a (64 * p + z)) ≡ true = chan-none R L s i p z _ _ (r .chan p z hp hz) cm in
           refuses (rw (kk .0, kk .1, kk .2, no))
       recv-agrees p k (m ∷ ms) cm =
-          let kk = kind-recv (kindW t e) (peerW t e) p (sym (K .base .kinds e (e-in .0) (e-in .1)) ∙ k) in
+          let kk = kind-recv (kindW t e) (peerW t e) p (sym ((told R t l g K) .kinds e (e-in .0) (e-in .1)) ∙ k) in
           let hp : p < 64 = omega (arith, peer-lt, kk .2) in
           let ok : eqb (takeW a (64 * p + z)) (putW a (64 * p + z)) ≡ false = chan-some R L s i p z _ _ (r .chan p z hp hz) m ms cm in
           let u = taking R s z p es m ms in
@@ -126,7 +127,7 @@ module _ (R : Run) (L : Laws R) (t l g : List ℕ) (K : Cols R t l g) where
       event-agrees (send q) k = send-agrees q k (s .left z q) refl
       event-agrees (recv p) k = recv-agrees p k (s .chan p z) refl
       event-agrees other k =
-          let kk = kind-other (kindW t e) (peerW t e) (sym (K .base .kinds e (e-in .0) (e-in .1)) ∙ k) in
+          let kk = kind-other (kindW t e) (peerW t e) (sym ((told R t l g K) .kinds e (e-in .0) (e-in .1)) ∙ k) in
           let u = moved R s z es in
           let so : step R s (process z) ≡ some u = step-event other k ∙ (unfold eventStep in refl) in
           allows u (rw (kk .0, kk .1)) (rw (kk .0, kk .1) (rel-other R L t l g K a s r i z e es hz h k)) (inv-step R s u (process z) so i)
@@ -154,7 +155,7 @@ module _ (R : Run) (L : Laws R) (t l g : List ℕ) (K : Cols R t l g) where
         let z-in : z < R .trace .procs = omega (arith, L .process-lt e (n .0) (n .1), n .2) in
         let c : curW a z ≡ e = r .cur z hz ∙ ap head0 h in
         let n0 : eqb (curW a z) 0 ≡ false = ne-eqb (curW a z) 0 (λ q. omega (arith, c, n .0)) in
-        let gt : ltb (getD g z 0) (lowW a) ≡ false = rw (K .base .gated .gates z z-in) (sym (r .low (gate R z) (K .base .gate-lt z z-in)) ∙ k) in
+        let gt : ltb (getD g z 0) (lowW a) ≡ false = rw (K .gated .gates z z-in) (sym (r .low (gate R z) ((told R t l g K) .gate-lt z)) ∙ k) in
         refuses (shut-gate z n0 gt)
 
     pub process-agrees : (z : ℕ) → z < 64 → Agrees (processOk t g a z) (processW t l a z) (step R s (process z))
@@ -180,26 +181,26 @@ module _ (R : Run) (L : Laws R) (t l g : List ℕ) (K : Cols R t l g) where
     hand-from p q hp hq [] lf =
         let ok : sendOk (R .restart p) (putW a (64 * p + q)) ≡ true = left-none R L s i p q _ _ (r .chan p q hp hq) lf in
         on (channel-in p q hp hq)
-        (λ j. refuses (rw (K .base .gated .places p j, ok)))
+        (λ j. refuses (rw (K .gated .places p j, ok)))
         (λ j. let n0 : eqb (putW a (64 * p + q)) 0 ≡ true = eq-eqb (putW a (64 * p + q)) 0 j in refuses (rw n0))
     hand-from p q hp hq (m ∷ ms) lf =
         let no : sendOk (R .restart p) (putW a (64 * p + q)) ≡ false = left-some R L s i p q _ _ (r .chan p q hp hq) m ms lf in
         let f = to-put R L s i p q _ _ (r .chan p q hp hq) m (ms ++ ahead R p q (s .todo p)) (rw lf) in
-        let pj : p < R .trace .procs = goes-in p q (f .f) (f .f-pos) (f .f-le) (f .f-goes) in
-        let fs = goes-send R L p q (f .f) (f .f-goes) in
+        let pj : p < R .trace .procs = goes-in p q (f .first) (f .first-pos) (f .first-le) (f .first-goes) in
+        let fs = goes-send R L p q (f .first) (f .first-goes) in
         let ph : phaseW t (putW a (64 * p + q)) ≡ R .carries p q m =
-        ap (phaseW t) (f .f-pt) ∙ K .base .phases (f .f) (f .f-pos) (f .f-le)
-        ∙ ph-at R p (f .f) ((sends-is (R .trace) p q (f .f) fs) .0) ∙ sym (L .carries-send p q (f .f) fs (f .f-pos) (f .f-le)) ∙ ap (R .carries p q) (f .f-sent) in
+        ap (phaseW t) (f .is-first) ∙ (told R t l g K) .phases (f .first) (f .first-pos) (f .first-le)
+        ∙ ph-at R p (f .first) ((sends-is (R .trace) p q (f .first) fs) .0) ∙ sym (L .carries-send p q (f .first) fs (f .first-pos) (f .first-le)) ∙ ap (R .carries p q) (f .first-sent) in
         let pl : R .carries p q m < noPhase =
-        omega (arith, K .base .phase-lt (f .f) (f .f-pos) (f .f-le), ap (phaseW t) (f .f-pt), K .base .phases (f .f) (f .f-pos) (f .f-le), ph) in
+        omega (arith, (told R t l g K) .phase-lt (f .first) (f .first-pos) (f .first-le), ap (phaseW t) (f .is-first), (told R t l g K) .phases (f .first) (f .first-pos) (f .first-le), ph) in
         let rd : ready R s (R .carries p q m) ≡ ltb (R .carries p q m) (lowW a) = r .low (R .carries p q m) pl in
         let u = handing R s p q m ms in
         by (ltb (R .carries p q m) (lowW a))
         (λ b. let rb : ready R s (R .carries p q m) ≡ true = rd ∙ b in
         let so : step R s (hand p q) ≡ some u = step-hand p q m ms lf rb in
-        rw rb (allows u (rw (K .base .gated .places p pj, no, ph) b) (rel-hand R L t l g K a s r i p q m ms hp hq lf) (inv-step R s u (hand p q) so i)))
+        rw rb (allows u (rw (K .gated .places p pj, no, ph) b) (rel-hand R L t l g K a s r i p q m ms hp hq lf) (inv-step R s u (hand p q) so i)))
         (λ b. let rb : ready R s (R .carries p q m) ≡ false = rd ∙ b in
-        rw rb (refuses (rw (K .base .gated .places p pj, no, ph) b)))
+        rw rb (refuses (rw (K .gated .places p pj, no, ph) b)))
 
     pub hand-agrees : (p q : ℕ) → p < 64 → q < 64 → Agrees (handOk t g a p (64 * p + q)) (putInW l a (64 * p + q)) (step R s (hand p q))
     unfolding step

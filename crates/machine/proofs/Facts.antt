@@ -14,7 +14,7 @@ use Rattle.theory.specs.Events.{Kind, send, recv, other, size, at, kind, sends,
 use Rattle.theory.specs.Line.{Run, orphanPhase}
 use Rattle.theory.specs.Replay.{State, listed, resends, ready}
 use Rattle.theory.specs.Inner.Laws.{Laws}
-use Rattle.theory.proofs.Base.{by, on, le?, both, keep-head, keep-keep, keep-some, each-map, each-keep-iv}
+use Rattle.theory.proofs.Base.{by, on, le?, both, keep-head, keep-keep, keep-some, each-map, each-keep-iv, all-same}
 use Rattle.theory.specs.Inner.Flow.{Each, rBefore, sBefore, Kept, ahead, Cursors, Inv}
 use Rattle.theory.proofs.Events.{sends-of, sent-le, sent-lt}
 use Rattle.theory.proofs.Classes.{orphan-counts}
@@ -23,7 +23,8 @@ use Rattle.theory.proofs.Ready.{phase-le}
 use Rattle.machine.specs.Inner.Words.{noPhase, orpW, sendOk, lesser, lowOf}
 use Rattle.columns.specs.Inner.Full.{phaseW}
 use Rattle.theory.specs.Inner.Lists.{head0}
-use Rattle.machine.specs.Inner.Related.{goes, evs, drops, orph, Base, Chan}
+use Rattle.machine.specs.Inner.Related.{goes, evs, drops, orph, Chan}
+use Rattle.machine.proofs.Told.{Told}
 
 -- the phase of an event's process after it
 abbrev pub ph : Run → ℕ → ℕ
@@ -59,6 +60,38 @@ module _ (R : Run) (L : Laws R) where
   ahead-past p q x k ks h e =
       (keep-head (λ k. ltb (rBefore R p q) k) (sent (R .trace) p q x) (sent (R .trace) p q (size (R .trace)) - sent (R .trace) p q x) k ks (sym (ahead-listed R p q x h) ∙ e)) .0
 
+  -- The first of some sends of a channel, which a pointer points at: the messages of those sends are m and then ms.
+  -- `whole` of the sends are all that go through the channel after some event.
+  module _ (p q : ℕ) (whole : List ℕ → List ℕ) where
+    pub record First (es : List ℕ) (pointer m : ℕ) (ms : List ℕ) : Type 0 where
+      pub first : ℕ
+      pub later : List ℕ
+      pub is : es ≡ first ∷ later
+      pub first-pos : 0 < first
+      pub first-le : first ≤ size (R .trace)
+      pub first-goes : goes R p q first ≡ true
+      pub then : whole later ≡ evs R p q first
+      pub is-first : pointer ≡ first
+      pub first-sent : sent (R .trace) p q first ≡ m
+      pub more : map (sent (R .trace) p q) later ≡ ms
+
+    first-of : ((x : ℕ) (xs : List ℕ) → whole (x ∷ xs) ≡ x ∷ whole xs) → (y pointer : ℕ) (es : List ℕ) → y ≤ size (R .trace) → whole es ≡ evs R p q y
+        → pointer ≡ head0 (whole es) → (m : ℕ) (ms : List ℕ) → map (sent (R .trace) p q) es ≡ m ∷ ms → First es pointer m ms
+    first-of one y pointer [] h w e m ms a = absurd (let z : _≡_ {A = ℕ} 0 1 = cc in omega arith)
+    first-of one y pointer (f ∷ fs) h w e m ms a =
+        let b = evs-head p q y f (whole fs) h (sym w ∙ one f fs) in record {
+          first = f;
+          later = fs;
+          is = refl;
+          first-pos = omega (arith, b .0);
+          first-le = b .1;
+          first-goes = b .2;
+          then = b .3;
+          is-first = e ∙ ap head0 (one f fs);
+          first-sent = cc;
+          more = cc;
+        }
+
   module _ (s : State) (i : Inv R s) (p q tk pt : ℕ) (k : Chan R s p q tk pt) where
     -- nothing is left to hand over: the next message to put in, if any, was sent after the restart
     pub left-none : s .left p q ≡ [] → sendOk (R .restart p) pt ≡ true
@@ -77,40 +110,17 @@ module _ (R : Run) (L : Laws R) where
             rw (u, v)
 
     -- the next message to put in is there
-    pub record Ready (m : ℕ) (ms : List ℕ) : Type 0 where
-      pub f : ℕ
-      pub fs : List ℕ
-      pub is : k .F ≡ f ∷ fs
-      pub f-pos : 0 < f
-      pub f-le : f ≤ size (R .trace)
-      pub f-goes : goes R p q f ≡ true
-      pub f-rest : fs ≡ evs R p q f
-      pub f-pt : pt ≡ f
-      pub f-sent : sent (R .trace) p q f ≡ m
-      pub more : map (sent (R .trace) p q) fs ≡ ms
-
-    pub to-put : (m : ℕ) (ms : List ℕ) → s .left p q ++ ahead R p q (s .todo p) ≡ m ∷ ms → Ready m ms
-    to-put m ms h = go (k .F) refl
-      where
-        go : (F : List ℕ) → k .F ≡ F → Ready m ms
-        go [] e =
-            let a : [] ≡ m ∷ ms = sym (ap (map (sent (R .trace) p q)) e) ∙ k .coming ∙ h in
-            absurd (let z : _≡_ {A = ℕ} 0 1 = cc in omega arith)
-        go (f ∷ fs) e =
-            let a : sent (R .trace) p q f ∷ map (sent (R .trace) p q) fs ≡ m ∷ ms = sym (ap (map (sent (R .trace) p q)) e) ∙ k .coming ∙ h in
-            let b = evs-head p q (k .y) f fs (k .y-le) (sym (k .rest) ∙ e) in
-            let c : sent (R .trace) p q f ≡ m = cc in
-            let d : map (sent (R .trace) p q) fs ≡ ms = cc in
-            record { f = f; fs = fs; is = e; f-pos = omega (arith, b .0); f-le = b .1; f-goes = b .2; f-rest = b .3; f-pt = k .pt-is ∙ ap head0 e; f-sent = c; more = d }
+    pub to-put : (m : ℕ) (ms : List ℕ) → s .left p q ++ ahead R p q (s .todo p) ≡ m ∷ ms → First p q (λ F. F) (k .F) pt m ms
+    to-put m ms h = first-of p q (λ F. F) (λ f fs. refl) (k .y) pt (k .F) (k .y-le) (k .rest) (k .pt-is) m ms (k .coming ∙ h)
 
     -- a message is left to hand over: it is the next one to put in, and was sent before the restart
     pub left-some : (m : ℕ) (ms : List ℕ) → s .left p q ≡ m ∷ ms → sendOk (R .restart p) pt ≡ false
     left-some m ms h =
         let r = to-put m (ms ++ ahead R p q (s .todo p)) (rw h) in
         let a : Kept R p q m = (rw h at (i .lefts p q)) .0 in
-        let b : r .f ≤ R .restart p = before p q (r .f) (R .restart p) (goes-send p q (r .f) (r .f-goes)) (omega (arith, r .f-sent, a .1)) in
-        let u : eqb pt 0 ≡ false = ne-eqb pt 0 (λ w. omega (arith, r .f-pt, r .f-pos)) in
-        let v : ltb (R .restart p) pt ≡ false = le-ltb (R .restart p) pt (omega (arith, r .f-pt, b)) in
+        let b : r .first ≤ R .restart p = before p q (r .first) (R .restart p) (goes-send p q (r .first) (r .first-goes)) (omega (arith, r .first-sent, a .1)) in
+        let u : eqb pt 0 ≡ false = ne-eqb pt 0 (λ w. omega (arith, r .is-first, r .first-pos)) in
+        let v : ltb (R .restart p) pt ≡ false = le-ltb (R .restart p) pt (omega (arith, r .is-first, b)) in
         rw (u, v)
 
     -- an empty channel
@@ -123,46 +133,24 @@ module _ (R : Run) (L : Laws R) where
             let a : sent (R .trace) p q d ∷ map (sent (R .trace) p q) ds ≡ [] = sym (ap (map (sent (R .trace) p q)) e) ∙ k .inside ∙ h in
             absurd (let z : _≡_ {A = ℕ} 0 1 = cc in omega arith)
 
-    pub record Full (m : ℕ) (ms : List ℕ) : Type 0 where
-      pub d : ℕ
-      pub ds : List ℕ
-      pub is : k .C ≡ d ∷ ds
-      pub d-pos : 0 < d
-      pub d-le : d ≤ size (R .trace)
-      pub d-goes : goes R p q d ≡ true
-      pub d-rest : ds ++ k .F ≡ evs R p q d
-      pub d-tk : tk ≡ d
-      pub d-sent : sent (R .trace) p q d ≡ m
-      pub more : map (sent (R .trace) p q) ds ≡ ms
-
-    pub to-take : (m : ℕ) (ms : List ℕ) → s .chan p q ≡ m ∷ ms → Full m ms
-    to-take m ms h = go (k .C) refl
-      where
-        go : (C : List ℕ) → k .C ≡ C → Full m ms
-        go [] e =
-            let a : [] ≡ m ∷ ms = sym (ap (map (sent (R .trace) p q)) e) ∙ k .inside ∙ h in
-            absurd (let z : _≡_ {A = ℕ} 0 1 = cc in omega arith)
-        go (d ∷ ds) e =
-            let a : sent (R .trace) p q d ∷ map (sent (R .trace) p q) ds ≡ m ∷ ms = sym (ap (map (sent (R .trace) p q)) e) ∙ k .inside ∙ h in
-            let b = evs-head p q (k .x) d (ds ++ k .F) (k .x-le) (sym (k .all) ∙ ap (λ c. c ++ k .F) e) in
-            let c : sent (R .trace) p q d ≡ m = cc in
-            let f : map (sent (R .trace) p q) ds ≡ ms = cc in
-            record { d = d; ds = ds; is = e; d-pos = omega (arith, b .0); d-le = b .1; d-goes = b .2; d-rest = b .3; d-tk = k .tk-is ∙ ap (λ c. head0 (c ++ k .F)) e; d-sent = c; more = f }
+    -- the next message to take is there
+    pub to-take : (m : ℕ) (ms : List ℕ) → s .chan p q ≡ m ∷ ms → First p q (λ C. C ++ k .F) (k .C) tk m ms
+    to-take m ms h = first-of p q (λ C. C ++ k .F) (λ d ds. refl) (k .x) tk (k .C) (k .x-le) (k .all) (k .tk-is) m ms (k .inside ∙ h)
 
     pub chan-some : (m : ℕ) (ms : List ℕ) → s .chan p q ≡ m ∷ ms → eqb tk pt ≡ false
     chan-some m ms h = ne-eqb tk pt (λ w. go (k .F) refl w)
       where
-        r : Full m ms
+        r : First p q (λ C. C ++ k .F) (k .C) tk m ms
         r = to-take m ms h
 
         go : (F : List ℕ) → k .F ≡ F → tk ≡ pt → ⊥
-        go [] e w = let z : pt ≡ 0 = k .pt-is ∙ ap head0 e in omega (arith, r .d-pos, r .d-tk)
+        go [] e w = let z : pt ≡ 0 = k .pt-is ∙ ap head0 e in omega (arith, r .first-pos, r .is-first)
         go (f ∷ fs) e w =
             let z : pt ≡ f = k .pt-is ∙ ap head0 e in
             let b = evs-head p q (k .y) f fs (k .y-le) (sym (k .rest) ∙ e) in
-            let u : r .d ≡ f = sym (r .d-tk) ∙ w ∙ z in
-            let v : r .ds ++ k .F ≡ fs = r .d-rest ∙ ap (evs R p q) u ∙ sym (b .3) in
-            omega (arith, ap length v, length-append (r .ds) (k .F), ap length e)
+            let u : r .first ≡ f = sym (r .is-first) ∙ w ∙ z in
+            let v : r .later ++ k .F ≡ fs = r .then ∙ ap (evs R p q) u ∙ sym (b .3) in
+            omega (arith, ap length v, length-append (r .later) (k .F), ap length e)
 
   -- gates
   no-high : (r z : ℕ) (l : List ℕ) → Each (λ e. orph R z e ≡ true → r < ph R e) l → no-one (holds R r z) l ≡ true
@@ -237,11 +225,6 @@ module _ (R : Run) (L : Laws R) where
   no-one-same f g [] h = refl
   no-one-same f g (x ∷ xs) h = rw (h .0, no-one-same f g xs (h .1))
 
-  pub all-same : (z : ℕ) (f g : ℕ → Bool) → ((y : ℕ) → f y ≡ g y) → all-below z f ≡ all-below z g
-  unfolding all-below
-  all-same zero f g h = refl
-  all-same (suc z) f g h = rw (h z, all-same z f g h)
-
   listed-holds : (r z x : ℕ) → R .restart z ≤ x → x ≤ size (R .trace) → no-one (λ e. resends R r z e (kind (R .trace) e)) (listed R z x) ≡ no-one (holds R r z) (listed R z x)
   unfolding listed
   listed-holds r z x h k =
@@ -255,9 +238,9 @@ module _ (R : Run) (L : Laws R) where
   -- a phase is ready where no process has to send an orphan of it or below again
   pub ready-holds : (u : State) → Cursors R u → (r : ℕ) → ready R u r ≡ all-below (R .trace .procs) (λ z. no-one (holds R r z) (u .todo z))
   unfolding ready
-  ready-holds u c r = all-same (R .trace .procs) _ _ (λ z. rw (c .todo-is z) (listed-holds r z (c .upTo z) (c .from z) (c .within z)))
+  ready-holds u c r = all-same (R .trace .procs) _ _ (λ z l. rw (c .todo-is z) (listed-holds r z (c .upTo z) (c .from z) (c .within z)))
 
-  module _ (t g : List ℕ) (K : Base R t g) (u : State) (cz : Cursors R u) (b : List ℕ)
+  module _ (t g : List ℕ) (K : Told R t g) (u : State) (cz : Cursors R u) (b : List ℕ)
       (orps : (z : ℕ) → z < 64 → orpW b z ≡ head0 (keep (orph R z) (u .todo z))) (r : ℕ) (r-lt : r < noPhase) where
     one-low : (z : ℕ) → z < 64 → (a : Bool) (m : ℕ) → a ≡ ltb r m
         → (no-one (holds R r z) (u .todo z) && a) ≡ ltb r (cond (eqb (orpW b z) 0) m (lesser (phaseW t (orpW b z)) m))

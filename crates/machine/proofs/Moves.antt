@@ -3,19 +3,20 @@
 use mathlib.Core.Path.{_≡_, refl, sym, _∙_, ap, subst}
 use mathlib.Core.Logic.{_≢_}
 use mathlib.Core.Bool.{true, false, _&&_, cond}
-use mathlib.Core.List.{List, [], _∷_, _++_, map, append-assoc}
+use mathlib.Core.List.{List, [], _∷_, _++_, append-assoc}
 use Prim.Native.Nat.{ℕ, zero, suc, _+_, _-_, _*_, _≤_, _<_}
 use native.Mathlib.Omega.{arith}
-use lib.ListN.{length, length-map, length-set, getD, set}
+use lib.ListN.{length, length-set, getD, set}
 use lib.Seq.{getD-set-same, getD-set-other, getD-at}
 use lib.Dec.{leb, ltb, eqb}
 use borrow.Author.Tests.{ltb-true, eqb-true, eqb-false, lt-ltb, le-leb, eq-eqb, ne-eqb}
+use Rattle.words.proofs.Lists.{map-append, last-mapped, other-mapped}
 use Rattle.theory.specs.Lists.{keep, no-one, put, put2}
 use Rattle.theory.specs.Events.{Kind, send, recv, other, size, at, kind, recvs, sent, rcvd, value}
 use Rattle.theory.specs.Line.{Run}
 use Rattle.theory.specs.Replay.{State, listed, resends, ready, moved, sending, taking, handing}
 use Rattle.theory.specs.Inner.Laws.{Laws}
-use Rattle.theory.proofs.Base.{by, on, clash, le?, same2, eqb-self}
+use Rattle.theory.proofs.Base.{by, on, clash, le?, same2, eqb-self, all-same}
 use Rattle.theory.proofs.Events.{sends-is, recvs-of, rcvd-lt}
 use Rattle.theory.specs.Inner.Flow.{sendTo, recvFrom, rBefore, ahead, toTake, Inv}
 use Rattle.theory.proofs.Flow.{ahead-send, ahead-put, put-same, toTake-recv, at-head}
@@ -25,7 +26,8 @@ use Rattle.machine.specs.Inner.Words.{currentBase, orphanBase, takeBase,
 use Rattle.columns.specs.Inner.Full.{valueW, numberW}
 use Rattle.theory.specs.Inner.Lists.{head0}
 use Rattle.machine.specs.Inner.Related.{drops, orph, Cols, Chan, Rel}
-use Rattle.machine.proofs.Facts.{goes-send, to-put, to-take, in-list, resends-is, all-same, ready-low}
+use Rattle.machine.proofs.Told.{told}
+use Rattle.machine.proofs.Facts.{goes-send, to-put, to-take, in-list, resends-is, ready-low}
 
 -- two channels are one where their words are
 one-channel : (p q a b : ℕ) → q < 64 → b < 64 → (eqb p a && eqb q b) ≡ false → 64 * p + q ≢ 64 * a + b
@@ -40,14 +42,6 @@ snoc-other [] m zero h = absurd (h refl)
 snoc-other [] m (suc i) h = refl
 snoc-other (x ∷ xs) m zero h = refl
 snoc-other (x ∷ xs) m (suc i) h = snoc-other xs m i (λ e. h (ap suc e))
-
-pub map-snoc : (f : ℕ → ℕ) (xs : List ℕ) (x : ℕ) → map f (xs ++ x ∷ []) ≡ map f xs ++ f x ∷ []
-map-snoc f [] x = refl
-map-snoc f (y ∷ ys) x = ap (λ r. f y ∷ r) (map-snoc f ys x)
-
--- the value of what is received last
-value-slot : (f : ℕ → ℕ) (xs : List ℕ) (m k : ℕ) → length xs ≡ k → getD (map f (xs ++ m ∷ [])) k 0 ≡ f m
-value-slot f xs m k h = ap (λ x. getD x k 0) (map-snoc f xs m) ∙ getD-at (map f xs) (f m) [] 0 k (length-map xs f ∙ h)
 
 module _ (R : Run) (L : Laws R) (t l g : List ℕ) (K : Cols R t l g) where
   -- what a process's next event is
@@ -78,20 +72,20 @@ module _ (R : Run) (L : Laws R) (t l g : List ℕ) (K : Cols R t l g) where
       → Chan R u p q tk (getD l (4 * pt + 1) 0)
   chan-put s u i p q tk pt m ms k h a b =
       let r = to-put R L s i p q tk pt k m ms h in
-      let w : (k .C ++ r .f ∷ []) ++ r .fs ≡ k .C ++ k .F = append-assoc (k .C) (r .f ∷ []) (r .fs) ∙ ap (λ f. k .C ++ f) (sym (r .is)) in
+      let w : (k .C ++ r .first ∷ []) ++ r .later ≡ k .C ++ k .F = append-assoc (k .C) (r .first ∷ []) (r .later) ∙ ap (λ f. k .C ++ f) (sym (r .is)) in
       record {
-        C = k .C ++ r .f ∷ [];
-        F = r .fs;
+        C = k .C ++ r .first ∷ [];
+        F = r .later;
         x = k .x;
-        y = r .f;
+        y = r .first;
         x-le = k .x-le;
-        y-le = r .f-le;
+        y-le = r .first-le;
         all = w ∙ k .all;
-        rest = r .f-rest;
-        inside = map-snoc (sent (R .trace) p q) (k .C) (r .f) ∙ rw (k .inside, r .f-sent) (sym a);
+        rest = r .then;
+        inside = map-append (sent (R .trace) p q) (k .C) (r .first ∷ []) ∙ rw (k .inside, r .first-sent) (sym a);
         coming = r .more ∙ sym b;
         tk-is = k .tk-is ∙ sym (ap head0 w);
-        pt-is = ap (λ x. getD l (4 * x + 1) 0) (r .f-pt) ∙ K .next-message p q (r .f) (r .f-pos) (r .f-le) (r .f-goes) ∙ ap head0 (sym (r .f-rest));
+        pt-is = ap (λ x. getD l (4 * x + 1) 0) (r .is-first) ∙ K .next-message p q (r .first) (r .first-pos) (r .first-le) (r .first-goes) ∙ ap head0 (sym (r .then));
       }
 
   -- a message is taken out of the channel
@@ -101,17 +95,17 @@ module _ (R : Run) (L : Laws R) (t l g : List ℕ) (K : Cols R t l g) where
   chan-take s u i p q tk pt m ms k h a b c =
       let r = to-take R L s i p q tk pt k m ms h in
       record {
-        C = r .ds;
+        C = r .later;
         F = k .F;
-        x = r .d;
+        x = r .first;
         y = k .y;
-        x-le = r .d-le;
+        x-le = r .first-le;
         y-le = k .y-le;
-        all = r .d-rest;
+        all = r .then;
         rest = k .rest;
         inside = r .more ∙ sym a;
         coming = k .coming ∙ sym (let w : u .left p q ++ ahead R p q (u .todo p) ≡ s .left p q ++ ahead R p q (s .todo p) = rw (b, c) in w);
-        tk-is = ap (λ x. getD l (4 * x + 1) 0) (r .d-tk) ∙ K .next-message p q (r .d) (r .d-pos) (r .d-le) (r .d-goes) ∙ ap head0 (sym (r .d-rest));
+        tk-is = ap (λ x. getD l (4 * x + 1) 0) (r .is-first) ∙ K .next-message p q (r .first) (r .first-pos) (r .first-le) (r .first-goes) ∙ ap head0 (sym (r .then));
         pt-is = k .pt-is;
       }
 
@@ -140,8 +134,8 @@ module _ (R : Run) (L : Laws R) (t l g : List ℕ) (K : Cols R t l g) where
   ready-skip s u i z e es h k j r =
       let n = at-next s i z e es h in
       let no : resends R r z e (kind (R .trace) e) ≡ false = resends-is R L r z e (n .0) (n .4) (n .1) (n .2) ∙ rw k in
-      rw j (all-same R L (R .trace .procs) _ _
-      (λ y. put-same R (no-one (λ d. resends R r y d (kind (R .trace) d))) (s .todo) z e es h y (λ i. let w : resends R r y e (kind (R .trace) e) ≡ false = rw i no in rw w)))
+      rw j (all-same (R .trace .procs) _ _
+      (λ y l. put-same R (no-one (λ d. resends R r y d (kind (R .trace) d))) (s .todo) z e es h y (λ i. let w : resends R r y e (kind (R .trace) e) ≡ false = rw i no in rw w)))
 
   -- does the process's next event send an orphan: the next orphan is that event
   pub orp-test : (s : State) → Inv R s → (z e : ℕ) (es : List ℕ) → s .todo z ≡ e ∷ es → eqb (head0 (keep (orph R z) (s .todo z))) e ≡ orph R z e
@@ -224,7 +218,7 @@ module _ (R : Run) (L : Laws R) (t l g : List ℕ) (K : Cols R t l g) where
         rel-move (set b lowPlace w) u refl (λ y hy. far (currentBase + y) (λ q. omega arith) (λ q. omega arith)) (record {
           room = rw (length-set, length-set) (r .room);
           orp = λ y hy. getD-set-other b lowPlace (orphanBase + y) w 0 (λ q. omega arith) ∙ orps y hy;
-          low = λ x hx. ready-low R L t g (K .base) u (iu .cursors) b orps x hx ∙ ap (ltb x) (sym (getD-set-same b lowPlace w 0 (omega (arith, lb, r .room))));
+          low = λ x hx. ready-low R L t g (told R t l g K) u (iu .cursors) b orps x hx ∙ ap (ltb x) (sym (getD-set-same b lowPlace w 0 (omega (arith, lb, r .room))));
           chan = λ p q₂ hp hq. rw (far (takeBase + (64 * p + q₂)) (λ q. omega arith) (λ q. omega arith), far (putBase + (64 * p + q₂)) (λ q. omega arith) (λ q. omega arith))
               (by (eqb p z && eqb q₂ q)
               (λ c. let f = same2 p z q₂ q c in
@@ -309,11 +303,9 @@ module _ (R : Run) (L : Laws R) (t l g : List ℕ) (K : Cols R t l g) where
             let o : at (R .trace) y ≡ z = (same2 p₂ p (at (R .trace) y) z c) .1 in
             let ty = recvs-of (R .trace) p z y o (f ∙ ap recv j) in
             let ap₁ = rcvd-apart p y k hy ty ne in
-            let f₂ = value (R .trace) p z in
             rw (c, j, o) (
               snoc-other (s .got p z) m (rcvd (R .trace) p z y - 1) ap₁,
-              ap (λ x. getD x (rcvd (R .trace) p z y - 1) 0) (map-snoc f₂ (s .got p z) m)
-                  ∙ snoc-other (map f₂ (s .got p z)) (f₂ m) (rcvd (R .trace) p z y - 1) (λ w. ap₁ (w ∙ length-map (s .got p z) f₂)),
+              other-mapped (value (R .trace) p z) (s .got p z) m (rcvd (R .trace) p z y - 1) ap₁,
             ))
             (λ c. rw c (refl, refl))
 
@@ -326,27 +318,27 @@ module _ (R : Run) (L : Laws R) (t l g : List ℕ) (K : Cols R t l g) where
         let n = at-next s i z e es h in
         let c₀ = 64 * p + z in
         let full = to-take R L s i p z (takeW a c₀) (putW a c₀) (r .chan p z hp hz) m ms cm in
-        let d = full .d in
-        let sb = sends-is (R .trace) p z d (goes-send R L p z d (full .d-goes)) in
+        let d = full .first in
+        let sb = sends-is (R .trace) p z d (goes-send R L p z d (full .first-goes)) in
         let ad : at (R .trace) d ≡ p = sb .0 in
         let kd : kind (R .trace) d ≡ send z = sb .1 in
-        let nd : numberW t (takeW a c₀) ≡ m = ap (numberW t) (full .d-tk) ∙ K .base .numbers d z (full .d-pos) (full .d-le) kd ∙ ap (λ x. sent (R .trace) x z d) ad ∙ full .d-sent in
+        let nd : numberW t (takeW a c₀) ≡ m = ap (numberW t) (full .is-first) ∙ (told R t l g K) .numbers d z (full .first-pos) (full .first-le) kd ∙ ap (λ x. sent (R .trace) x z d) ad ∙ full .first-sent in
         let vd : valueW t (takeW a c₀) ≡ value (R .trace) p z m =
-        ap (valueW t) (full .d-tk) ∙ K .base .values d z (full .d-pos) (full .d-le) kd ∙ ap (λ x. value (R .trace) x z (sent (R .trace) x z d)) ad ∙ ap (value (R .trace) p z) (full .d-sent) in
+        ap (valueW t) (full .is-first) ∙ (told R t l g K) .values d z (full .first-pos) (full .first-le) kd ∙ ap (λ x. value (R .trace) x z (sent (R .trace) x z d)) ad ∙ ap (value (R .trace) p z) (full .first-sent) in
         let v = getD l (4 * takeW a c₀ + 1) 0 in
         let a₁ = set a (takeBase + c₀) v in
         let a₂ = set a₁ e (numberW t (takeW a c₀)) in
         let b = set a₂ (takenBase + e) (valueW t (takeW a c₀)) in
         let l₁ : length a₁ ≡ length a = length-set a (takeBase + c₀) v in
         let l₂ : length a₂ ≡ length a = length-set a₁ e (numberW t (takeW a c₀)) ∙ l₁ in
-        let e-lt : e < 2049 = omega (arith, n .1, K .base .few) in
+        let e-lt : e < 2049 = omega (arith, n .1, (told R t l g K) .few) in
         let far : (x : ℕ) → x ≢ takeBase + c₀ → x ≢ e → x ≢ takenBase + e → getD b x 0 ≡ getD a x 0 =
         λ x f g₁ h₁. getD-set-other a₂ (takenBase + e) x _ 0 h₁ ∙ getD-set-other a₁ e x _ 0 g₁ ∙ getD-set-other a (takeBase + c₀) x v 0 f in
         let no : orph R z e ≡ false = rw k in
         let gl = got-length p k in
         let gl₂ : length (s .got p z) ≡ rcvd (R .trace) p z e - 1 = omega (arith, gl) in
         let in-e : (ltb 0 e && leb e (size (R .trace))) ≡ true = rw (lt-ltb 0 e (n .0), le-leb e (size (R .trace)) (n .1)) in
-        let vs = value-slot (value (R .trace) p z) (s .got p z) m (rcvd (R .trace) p z e - 1) gl₂ in
+        let vs = rw gl₂ at (last-mapped (value (R .trace) p z) (s .got p z) m) in
         rel-move b u refl (λ y hy. far (currentBase + y) (λ q. omega arith) (λ q. omega arith) (λ q. omega arith)) (record {
           room = rw (length-set, length-set, length-set) (r .room);
           orp = λ y hy. far (orphanBase + y) (λ q. omega arith) (λ q. omega arith) (λ q. omega arith) ∙ r .orp y hy ∙ ap head0 (sym (orp-skip s i z e es h no y));

@@ -11,7 +11,7 @@ use lib.Seq.{getD-set-same, getD-set-other}
 use lib.Dec.{ltb, eqb}
 use borrow.Author.Tests.{lt-ltb, le-ltb, eq-eqb, ne-eqb, ltb-true}
 use Rattle.words.proofs.Cases.{by-bool, by-lt, by-eq, clash}
-use Rattle.machine.specs.Inner.Words.{keptPhase, currentBase, orphanBase, lowPlace, noPhase, curW, orpW, takeW, putW, lowW, sendOk, eventOk, processOk, handOk, allowedW, lowerW, lowOf, Bounded, noneFrom}
+use Rattle.machine.specs.Inner.Words.{keptPhase, currentBase, orphanBase, lowPlace, noPhase, curW, orpW, takeW, putW, lowW, sendOk, eventOk, processOk, handOk, allowedW, leastWith, lowOf, Bounded, noneFrom}
 use Rattle.columns.specs.Inner.Full.{kindW, peerW, phaseW}
 use Rattle.machine.specs.Inner.Shapes.{LowIs}
 
@@ -19,18 +19,18 @@ pub bound : (a : List ℕ) (k : ℕ) → Bounded a → currentBase ≤ k → k <
 unfolding Bounded
 bound a k b h j = b k h j
 
-module _ (t g a : List ℕ) (z e : ℕ) where
-  pub event-send : (m : ℕ) (r : Bool) → kindW t e ≡ 1 → m ≡ putW a (64 * z + peerW t e) → r ≡ sendOk (getD g (64 + z) 0) m → r ≡ eventOk t g a z e
+module _ (t g a : List ℕ) (z e k p : ℕ) (ek : k ≡ kindW t e) (ep : p ≡ peerW t e) where
+  pub event-send : (m : ℕ) (r : Bool) → k ≡ 1 → m ≡ putW a (64 * z + p) → r ≡ sendOk (getD g (64 + z) 0) m → r ≡ eventOk t g a z e
   unfolding eventOk
-  event-send m r k em er = rw (eq-eqb (kindW t e) 1 k) (rw em at er)
+  event-send m r h em er = rw (← ek, ← ep, eq-eqb k 1 h) (rw em at er)
 
-  pub event-recv : (kindW t e ≡ 1 → ⊥) → kindW t e ≡ 2 → not (eqb (takeW a (64 * peerW t e + z)) (putW a (64 * peerW t e + z))) ≡ eventOk t g a z e
+  pub event-recv : (k ≡ 1 → ⊥) → k ≡ 2 → not (eqb (takeW a (64 * p + z)) (putW a (64 * p + z))) ≡ eventOk t g a z e
   unfolding eventOk
-  event-recv n k = rw (ne-eqb (kindW t e) 1 n, eq-eqb (kindW t e) 2 k)
+  event-recv n h = rw (← ek, ← ep, ne-eqb k 1 n, eq-eqb k 2 h)
 
-  pub event-other : (kindW t e ≡ 1 → ⊥) → (kindW t e ≡ 2 → ⊥) → true ≡ eventOk t g a z e
+  pub event-other : (k ≡ 1 → ⊥) → (k ≡ 2 → ⊥) → true ≡ eventOk t g a z e
   unfolding eventOk
-  event-other n k = rw (ne-eqb (kindW t e) 1 n, ne-eqb (kindW t e) 2 k)
+  event-other n h = rw (← ek, ne-eqb k 1 n, ne-eqb k 2 h)
 
 module _ (t g a : List ℕ) (z e : ℕ) (ee : e ≡ curW a z) where
   pub process-none : e ≡ 0 → false ≡ processOk t g a z
@@ -75,65 +75,65 @@ module _ (t g a : List ℕ) (c : ℕ) where
   allowed-none k = rw (le-ltb c 64 (omega arith), le-ltb c 4160 k)
 
 -- the loop over the processes
-pub low-next : (t a : List ℕ) (z o low r : ℕ) → o ≡ orpW a z → low ≡ lowOf t a z → r ≡ lowerW t o low → r ≡ lowOf t a (z + 1)
+pub low-next : (t a : List ℕ) (z o low r : ℕ) → o ≡ orpW a z → low ≡ lowOf t a z → r ≡ leastWith t o low → r ≡ lowOf t a (z + 1)
 unfolding lowOf
 low-next t a z o low r eo el er = rw (add-one z, ← eo, ← el) er
 
 -- ---- The least phase of an orphan not sent again, of the processes before the n-th
 
 module _ (t : List ℕ) where
-  lower-cases : {A : Type 0} (o m : ℕ) → (lowerW t o m ≡ m → (o ≢ 0 → m ≤ phaseW t o) → A) → (lowerW t o m ≡ phaseW t o → phaseW t o < m → A) → A
-  lower-cases o m f g = by-eq o 0
+  least-cases : {A : Type 0} (o m : ℕ) → (leastWith t o m ≡ m → (o ≢ 0 → m ≤ phaseW t o) → A) → (leastWith t o m ≡ phaseW t o → phaseW t o < m → A) → A
+  least-cases o m f g = by-eq o 0
       (λ e. f (rw (eq-eqb o 0 e)) (λ n. absurd (n e)))
       (λ e. by-lt (phaseW t o) m (λ l. g (rw (ne-eqb o 0 e, lt-ltb (phaseW t o) m l)) l) (λ l. f (rw (ne-eqb o 0 e, le-ltb (phaseW t o) m l)) (λ n. l)))
 
-  lower-le : (o m : ℕ) → lowerW t o m ≤ m
-  lower-le o m = lower-cases o m (λ e n. omega (arith, e)) (λ e l. omega (arith, e, l))
+  least-le : (o m : ℕ) → leastWith t o m ≤ m
+  least-le o m = least-cases o m (λ e n. omega (arith, e)) (λ e l. omega (arith, e, l))
 
-  lower-phase : (o m : ℕ) → o ≢ 0 → lowerW t o m ≤ phaseW t o
-  lower-phase o m h = lower-cases o m (λ e n. omega (arith, e, n h)) (λ e l. omega (arith, e))
+  least-phase : (o m : ℕ) → o ≢ 0 → leastWith t o m ≤ phaseW t o
+  least-phase o m h = least-cases o m (λ e n. omega (arith, e, n h)) (λ e l. omega (arith, e))
 
-  lower-from : (o k m : ℕ) → k ≤ m → (o ≢ 0 → k ≤ phaseW t o) → k ≤ lowerW t o m
-  lower-from o k m h j = by-eq o 0
+  least-from : (o k m : ℕ) → k ≤ m → (o ≢ 0 → k ≤ phaseW t o) → k ≤ leastWith t o m
+  least-from o k m h j = by-eq o 0
       (λ e. rw (eq-eqb o 0 e) h)
-      (λ e. lower-cases o m (λ q n. omega (arith, q, h)) (λ q l. omega (arith, q, j e)))
+      (λ e. least-cases o m (λ q n. omega (arith, q, h)) (λ q l. omega (arith, q, j e)))
 
   low-down : (a : List ℕ) (n k : ℕ) → lowOf t a (n + k) ≤ lowOf t a n
   unfolding lowOf
   low-down a n zero = let e : n + zero ≡ n = omega arith in rw e (omega arith)
-  low-down a n (suc k) = let e : n + suc k ≡ suc (n + k) = omega arith in rw e (omega (arith, lower-le (orpW a (n + k)) (lowOf t a (n + k)), low-down a n k))
+  low-down a n (suc k) = let e : n + suc k ≡ suc (n + k) = omega arith in rw e (omega (arith, least-le (orpW a (n + k)) (lowOf t a (n + k)), low-down a n k))
 
   low-top : (a : List ℕ) (n : ℕ) → lowOf t a n ≤ noPhase
   unfolding lowOf
   low-top a n = let e : 0 + n ≡ n = omega arith in rw e at (low-down a 0 n)
 
-  low-upon : (a : List ℕ) (z : ℕ) → lowOf t a (z + 1) ≤ lowerW t (orpW a z) noPhase
+  low-upon : (a : List ℕ) (z : ℕ) → lowOf t a (z + 1) ≤ leastWith t (orpW a z) noPhase
   unfolding lowOf
   low-upon a z =
-      rw (add-one z) (lower-from (orpW a z) _ _ (omega (arith, low-top a z, lower-le (orpW a z) (lowOf t a z))) (λ x. lower-phase (orpW a z) (lowOf t a z) x))
+      rw (add-one z) (least-from (orpW a z) _ _ (omega (arith, low-top a z, least-le (orpW a z) (lowOf t a z))) (λ x. least-phase (orpW a z) (lowOf t a z) x))
 
   -- where a phase that none is below is found, it is the least
-  pub low-found : (a : List ℕ) (z n o low least : ℕ) → z < n → o ≡ orpW a z → low ≡ lowerW t o noPhase → low ≤ least → least ≤ lowOf t a n → least ≡ lowOf t a n
+  pub low-found : (a : List ℕ) (z n o low least : ℕ) → z < n → o ≡ orpW a z → low ≡ leastWith t o noPhase → low ≤ least → least ≤ lowOf t a n → least ≡ lowOf t a n
   low-found a z n o low least h eo e j k =
       let f : z + 1 + (n - (z + 1)) ≡ n = omega arith in
       let d : lowOf t a n ≤ lowOf t a (z + 1) = (rw f at (low-down a (z + 1) (n - (z + 1)))) in
-      let u : low ≡ lowerW t (orpW a z) noPhase = e ∙ rw eo in
+      let u : low ≡ leastWith t (orpW a z) noPhase = e ∙ rw eo in
       omega (arith, u, j, k, d, low-upon a z)
 
   -- one process has another orphan next: none is below the least so far and that one
-  pub low-from : (a : List ℕ) (z v m n : ℕ) → orphanBase + z < length a → m ≤ lowOf t a n → lowerW t v m ≤ lowOf t (set a (orphanBase + z) v) n
+  pub low-from : (a : List ℕ) (z v m n : ℕ) → orphanBase + z < length a → m ≤ lowOf t a n → leastWith t v m ≤ lowOf t (set a (orphanBase + z) v) n
   unfolding lowOf
-  low-from a z v m zero h k = omega (arith, k, lower-le v m)
+  low-from a z v m zero h k = omega (arith, k, least-le v m)
   low-from a z v m (suc n) h k =
-      let le = low-from a z v m n h (omega (arith, k, lower-le (orpW a n) (lowOf t a n))) in
+      let le = low-from a z v m n h (omega (arith, k, least-le (orpW a n) (lowOf t a n))) in
       by-eq n z
       (λ e. let f : orpW (set a (orphanBase + z) v) n ≡ v = rw e (getD-set-same a (orphanBase + z) v 0 h) in
-      rw f (lower-from v _ _ le (λ x. lower-phase v m x)))
+      rw f (least-from v _ _ le (λ x. least-phase v m x)))
       (λ e. let f : orpW (set a (orphanBase + z) v) n ≡ orpW a n = getD-set-other a (orphanBase + z) (orphanBase + n) v 0 (λ x. e (omega arith)) in
-      rw f (lower-from (orpW a n) _ _ le (λ x. omega (arith, k, lower-le v m, lower-phase (orpW a n) (lowOf t a n) x))))
+      rw f (least-from (orpW a n) _ _ le (λ x. omega (arith, k, least-le v m, least-phase (orpW a n) (lowOf t a n) x))))
 
   pub low-bound : (a : List ℕ) (z v : ℕ) → z < 64 → orphanBase + z < length a → lowW (set a (orphanBase + z) v) ≤ noPhase → LowIs t a
-      → lowerW t v (lowW (set a (orphanBase + z) v)) ≤ lowOf t (set a (orphanBase + z) v) (getD t 0 0)
+      → leastWith t v (lowW (set a (orphanBase + z) v)) ≤ lowOf t (set a (orphanBase + z) v) (getD t 0 0)
   unfolding LowIs
   low-bound a z v hz h l is =
       let e : lowW (set a (orphanBase + z) v) ≡ lowW a = getD-set-other a (orphanBase + z) lowPlace v 0 (λ x. omega arith) in

@@ -1,4 +1,4 @@
--- tests and steps by words; how words stand for a state; sizes and ranges
+-- public: what a receive has taken in a state, and where the record has it
 pub mod Taken
 -- internal: no contract of a function that users call reaches these
 pub mod Inner

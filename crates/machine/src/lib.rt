@@ -1,36 +1,35 @@
 // The state of a replay in words, and which choices are allowed in it. Every message is its send event, every queue the
 // stretch between two pointers into events, so a test costs the same however long the run is. Tests write nothing; what
-// a choice does is in crate moves. specs/Words says what tests and steps do with words, specs/Related how words stand
-// for a state of the theory's machine; proofs/Choices that the two agree choice by choice. Assumes nothing.
+// a choice does is in crate moves. specs/Inner/Words says what tests and steps do with words, specs/Inner/Related how
+// words stand for a state of the theory's machine; proofs/Choices that the two agree choice by choice. Assumes nothing.
 ghost use mathlib.Core.Path.{_≡_};
 ghost use Prim.Native.Nat.{_≤_, _<_};
-ghost use lib.ListN.{length, getD};
-ghost use Rattle.words.specs.Area.{areaWords};
-ghost use Rattle.machine.specs.Inner.Words.{currentBase, lowPlace, sendOk, eventOk, processOk, handOk, allowedW, lesser, lowerW, lowOf, Bounded, noneFrom, keptPhase};
-ghost use Rattle.machine.specs.Inner.Shapes.{Readable};
+ghost use lib.ListN.{getD};
+ghost use Rattle.machine.specs.Inner.Words.{currentBase, lowPlace, sendOk, eventOk, processOk, handOk, allowedW, lesser, leastWith, lowOf, noneFrom, keptPhase};
+ghost use Rattle.machine.specs.Inner.Shapes.{FullLong, Pointed, Ranged, Readable};
 use columns::PHASE_BASE;
+use columns::RESTART_BASE;
 use trace::EVENT_BASE;
+use trace::RECEIVE;
+use trace::SEND;
 
-// Words of the run area. Word e is the number of the message that receive e took, word TAKEN + e its value; the working
-// words come after: of each process its next event and the send of its next orphan, of each channel the send of its
-// next message to take and of its next message to put in, and the least phase of an orphan that is not sent again.
-pub const TAKEN: usize = 2049;
+// Words of the run area. Word e is the number of the message that receive e took, word TAKEN_BASE + e its value; the
+// working words come after: of each process its next event and the send of its next orphan, of each channel the send of
+// its next message to take and of its next message to put in, and the least phase of an orphan that is not sent again.
+pub const TAKEN_BASE: usize = 2049;
 
-pub const CURRENT: usize = 6147;
+pub const CURRENT_BASE: usize = 6147;
 
-pub const ORPHAN: usize = 6211;
+pub const ORPHAN_BASE: usize = 6211;
 
-pub const TAKE: usize = 6275;
+pub const TAKE_BASE: usize = 6275;
 
-pub const PUT: usize = 10371;
+pub const PUT_BASE: usize = 10371;
 
-pub const LOW: usize = 14467;
+pub const LOW_PLACE: usize = 14467;
 
 // The word that stands for no phase: above that of every orphan.
 pub const NO_PHASE: u32 = 4294967295;
-
-// Words of the gates: word z is the gate of process z, word RESTART + z the event that it restarts after.
-pub const RESTART: usize = 64;
 
 // Choices: below HANDS a process, then for each channel that its oldest kept message is handed over; CHOICES and above
 // are none.
@@ -40,7 +39,7 @@ const CHOICES: usize = 4160;
 
 // A pointer of the area: an event, or 0.
 pub fn pointer(area: &[u32], k: usize) -> usize
-    requires { ⌜ (currentBase ≤ k) × (k < lowPlace) × (length (now area) ≡ areaWords) × Bounded (now area) ⌝ }
+    requires { ⌜ (currentBase ≤ k) × (k < lowPlace) × Pointed (now area) ⌝ }
     ensures word { λ r. ⌜ r ≡ getD (now (area .entry)) k 0 ⌝ }
     ensures bound { λ r. ⌜ r < 2049 ⌝ }
 {
@@ -65,13 +64,16 @@ fn event_ok(full: &[u32], gates: &[u32], area: &[u32], z: usize, e: usize) -> bo
     ensures { λ r. ⌜ r ≡ eventOk (now (full .entry)) (now (gates .entry)) (now (area .entry)) z e ⌝ }
 {
     let w = full[EVENT_BASE + e];
-    let kind = w / 4096 % 4;
-    let peer = (w / 64 % 64) as usize;
-    if kind == 1 {
-        return send_ok(gates[RESTART + z], pointer(area, PUT + (64 * z + peer)));
+    let kind = trace::kind(w);
+    let peer = trace::peer(w);
+    if kind == SEND {
+        return send_ok(
+            gates[RESTART_BASE + z],
+            pointer(area, PUT_BASE + (64 * z + peer)),
+        );
     }
-    if kind == 2 {
-        return area[TAKE + (64 * peer + z)] != area[PUT + (64 * peer + z)];
+    if kind == RECEIVE {
+        return area[TAKE_BASE + (64 * peer + z)] != area[PUT_BASE + (64 * peer + z)];
     }
     true
 }
@@ -81,11 +83,11 @@ pub fn process_ok(full: &[u32], gates: &[u32], area: &[u32], z: usize) -> bool
     requires { ⌜ (z < 64) × Readable (now full) (now gates) (now area) ⌝ }
     ensures { λ r. ⌜ r ≡ processOk (now (full .entry)) (now (gates .entry)) (now (area .entry)) z ⌝ }
 {
-    let e = pointer(area, CURRENT + z);
+    let e = pointer(area, CURRENT_BASE + z);
     if e == 0 {
         return false;
     }
-    if gates[z] >= area[LOW] {
+    if gates[z] >= area[LOW_PLACE] {
         return false;
     }
     event_ok(full, gates, area, z, e)
@@ -96,8 +98,8 @@ pub fn kept_phase(full: &[u32], gates: &[u32], area: &[u32], p: usize, c: usize)
     requires { ⌜ (p < 64) × (c < 4096) × Readable (now full) (now gates) (now area) ⌝ }
     ensures { λ r. ⌜ r ≡ keptPhase (now (full .entry)) (now (gates .entry)) (now (area .entry)) p c ⌝ }
 {
-    let m = pointer(area, PUT + c);
-    if send_ok(gates[RESTART + p], m) {
+    let m = pointer(area, PUT_BASE + c);
+    if send_ok(gates[RESTART_BASE + p], m) {
         return NO_PHASE;
     }
     full[PHASE_BASE + m]
@@ -108,7 +110,7 @@ fn hand_ok(full: &[u32], gates: &[u32], area: &[u32], p: usize, c: usize) -> boo
     requires { ⌜ (p < 64) × (c < 4096) × Readable (now full) (now gates) (now area) ⌝ }
     ensures { λ r. ⌜ r ≡ handOk (now (full .entry)) (now (gates .entry)) (now (area .entry)) p c ⌝ }
 {
-    kept_phase(full, gates, area, p, c) < area[LOW]
+    kept_phase(full, gates, area, p, c) < area[LOW_PLACE]
 }
 
 // Is the choice allowed.
@@ -125,6 +127,7 @@ pub fn allowed(full: &[u32], gates: &[u32], area: &[u32], c: usize) -> bool
     false
 }
 
+// The lesser of two phases.
 pub fn lesser(a: u32, b: u32) -> u32
     ensures { λ r. ⌜ r ≡ lesser a b ⌝ }
 {
@@ -135,9 +138,9 @@ pub fn lesser(a: u32, b: u32) -> u32
 }
 
 // The lesser of a phase and that of the orphan sent by event o, if there is one.
-pub fn lower(full: &[u32], o: usize, low: u32) -> u32
-    requires { ⌜ (o < 2049) × (length (now full) ≡ areaWords) ⌝ }
-    ensures { λ r. ⌜ r ≡ lowerW (now (full .entry)) o low ⌝ }
+pub fn least_with(full: &[u32], o: usize, low: u32) -> u32
+    requires { ⌜ (o < 2049) × FullLong (now full) ⌝ }
+    ensures { λ r. ⌜ r ≡ leastWith (now (full .entry)) o low ⌝ }
 {
     if o == 0 {
         return low;
@@ -148,13 +151,13 @@ pub fn lower(full: &[u32], o: usize, low: u32) -> u32
 // The least phase of an orphan that is not sent again: of each process the next one is looked at, since its phases
 // never fall.
 pub fn lowest_phase(full: &[u32], area: &[u32], procs: usize) -> u32
-    requires { ⌜ (procs ≤ 64) × (length (now full) ≡ areaWords) × (length (now area) ≡ areaWords) × Bounded (now area) ⌝ }
+    requires { ⌜ (procs ≤ 64) × Ranged (now full) (now area) ⌝ }
     ensures { λ r. ⌜ r ≡ lowOf (now (full .entry)) (now (area .entry)) procs ⌝ }
 {
     let mut low: u32 = NO_PHASE;
     let mut z = 0;
     while z < procs {
-        low = lower(full, pointer(area, ORPHAN + z), low);
+        low = least_with(full, pointer(area, ORPHAN_BASE + z), low);
         z += 1;
     }
     low

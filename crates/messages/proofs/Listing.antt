@@ -1,22 +1,18 @@
 -- The list of the messages, from a full table and gates to the run area.
-use Prim.Native.Nat.{ℕ, _+_, _-_, _<_, _≤_}
+use Prim.Native.Nat.{ℕ, _+_, _<_, _≤_}
 use mathlib.Core.Path.{_≡_, ap, _∙_}
 use mathlib.Core.List.{List, _++_}
 use native.Mathlib.Omega.{arith}
-use lib.ListN.{length, getD, take, drop, replicate, length-drop, length-replicate, length-append, List·getD-append}
-use lib.Seq.{getD-take, getD-drop, length-take-le, take-at, drop-at}
+use lib.ListN.{length, getD, take, drop, replicate, length-replicate, length-append, List·getD-append}
+use lib.Seq.{length-take-le, take-at, drop-at}
 use borrow.Author.Tests.{ne-eqb}
 use Rattle.words.specs.Area.{areaWords, wordsFrom}
 use Rattle.words.proofs.Area.{length-words, getD-words}
-use Rattle.trace.specs.Trace.{Trace}
-use Rattle.theory.specs.Line.{Run, runAt}
-use Rattle.theory.proofs.WellFormed.{valid}
-use Rattle.columns.proofs.Bounds.{well-few}
+use Rattle.theory.specs.Line.{Run}
 use Rattle.listing.specs.Listing.{listWord}
-use Rattle.classes.specs.Inner.Classes.{GivenRestarts as Listable}
 use Rattle.listing.proofs.Whole.{rows-few}
 use Rattle.recovery_line.specs.declared.Line.{Line}
-use Rattle.links.specs.Inner.Given.{Given}
+use Rattle.columns.specs.Inner.Given.{Given}
 use Rattle.messages.specs.declared.Counted.{Counted}
 use Rattle.preparing.specs.Faults.{runOf, lineFaultOf}
 use Rattle.messages.specs.Messages.{countsOf, messagesRefusal, messagesAnswer, messagesArea}
@@ -42,45 +38,18 @@ module _ (area z : List ℕ) (n : areaWords ≤ length area) (q : z ≡ replicat
 
 -- ---- The list
 
-module _ (t : Trace) (line : ℕ → ℕ) (cut : ℕ) (full gates : List ℕ) (G : Given t line cut full gates) where
-  pub cut-fits : cut ≤ 2048
-  cut-fits = omega (arith, G .cut-le, well-few t (G .formed))
+module _ (R : Run) (cut : ℕ) (full gates : List ℕ) (G : Given R cut full gates) (w : List ℕ) (e : w ≡ wordsFrom (listWord R) 0 areaWords) where
+  word-is : (k : ℕ) → k < 16384 → getD w k 0 ≡ listWord R k
+  word-is k h = ap (λ (x : List ℕ). getD x k 0) e ∙ getD-words (listWord R) 0 16384 k h ∙ ap (listWord R) (let q : 0 + k ≡ k = omega arith in q)
 
-  abbrev R : Run
-  R = runAt t cut line
+  -- the counts, as they stand in the list
+  pub counted : record { number = 0; place = 0; orphans = getD w 0 0; kept = getD w 1 0; lost = getD w 2 0 } ≡ countsOf R
+  unfolding listWord
+  counted = rw (word-is 0 (omega arith), word-is 1 (omega arith), word-is 2 (omega arith))
 
-  module _ (n : length gates ≡ 192) where
-    -- the part of the gates from word 64 on
-    abbrev places : List ℕ
-    places = take (length gates - 64) (drop 64 gates)
-
-    pub listable : Listable t line full places cut
-    listable =
-        let m = length gates - 64 in
-        let d : length (drop 64 gates) ≡ m = length-drop 64 gates in
-        record {
-          fit = G .formed;
-          columns = G .columns;
-          within = G .cut-le;
-          places = rw (length-take-le m (drop 64 gates) (omega arith)) (omega arith);
-          restart = λ z h. getD-take m (drop 64 gates) z 0 (few z h) ∙ getD-drop 64 gates z 0 ∙ G .gated .places z h;
-        }
-      where
-        few : (z : ℕ) → z < t .procs → z < length gates - 64
-        few z h = omega (arith, h, valid t (G .formed) .few)
-
-    -- the counts, as they stand in the list
-    module _ (w : List ℕ) (e : w ≡ wordsFrom (listWord R) 0 areaWords) where
-      word-is : (k : ℕ) → k < 16384 → getD w k 0 ≡ listWord R k
-      word-is k h = ap (λ (x : List ℕ). getD x k 0) e ∙ getD-words (listWord R) 0 16384 k h ∙ ap (listWord R) (let q : 0 + k ≡ k = omega arith in q)
-
-      pub counted : record { number = 0; place = 0; orphans = getD w 0 0; kept = getD w 1 0; lost = getD w 2 0 } ≡ countsOf R
-      unfolding listWord
-      counted = rw (word-is 0 (omega arith), word-is 1 (omega arith), word-is 2 (omega arith))
-
-      pub few-counted : getD w 0 0 + (getD w 1 0 + getD w 2 0) ≤ 2048
-      unfolding listWord
-      few-counted = rw (word-is 0 (omega arith), word-is 1 (omega arith), word-is 2 (omega arith)) (rows-few t line full places cut listable)
+  pub few-counted : getD w 0 0 + (getD w 1 0 + getD w 2 0) ≤ 2048
+  unfolding listWord
+  few-counted = rw (word-is 0 (omega arith), word-is 1 (omega arith), word-is 2 (omega arith)) (rows-few R cut full gates G)
 
 module _ (a area : List ℕ) (step set : ℕ) (l : Line) where
   abbrev pub Listed : Counted → List ℕ → Type 0

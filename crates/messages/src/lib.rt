@@ -2,14 +2,15 @@
 // `messages` answers and leaves for every input. It has no `requires`; `list_from` is the step of it that
 // `recovery::recover` takes too. Assumes nothing.
 ghost use mathlib.Core.Path.{_≡_};
-ghost use Prim.Native.Nat.{ℕ, _+_, _≤_};
-ghost use lib.ListN.{length, replicate};
+ghost use Prim.Native.Nat.{_+_, _≤_};
+ghost use lib.ListN.{replicate};
 ghost use Rattle.words.specs.Area.{areaWords, wordsFrom};
-ghost use Rattle.trace.specs.Trace.{Trace};
-ghost use Rattle.theory.specs.Line.{runAt};
+ghost use Rattle.theory.specs.Line.{Run};
 ghost use Rattle.listing.specs.Listing.{listWord};
-ghost use Rattle.links.specs.Inner.Given.{Given};
+ghost use Rattle.columns.specs.Inner.Given.{Given};
 ghost use Rattle.messages.specs.Messages.{countsOf, messagesRefusal, messagesAnswer, messagesArea};
+use columns::FULL_WORDS;
+use columns::GATE_WORDS;
 use recovery_line::Line;
 use words::AREA_WORDS;
 
@@ -34,18 +35,15 @@ pub fn no_messages(number: u32) -> Counted
     }
 }
 
-// Where the restarts of the processes begin in the gates.
-const RESTARTS: usize = 64;
-
 // The orphans, kept and lost messages listed in a run area of zeros, from the full table and the gates of a line: how
 // many there are.
 pub fn list_from(full: &[u32], gates: &[u32], cut: usize, area: &mut [u32]) -> Counted
-    requires { ⌜ (now area ≡ replicate areaWords 0) × (length (now gates) ≡ 192) × ((t : Trace) × (line : (ℕ → ℕ)) × Given t line cut (now full) (now gates)) ⌝ }
-    ensures answer { λ r. ⌜ ((t : Trace) (line : ℕ → ℕ) → Given t line cut (now (full .entry)) (now (gates .entry)) → r ≡ countsOf (runAt t cut line)) ⌝ }
-    ensures words { λ _. ⌜ ((t : Trace) (line : ℕ → ℕ) → Given t line cut (now (full .entry)) (now (gates .entry)) → now (area .exit) ≡ wordsFrom (listWord (runAt t cut line)) 0 areaWords) ⌝ }
+    requires { ⌜ (now area ≡ replicate areaWords 0) × ((R : Run) × Given R cut (now full) (now gates)) ⌝ }
+    ensures answer { λ r. ⌜ ((R : Run) → Given R cut (now (full .entry)) (now (gates .entry)) → r ≡ countsOf R) ⌝ }
+    ensures words { λ _. ⌜ ((R : Run) → Given R cut (now (full .entry)) (now (gates .entry)) → now (area .exit) ≡ wordsFrom (listWord R) 0 areaWords) ⌝ }
     ensures few { λ r. ⌜ r .orphans + (r .kept + r .lost) ≤ 2048 ⌝ }
 {
-    listing::list(full, &gates[RESTARTS..], cut as u32, area);
+    listing::list(full, gates, cut, area);
     Counted {
         number: 0,
         place: 0,
@@ -61,8 +59,8 @@ pub fn messages(table: &[u32], step: u64, set: u64, line: Line, area: &mut [u32]
     ensures words { λ _. ⌜ now (area .exit) ≡ messagesArea (now (table .entry)) (now (area .entry)) step set line ⌝ }
     ensures few { λ r. ⌜ r .orphans + (r .kept + r .lost) ≤ 2048 ⌝ }
 {
-    let mut full = [0u32; AREA_WORDS];
-    let mut gates = [0u32; gates::GATE_WORDS];
+    let mut full = [0u32; FULL_WORDS];
+    let mut gates = [0u32; GATE_WORDS];
     let fault = preparing::prepare(table, area.len(), step, set, line, &mut full, &mut gates);
     if fault != 0 {
         return no_messages(fault);

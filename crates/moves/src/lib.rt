@@ -1,32 +1,33 @@
 // One choice carried out in words: a step for each, that tests nothing (the tests are in crate machine, whose
-// specs/Words says what each step does). Assumes nothing.
+// specs/Inner/Words says what each step does). Assumes nothing.
 ghost use mathlib.Core.Path.{_≡_};
 ghost use Prim.Native.Nat.{_≤_, _<_};
 ghost use lib.ListN.{length};
-ghost use Rattle.words.specs.Area.{areaWords};
-ghost use Rattle.machine.specs.Inner.Words.{lowOf, dropW, putInW, takeOutW, eventStepW, processW, applyW, Bounded};
-ghost use Rattle.machine.specs.Inner.Shapes.{Movable};
+ghost use Rattle.machine.specs.Inner.Words.{lowOf, dropW, putInW, takeOutW, eventStepW, processW, applyW};
+ghost use Rattle.machine.specs.Inner.Shapes.{Pointed, Ranged, Movable};
 use columns::NUMBER_BASE;
-use machine::CURRENT;
+use machine::CURRENT_BASE;
 use machine::HANDS;
-use machine::LOW;
+use machine::LOW_PLACE;
 use machine::NO_PHASE;
-use machine::ORPHAN;
-use machine::PUT;
-use machine::TAKE;
-use machine::TAKEN;
+use machine::ORPHAN_BASE;
+use machine::PUT_BASE;
+use machine::TAKE_BASE;
+use machine::TAKEN_BASE;
 use trace::EVENT_BASE;
+use trace::RECEIVE;
+use trace::SEND;
 use trace::VALUE_BASE;
 
 // The least phase of an orphan that is not sent again, where none is below the one given: an orphan of that phase is
 // looked for from one process on, before all are looked at.
 fn lowest_phase_from(full: &[u32], area: &[u32], from: usize, procs: usize, least: u32) -> u32
-    requires { ⌜ (procs ≤ 64) × (length (now full) ≡ areaWords) × (length (now area) ≡ areaWords) × Bounded (now area) × (least ≤ lowOf (now full) (now area) procs) ⌝ }
+    requires { ⌜ (procs ≤ 64) × Ranged (now full) (now area) × (least ≤ lowOf (now full) (now area) procs) ⌝ }
     ensures { λ r. ⌜ r ≡ lowOf (now (full .entry)) (now (area .entry)) procs ⌝ }
 {
     let mut z = from;
     while z < procs {
-        if machine::lower(full, machine::pointer(area, ORPHAN + z), NO_PHASE) <= least {
+        if machine::least_with(full, machine::pointer(area, ORPHAN_BASE + z), NO_PHASE) <= least {
             return least;
         }
         z += 1;
@@ -43,11 +44,11 @@ fn linked(link: u16) -> u32
 
 // A message goes into channel c, by its send or handed over.
 pub fn put_in(links: &[u16], area: &mut [u32], c: usize)
-    requires { ⌜ (c < 4096) × (8197 ≤ length (now links)) × (length (now area) ≡ areaWords) × Bounded (now area) ⌝ }
+    requires { ⌜ (c < 4096) × (8197 ≤ length (now links)) × Pointed (now area) ⌝ }
     ensures { λ _. ⌜ now (area .exit) ≡ putInW (now (links .entry)) (now (area .entry)) c ⌝ }
 {
-    let m = machine::pointer(area, PUT + c);
-    area[PUT + c] = linked(links[4 * m + 1]);
+    let m = machine::pointer(area, PUT_BASE + c);
+    area[PUT_BASE + c] = linked(links[4 * m + 1]);
 }
 
 // The receive e takes the oldest message of channel c: its number and value go on record.
@@ -55,10 +56,10 @@ fn take_out(full: &[u32], links: &[u16], area: &mut [u32], c: usize, e: usize)
     requires { ⌜ (c < 4096) × (e < 2049) × Movable (now full) (now links) (now area) ⌝ }
     ensures { λ _. ⌜ now (area .exit) ≡ takeOutW (now (full .entry)) (now (links .entry)) (now (area .entry)) c e ⌝ }
 {
-    let m = machine::pointer(area, TAKE + c);
-    area[TAKE + c] = linked(links[4 * m + 1]);
+    let m = machine::pointer(area, TAKE_BASE + c);
+    area[TAKE_BASE + c] = linked(links[4 * m + 1]);
     area[e] = full[NUMBER_BASE + m];
-    area[TAKEN + e] = full[VALUE_BASE + m];
+    area[TAKEN_BASE + e] = full[VALUE_BASE + m];
 }
 
 // The send e of process z is an orphan's: its message is dropped, and counts as sent again. No orphan has a phase below
@@ -69,11 +70,11 @@ fn drop_orphan(full: &[u32], links: &[u16], area: &mut [u32], z: usize, e: usize
     ensures { λ _. ⌜ now (area .exit) ≡ dropW (now (full .entry)) (now (links .entry)) (now (area .entry)) z e ⌝ }
 {
     let o = linked(links[4 * e + 2]);
-    area[ORPHAN + z] = o;
+    area[ORPHAN_BASE + z] = o;
     let procs = full[0] as usize;
-    let least = machine::lower(full, words::wide(o), area[LOW]);
+    let least = machine::least_with(full, words::wide(o), area[LOW_PLACE]);
     let low = lowest_phase_from(full, area, z, procs, least);
-    area[LOW] = low;
+    area[LOW_PLACE] = low;
 }
 
 // Process z does event e, which may be done.
@@ -82,10 +83,10 @@ fn do_event(full: &[u32], links: &[u16], area: &mut [u32], z: usize, e: usize)
     ensures { λ _. ⌜ now (area .exit) ≡ eventStepW (now (full .entry)) (now (links .entry)) (now (area .entry)) z e ⌝ }
 {
     let w = full[EVENT_BASE + e];
-    let kind = w / 4096 % 4;
-    let peer = (w / 64 % 64) as usize;
-    if kind == 1 {
-        let o = machine::pointer(area, ORPHAN + z);
+    let kind = trace::kind(w);
+    let peer = trace::peer(w);
+    if kind == SEND {
+        let o = machine::pointer(area, ORPHAN_BASE + z);
         if o == e {
             drop_orphan(full, links, area, z, e);
             return;
@@ -93,7 +94,7 @@ fn do_event(full: &[u32], links: &[u16], area: &mut [u32], z: usize, e: usize)
         put_in(links, area, 64 * z + peer);
         return;
     }
-    if kind == 2 {
+    if kind == RECEIVE {
         take_out(full, links, area, 64 * peer + z, e);
     }
 }
@@ -103,9 +104,9 @@ pub fn do_process(full: &[u32], links: &[u16], area: &mut [u32], z: usize)
     requires { ⌜ (z < 64) × Movable (now full) (now links) (now area) ⌝ }
     ensures { λ _. ⌜ now (area .exit) ≡ processW (now (full .entry)) (now (links .entry)) (now (area .entry)) z ⌝ }
 {
-    let e = machine::pointer(area, CURRENT + z);
+    let e = machine::pointer(area, CURRENT_BASE + z);
     do_event(full, links, area, z, e);
-    area[CURRENT + z] = linked(links[4 * e]);
+    area[CURRENT_BASE + z] = linked(links[4 * e]);
 }
 
 // Carries out a choice that is allowed.

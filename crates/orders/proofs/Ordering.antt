@@ -9,35 +9,50 @@ use lib.ListN.{length, getD, replicate}
 use Rattle.words.specs.Area.{areaWords}
 use Rattle.theory.specs.Line.{Run}
 use Rattle.theory.specs.Order.{Outcome, carriedOut, refused, run}
-use Rattle.machine.specs.Inner.Words.{currentBase, lowPlace, allowedW, applyW, Bounded, noneFrom}
+use Rattle.machine.specs.Inner.Words.{currentBase, lowPlace, allowedW, applyW, noneFrom}
 use Rattle.orders.specs.Inner.Left.{Live, Left}
 use Rattle.orders.proofs.Orders.{live-bad, live-next, live-end, live-start, none-same, rel-bounded, record-left}
 use Rattle.orders.specs.declared.Replayed.{Replayed}
 use Rattle.machine.specs.Inner.Related.{Rel, Started}
+use Rattle.machine.proofs.Told.{told}
 use Rattle.machine.proofs.Facts.{ready-low}
 use Rattle.theory.specs.Replay.{State}
 use Rattle.theory.specs.Inner.Flow.{Inv}
-use Rattle.machine.specs.Inner.Shapes.{LowIs}
+use Rattle.machine.specs.Inner.Shapes.{Pointed, Ranged, Readable, LowIs, Movable, Begun}
 use Rattle.machine.proofs.Steps.{low-same}
 use Rattle.orders.specs.Answer.{answerOf, wordsOf}
 
+-- ---- What the tests and the steps of a replay ask of the words, where these stand for a state
+module _ (t l g a₀ : List ℕ) (B : Begun t l g a₀) (a : List ℕ) (long : length a ≡ length a₀) (s : State) (r : Rel (B .run) a s) (i : Inv (B .run) s) where
+  ranged : Ranged t a
+  ranged =
+      let S = B .started in
+      let pointed : Pointed a = record { area-long = long ∙ B .area-long; bounded = rel-bounded (B .run) (S .laws) t l g (S .cols) a s r i } in
+      record { full-long = B .full-long; pointed = pointed }
+
+  pub readable : Readable t g a
+  readable = record { ranged = ranged; gates-long = B .started .cols .gated .long }
+
+  -- the least phase in a word is that of an orphan not sent again
+  low-is : LowIs t a
+  unfolding LowIs
+  low-is h =
+      let S = B .started in
+      low-same t a (getD t 0 0) h (λ x k. sym (r .low x k) ∙ ready-low (B .run) (S .laws) t g (told (B .run) t l g (S .cols)) s (i .cursors) a (r .orp) x k)
+
+  pub movable : Movable t l a
+  movable = record {
+    ranged = ranged;
+    procs-few = omega (arith, told (B .run) t l g (B .started .cols) .procs-is, B .started .laws .few);
+    links-long = B .started .cols .spread;
+    small = B .small;
+    low-is = low-is;
+  }
+
+-- ---- An order, choice by choice
 module _ (R : Run) (t l g a₀ : List ℕ) (S : Started R t l g a₀) where
   pub run-starts : (ns : List ℕ) → Live R a₀ 0 ns (run R ns)
   run-starts ns = live-start R (S .laws) t l g (S .cols) a₀ ns (S .rel)
-
-  pub live-bound : (a : List ℕ) (i : ℕ) (ns : List ℕ) (w : Outcome) → Live R a i ns w → Bounded a
-  live-bound a i ns w v = rel-bounded R (S .laws) t l g (S .cols) a (v .0) (v .1) (v .2)
-
-  -- the least phase in a word is that of an orphan not sent again
-  pub low-is : (a : List ℕ) (s : State) → Rel R a s → Inv R s → LowIs t a
-  unfolding LowIs
-  low-is a s r i h = low-same t a (getD t 0 0) h (λ x k. sym (r .low x k) ∙ ready-low R (S .laws) t g (S .cols .base) s (i .cursors) a (r .orp) x k)
-
-  pub procs-few : getD t 0 0 ≤ 64
-  procs-few = omega (arith, S .cols .base .procs-is, S .laws .few)
-
-  pub links-long : 8197 ≤ length l
-  links-long = S .cols .spread
 
   pub run-bad : (a : List ℕ) (i : ℕ) (ns : List ℕ) (w : Outcome) (c : ℕ) (r : Bool) → Live R a i ns w → i < length ns → c ≡ getD ns i 0
       → r ≡ allowedW t g a c → r ≡ false → Left R a w (i + 1)
@@ -66,11 +81,6 @@ module _ (R : Run) (t l g a₀ : List ℕ) (S : Started R t l g a₀) where
   stop-words a b (refused i) r v h j e = e ∙ ap (λ n. replicate n 0) j
 
   -- carried out
-  pub went-bound : (a : List ℕ) (w : Outcome) (r : ℕ) → Left R a w r → r ≡ 0 → Bounded a
-  unfolding Left
-  went-bound a (carriedOut s) r v h = rel-bounded R (S .laws) t l g (S .cols) a s (v .1) (v .2)
-  went-bound a (refused i) r v h = absurd (omega (arith, v .0, v .1))
-
   pub went-answer : (a : List ℕ) (w : Outcome) (r n : ℕ) (x : Replayed) (b : Bool) → Left R a w r → r ≡ 0 → b ≡ noneFrom t g a 4160
       → x ≡ (record { number = 0; place = 0; steps = n; complete = b }) → x ≡ answerOf R w n
   unfolding Left answerOf
@@ -82,3 +92,8 @@ module _ (R : Run) (t l g a₀ : List ℕ) (S : Started R t l g a₀) where
   unfolding Left wordsOf
   went-words a b (carriedOut s) r v h j others zeros = record-left R (S .laws) t l g (S .cols) a b s (v .1) j others zeros
   went-words a b (refused i) r v h j others zeros = absurd (omega (arith, v .0, v .1))
+
+pub went-readable : (t l g a₀ : List ℕ) (B : Begun t l g a₀) (a : List ℕ) → length a ≡ length a₀ → (w : Outcome) (r : ℕ) → Left (B .run) a w r → r ≡ 0 → Readable t g a
+unfolding Left
+went-readable t l g a₀ B a long (carriedOut s) r v h = readable t l g a₀ B a long s (v .1) (v .2)
+went-readable t l g a₀ B a long (refused i) r v h = absurd (omega (arith, v .0, v .1))

@@ -27,6 +27,7 @@ use Rattle.theory.specs.Inner.Lists.{head0}
 use Rattle.machine.specs.Inner.Related.{evs, orph, Cols, Chan, Rel}
 use Rattle.orders.specs.Record.{recordAt}
 use Rattle.orders.specs.Inner.Left.{Live}
+use Rattle.machine.proofs.Told.{told}
 use Rattle.machine.proofs.Facts.{evs-head, in-list}
 use Rattle.machine.proofs.Moves.{at-next}
 use Rattle.machine.proofs.Choices.{Agrees, refuses, allows, choice-agrees}
@@ -53,27 +54,28 @@ module _ (R : Run) (L : Laws R) (t l g : List ℕ) (K : Cols R t l g) where
 
   module _ (a : List ℕ) (i : ℕ) (ns : List ℕ) (w : Outcome) (v : Live R a i ns w) where
     pub live-bad : i < length ns → allowedW t g a (getD ns i 0) ≡ false → w ≡ refused (i + 1)
-    live-bad h k = go (choose R (v .0) (getD ns i 0)) refl (choice-agrees R L t l g K a (v .0) (v .1) (v .2) (getD ns i 0))
+    live-bad h k = go (choose R (v .state) (getD ns i 0)) refl (choice-agrees R L t l g K a (v .state) (v .rel) (v .inv) (getD ns i 0))
       where
-        go : (o : Option State) → choose R (v .0) (getD ns i 0) ≡ o → Agrees R L t l g K (allowedW t g a (getD ns i 0)) (applyW t l a (getD ns i 0)) o → w ≡ refused (i + 1)
-        go none e d = sym (v .3) ∙ carry-at (v .0) i ns h ∙ rw e (ap refused (sym (add-one i)))
+        go : (o : Option State) → choose R (v .state) (getD ns i 0) ≡ o → Agrees R L t l g K (allowedW t g a (getD ns i 0)) (applyW t l a (getD ns i 0)) o → w ≡ refused (i + 1)
+        go none e d = sym (v .rest) ∙ carry-at (v .state) i ns h ∙ rw e (ap refused (sym (add-one i)))
         go (some u) e (allows v′ y r j) = clash y k
 
     pub live-next : i < length ns → allowedW t g a (getD ns i 0) ≡ true → Live R (applyW t l a (getD ns i 0)) (i + 1) ns w
-    live-next h k = go (choose R (v .0) (getD ns i 0)) refl (choice-agrees R L t l g K a (v .0) (v .1) (v .2) (getD ns i 0))
+    live-next h k = go (choose R (v .state) (getD ns i 0)) refl (choice-agrees R L t l g K a (v .state) (v .rel) (v .inv) (getD ns i 0))
       where
-        go : (o : Option State) → choose R (v .0) (getD ns i 0) ≡ o → Agrees R L t l g K (allowedW t g a (getD ns i 0)) (applyW t l a (getD ns i 0)) o
+        go : (o : Option State) → choose R (v .state) (getD ns i 0) ≡ o → Agrees R L t l g K (allowedW t g a (getD ns i 0)) (applyW t l a (getD ns i 0)) o
             → Live R (applyW t l a (getD ns i 0)) (i + 1) ns w
         go none e (refuses y) = clash k y
         go (some u) e (allows v′ y r j) =
-            (u, r, j, rw (add-one i) (let x : carry R (v .0) (suc i) (drop i ns) ≡ carry R u (suc (suc i)) (drop (suc i) ns) = carry-at (v .0) i ns h ∙ rw e in sym x ∙ v .3))
+            let x : carry R (v .state) (suc i) (drop i ns) ≡ carry R u (suc (suc i)) (drop (suc i) ns) = carry-at (v .state) i ns h ∙ rw e in
+            record { state = u; rel = r; inv = j; rest = rw (add-one i) (sym x ∙ v .rest) }
 
     pub live-end : length ns ≤ i → (s : State) × Rel R a s × Inv R s × (w ≡ carriedOut s)
-    live-end h = (v .0, v .1, v .2, sym (v .3) ∙ carry-end (v .0) i ns h)
+    live-end h = (v .state, v .rel, v .inv, sym (v .rest) ∙ carry-end (v .state) i ns h)
 
   pub live-start : (a : List ℕ) (ns : List ℕ) → Rel R a (start R) → Live R a 0 ns (run R ns)
   unfolding run
-  live-start a ns r = (start R, r, inv-start R L, refl)
+  live-start a ns r = record { state = start R; rel = r; inv = inv-start R L; rest = refl }
 
   -- the words tell whether an order is complete
   none-below : (a : List ℕ) (s : State) → Rel R a s → Inv R s → (c : ℕ) → noneFrom t g a c ≡ all-below c (λ c. isNone (choose R s c))
@@ -107,35 +109,33 @@ module _ (R : Run) (L : Laws R) (t l g : List ℕ) (K : Cols R t l g) where
     where
       cur-lt : (z : ℕ) (es : List ℕ) → s .todo z ≡ es → head0 es < 2049
       cur-lt z [] e = omega arith
-      cur-lt z (x ∷ es) e = let n = at-next R L t l g K s i z x es e in omega (arith, n .1, K .base .few)
+      cur-lt z (x ∷ es) e = let n = at-next R L t l g K s i z x es e in omega (arith, n .1, (told R t l g K) .few)
 
       orp-lt : (z : ℕ) (os : List ℕ) → keep (orph R z) (s .todo z) ≡ os → head0 os < 2049
       orp-lt z [] e = omega arith
       orp-lt z (o ∷ os) e =
           let c = i .cursors in
           let n = in-list R L z (c .upTo z) o os (c .within z) (ap (keep (orph R z)) (sym (c .todo-is z)) ∙ e) in
-          omega (arith, n .1, K .base .few)
+          omega (arith, n .1, (told R t l g K) .few)
 
       evs-lt : (p q x : ℕ) → x ≤ size (R .trace) → (ds : List ℕ) → evs R p q x ≡ ds → head0 ds < 2049
       evs-lt p q x h [] e = omega arith
-      evs-lt p q x h (d ∷ ds) e = let n = evs-head R L p q x d ds h e in omega (arith, n .1, K .base .few)
+      evs-lt p q x h (d ∷ ds) e = let n = evs-head R L p q x d ds h e in omega (arith, n .1, (told R t l g K) .few)
 
       pq : (c : ℕ) → c < 4096 → Chan R s (c / 64) (c % 64) (takeW a (64 * (c / 64) + c % 64)) (putW a (64 * (c / 64) + c % 64))
       pq c h = r .chan (c / 64) (c % 64) (omega arith) (omega arith)
 
+      -- the word of channel c in a plane of pointers: the head of a list of its sends
+      chan-lt : (base c y : ℕ) → k ≡ base + c → y ≤ size (R .trace) → getD a (base + (64 * (c / 64) + c % 64)) 0 ≡ head0 (evs R (c / 64) (c % 64) y) → getD a k 0 < 2049
+      chan-lt base c y e h w =
+          let f : k ≡ base + (64 * (c / 64) + c % 64) = omega arith in
+          omega (arith, ap (λ x. getD a x 0) f ∙ w, evs-lt (c / 64) (c % 64) y h (evs R (c / 64) (c % 64) y) refl)
+
       chan-put : (c : ℕ) → c < 4096 → k ≡ putBase + c → getD a k 0 < 2049
-      chan-put c h e =
-          let f : c ≡ 64 * (c / 64) + c % 64 = omega arith in
-          let d = pq c h in
-          let v : getD a k 0 ≡ head0 (evs R (c / 64) (c % 64) (d .y)) = ap (λ x. getD a x 0) (e ∙ ap (λ x. putBase + x) f) ∙ d .pt-is ∙ ap head0 (d .rest) in
-          omega (arith, v, evs-lt (c / 64) (c % 64) (d .y) (d .y-le) (evs R (c / 64) (c % 64) (d .y)) refl)
+      chan-put c h e = let d = pq c h in chan-lt putBase c (d .y) e (d .y-le) (d .pt-is ∙ ap head0 (d .rest))
 
       chan-take : (c : ℕ) → c < 4096 → k ≡ takeBase + c → getD a k 0 < 2049
-      chan-take c h e =
-          let f : c ≡ 64 * (c / 64) + c % 64 = omega arith in
-          let d = pq c h in
-          let v : getD a k 0 ≡ head0 (evs R (c / 64) (c % 64) (d .x)) = ap (λ x. getD a x 0) (e ∙ ap (λ x. takeBase + x) f) ∙ d .tk-is ∙ ap head0 (d .all) in
-          omega (arith, v, evs-lt (c / 64) (c % 64) (d .x) (d .x-le) (evs R (c / 64) (c % 64) (d .x)) refl)
+      chan-take c h e = let d = pq c h in chan-lt takeBase c (d .x) e (d .x-le) (d .tk-is ∙ ap head0 (d .all))
 
   -- the record: what is left when every working word is 0 again
   pub record-left : (a b : List ℕ) (s : State) → Rel R a s → length b ≡ 16384

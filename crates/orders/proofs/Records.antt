@@ -143,7 +143,7 @@ module _ (R : Run) (L : Laws R) (s : State) where
 -- ---- Orders
 
 module _ (R : Run) (L : Laws R) (few : size (R .trace) ≤ 2048) (order : List ℕ) (s : State) (h : run R order ≡ carriedOut s) where
-  pub order-record : (wordsFrom (recordAt R s) 0 16384 ≡ wordsFrom (faultlessAt (R .trace)) 0 16384) ↔ SameRecord R s
+  order-record : (wordsFrom (recordAt R s) 0 16384 ≡ wordsFrom (faultlessAt (R .trace)) 0 16384) ↔ SameRecord R s
   order-record = record-iff R L s few (inv R L s (length order) (run-reaches R order s h))
 
   -- a complete order leaves the words of the run without failure exactly where the line loses no message

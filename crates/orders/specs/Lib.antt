@@ -1,6 +1,5 @@
 -- public
 pub mod Record
 pub mod Answer
--- of single functions
 -- internal: no contract of a function that users call reaches these
 pub mod Inner

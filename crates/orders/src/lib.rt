@@ -1,20 +1,20 @@
 // An order of choices carried out in words: its answer, and the delivery record that it leaves. specs/Answer says it by
-// the theory's machine. proofs/Claims is to be read first. Assumes nothing.
+// the theory's machine; proofs/Ordering has a law for each way out. Assumes nothing.
 ghost use mathlib.Core.Path.{_≡_};
 ghost use Prim.Native.Nat.{ℕ, _≤_, _<_};
 ghost use lib.ListN.{length, getD};
 ghost use Rattle.words.specs.Area.{areaWords};
-ghost use Rattle.machine.specs.Inner.Words.{currentBase, lowPlace, Small};
-ghost use Rattle.theory.specs.Line.{Run, runAt};
+ghost use Rattle.machine.specs.Inner.Words.{currentBase, lowPlace};
+ghost use Rattle.theory.specs.Line.{Run};
 ghost use Rattle.machine.specs.Inner.Related.{Started};
+ghost use Rattle.machine.specs.Inner.Shapes.{Begun};
 ghost use Rattle.theory.specs.Order.{run};
-ghost use Rattle.trace.specs.Trace.{Trace};
 ghost use Rattle.orders.specs.Inner.Left.{Left};
-ghost use Rattle.links.specs.Inner.Given.{Given};
+ghost use Rattle.columns.specs.Inner.Given.{Given};
 ghost use Rattle.orders.specs.Answer.{answerOf, wordsOf};
 use links::LINK_WORDS;
-use machine::CURRENT;
-use machine::LOW;
+use machine::CURRENT_BASE;
+use machine::LOW_PLACE;
 
 // What a replay answers: 0, or 11 with the place of the first choice that is not allowed, from 1; how many choices were
 // carried out, and whether no choice is left.
@@ -25,6 +25,7 @@ pub struct Replayed {
     pub complete: bool,
 }
 
+// A choice as the number that it is.
 fn choice(c: u16) -> usize
     ensures { λ r. ⌜ r ≡ c ⌝ }
 {
@@ -33,7 +34,7 @@ fn choice(c: u16) -> usize
 
 // Carries out an order: the place of its first choice that is not allowed, from 1, or 0.
 fn carry_out(full: &[u32], links: &[u16], gates: &[u32], order: &[u16], area: &mut [u32]) -> usize
-    requires { ⌜ (length (now full) ≡ areaWords) × (128 ≤ length (now gates)) × (length (now area) ≡ areaWords) × Small (now links) × ((R : Run) × Started R (now full) (now links) (now gates) (now area)) ⌝ }
+    requires { ⌜ Begun (now full) (now links) (now gates) (now area) ⌝ }
     ensures { λ r. ⌜ ((R : Run) → Started R (now (full .entry)) (now (links .entry)) (now (gates .entry)) (now (area .entry)) → Left R (now (area .exit)) (run R (now (order .entry))) r) ⌝ }
 {
     let mut i: usize = 0;
@@ -70,7 +71,7 @@ pub fn finish(area: &mut [u32], steps: usize, done: bool) -> Replayed
     ensures kept { λ _. ⌜ ((k : ℕ) → (currentBase ≤ k → lowPlace < k) → getD (now (area .exit)) k 0 ≡ getD (now (area .entry)) k 0) ⌝ }
     ensures zeros { λ _. ⌜ ((k : ℕ) → currentBase ≤ k → k ≤ lowPlace → getD (now (area .exit)) k 0 ≡ 0) ⌝ }
 {
-    clear(area, CURRENT, LOW + 1);
+    clear(area, CURRENT_BASE, LOW_PLACE + 1);
     Replayed {
         number: 0,
         place: 0,
@@ -87,7 +88,7 @@ fn replay_in(
     order: &[u16],
     area: &mut [u32],
 ) -> Replayed
-    requires { ⌜ (length (now full) ≡ areaWords) × (128 ≤ length (now gates)) × (length (now area) ≡ areaWords) × Small (now links) × ((R : Run) × Started R (now full) (now links) (now gates) (now area)) ⌝ }
+    requires { ⌜ Begun (now full) (now links) (now gates) (now area) ⌝ }
     ensures answer { λ r. ⌜ ((R : Run) → Started R (now (full .entry)) (now (links .entry)) (now (gates .entry)) (now (area .entry)) → r ≡ answerOf R (run R (now (order .entry))) (length (now (order .entry)))) ⌝ }
     ensures words { λ _. ⌜ ((R : Run) → Started R (now (full .entry)) (now (links .entry)) (now (gates .entry)) (now (area .entry)) → now (area .exit) ≡ wordsOf R (run R (now (order .entry)))) ⌝ }
 {
@@ -105,11 +106,11 @@ fn replay_in(
     finish(area, order.len(), done)
 }
 
-// Replays an order from the line that the gates stand for, in an area of exactly 16,384 words.
+// Replays an order of the run that the full table and the gates tell, in an area of exactly 16,384 words.
 pub fn replay(full: &[u32], gates: &[u32], order: &[u16], area: &mut [u32], cut: usize) -> Replayed
-    requires { ⌜ (length (now area) ≡ areaWords) × (128 ≤ length (now gates)) × ((t : Trace) × (line : (ℕ → ℕ)) × Given t line cut (now full) (now gates)) ⌝ }
-    ensures answer { λ r. ⌜ ((t : Trace) (line : ℕ → ℕ) → Given t line cut (now (full .entry)) (now (gates .entry)) → r ≡ answerOf (runAt t cut line) (run (runAt t cut line) (now (order .entry))) (length (now (order .entry)))) ⌝ }
-    ensures words { λ _. ⌜ ((t : Trace) (line : ℕ → ℕ) → Given t line cut (now (full .entry)) (now (gates .entry)) → now (area .exit) ≡ wordsOf (runAt t cut line) (run (runAt t cut line) (now (order .entry)))) ⌝ }
+    requires { ⌜ (length (now area) ≡ areaWords) × ((R : Run) × Given R cut (now full) (now gates)) ⌝ }
+    ensures answer { λ r. ⌜ ((R : Run) → Given R cut (now (full .entry)) (now (gates .entry)) → r ≡ answerOf R (run R (now (order .entry))) (length (now (order .entry)))) ⌝ }
+    ensures words { λ _. ⌜ ((R : Run) → Given R cut (now (full .entry)) (now (gates .entry)) → now (area .exit) ≡ wordsOf R (run R (now (order .entry)))) ⌝ }
 {
     let mut links = [0u16; LINK_WORDS];
     words::zero(area);

@@ -1,8 +1,8 @@
--- What the protocol part promises: the words of the full table (specs/Columns, by the contract of `tabulate`), of which
--- recovery relies on the columns only, and the laws of a recorded run.
+-- What the protocol part promises: the words of the full table (crates/columns/specs/Inner/Columns.antt, by the
+-- contract of `tabulate`), of which recovery relies on the columns and the flags only, and the laws of a recorded run.
 use Prim.Native.Nat.{ℕ, _≤_}
 use mathlib.Core.Path.{_≡_}
-use mathlib.Core.Bool.{true}
+use mathlib.Core.Bool.{Bool, true}
 use mathlib.Core.List.{List}
 use Rattle.trace.specs.Fit.{wellFormed}
 use Rattle.trace.specs.Trace.{Trace}
@@ -12,7 +12,7 @@ use Rattle.theory.specs.Epochs.{Rule}
 use Rattle.theory.specs.Line.{recorded}
 use Rattle.theory.specs.Inner.Laws.{Laws}
 use Rattle.theory.proofs.Epochs.{laws}
-use Rattle.columns.specs.Inner.Columns.{Columns, Others}
+use Rattle.columns.specs.Inner.Columns.{Columns, Flagged, Others}
 use Rattle.columns.proofs.Others.{same-table}
 use Rattle.protocol.proofs.Passes.{held-formed, held-valid}
 
@@ -25,5 +25,6 @@ pub recorded-laws : (a : List ℕ) → holdsTrace a ≡ true → (rule : Rule) (
 recorded-laws a h rule cut line l = laws (held a) rule (held-valid a h) cut line l
 
 -- The contract of `tabulate` leaves no word free: two tables that it allows, from the same table before, are the same.
-pub one-table : (t : Trace) (before full other : List ℕ) → Columns t full → Others t (size t) before full → Columns t other → Others t (size t) before other → full ≡ other
+pub one-table : (t : Trace) (L : ℕ → ℕ → ℕ → Bool) (before full other : List ℕ) → Columns t full → Flagged t L full → Others t (size t) before full
+    → Columns t other → Flagged t L other → Others t (size t) before other → full ≡ other
 one-table = same-table

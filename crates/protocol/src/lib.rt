@@ -6,16 +6,17 @@ ghost use mathlib.Core.Bool.{true, false, _&&_};
 ghost use Prim.Native.Nat.{ℕ, _≤_, _<_};
 ghost use lib.Dec.{eqb};
 ghost use lib.ListN.{length, getD};
-ghost use Rattle.words.specs.Area.{areaWords};
 ghost use Rattle.theory.specs.Events.{size};
 ghost use Rattle.columns.specs.Inner.Filling.{Filled, Working};
 ghost use Rattle.table.specs.Held.{held, holdsTrace};
-ghost use Rattle.columns.specs.Inner.Columns.{Columns, Others};
+ghost use Rattle.theory.specs.Epochs.{loggedBy, ruleOf};
+ghost use Rattle.columns.specs.Inner.Columns.{fullWords, Columns, Flagged, Others};
+use columns::FULL_WORDS;
 use columns::NUMBER_BASE;
+use columns::TRACE_WORDS;
 use columns::WORK_WORDS;
 use trace::EVENT_BASE;
 use trace::VALUE_BASE;
-use words::AREA_WORDS;
 
 // Copies the first n words of an area.
 fn copy(area: &[u32], full: &mut [u32], n: usize)
@@ -47,6 +48,7 @@ fn begin(work: &mut [u16])
 fn fill(area: &[u32], full: &mut [u32], work: &mut [u16])
     requires { ⌜ (holdsTrace (now area) ≡ true) × Filled (held (now area)) 0 (now full) × Working (held (now area)) 0 (now work) ⌝ }
     ensures columns { λ _. ⌜ Columns (held (now (area .entry))) (now (full .exit)) ⌝ }
+    ensures flags { λ _. ⌜ Flagged (held (now (area .entry))) (loggedBy (held (now (area .entry))) (ruleOf (held (now (area .entry))))) (now (full .exit)) ⌝ }
     ensures others { λ _. ⌜ Others (held (now (area .entry))) (size (held (now (area .entry)))) (now (full .entry)) (now (full .exit)) ⌝ }
 {
     let n = area[1] as usize;
@@ -62,19 +64,21 @@ fn fill(area: &[u32], full: &mut [u32], work: &mut [u16])
     }
 }
 
-// The full table of the trace that an area holds, in a lent area of exactly 16,384 words; false where the area holds no
-// trace, or the lent one has another size.
+// The full table of the trace that an area holds, in a lent table of exactly FULL_WORDS words; false where the area
+// holds no trace, or the lent table has another size. Which received messages are logged is decided here, by the
+// trace's rule.
 pub fn tabulate(area: &[u32], full: &mut [u32]) -> bool
-    ensures answer { λ r. ⌜ r ≡ (eqb (length (now (full .entry))) areaWords && holdsTrace (now (area .entry))) ⌝ }
+    ensures answer { λ r. ⌜ r ≡ (eqb (length (now (full .entry))) fullWords && holdsTrace (now (area .entry))) ⌝ }
     ensures columns { λ r. ⌜ (r ≡ true → Columns (held (now (area .entry))) (now (full .exit))) ⌝ }
+    ensures flags { λ r. ⌜ (r ≡ true → Flagged (held (now (area .entry))) (loggedBy (held (now (area .entry))) (ruleOf (held (now (area .entry))))) (now (full .exit))) ⌝ }
     ensures untouched { λ r. ⌜ (r ≡ false → now (full .exit) ≡ now (full .entry)) ⌝ }
     ensures others { λ r. ⌜ (r ≡ true → Others (held (now (area .entry))) (size (held (now (area .entry)))) (now (full .entry)) (now (full .exit))) ⌝ }
 {
-    if full.len() != AREA_WORDS {
+    if full.len() != FULL_WORDS {
         return false;
     }
     if table::holds_trace(area) {
-        copy(area, full, NUMBER_BASE);
+        copy(area, full, TRACE_WORDS);
         full[NUMBER_BASE] = 0;
         let mut work = [0u16; WORK_WORDS];
         begin(&mut work);

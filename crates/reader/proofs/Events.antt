@@ -11,7 +11,7 @@ use borrow.Author.Tests.{leb-true, le-leb, lt-leb, eqb-true, eq-eqb, ne-eqb}
 use Rattle.words.proofs.Cases.{by-eq, and-left, and-right, and-both}
 use Rattle.trace.specs.declared.Event.{Event}
 use Rattle.trace.specs.declared.Event.the-variants.{Send, Recv, Save}
-use Rattle.trace.specs.Trace.{Trace}
+use Rattle.trace.specs.Trace.{Trace, withEvents, extended}
 use Rattle.trace.specs.Fit.{eventFault, valueFits, allFit}
 use Rattle.lines.specs.declared.Line.{Line}
 use Rattle.reader.specs.declared.Judged.{Judged}
@@ -19,7 +19,7 @@ use Rattle.reader.specs.declared.Judged.the-variants.{Fit, Fails, Unfit}
 use Rattle.lines.specs.Line.{lineSaid, most, mostSet}
 use Rattle.lines.specs.Render.{renderEvent, renderFailure}
 use Rattle.reader.specs.Render.{renderEvents}
-use Rattle.reader.specs.Verdict.{pieces, extended, faultHere, judgeEvent, judge, Scan, afterLine, linesFrom}
+use Rattle.reader.specs.Verdict.{pieces, faultHere, judgeEvent, judge, Scan, afterLine, linesFrom}
 use Rattle.trace.proofs.Faults.{send-fit, recv-fit, save-fit}
 use Rattle.reader.proofs.Judging.{fit-few}
 use Rattle.reader.proofs.Turns.{with-lf}
@@ -29,13 +29,13 @@ use Rattle.lines.specs.declared.Line as line
 
 -- the trace with more events
 abbrev pub longer : Trace → List Event → Trace
-longer t es = record { procs = t .procs; events = t .events ++ es }
+longer t es = withEvents t (t .events ++ es)
 
 longer-none : (t : Trace) → t ≡ longer t []
-longer-none t = ap (λ (x : List Event). record { procs = t .procs; events = x }) (sym (append-nil (t .events)))
+longer-none t = ap (withEvents t) (sym (append-nil (t .events)))
 
 longer-more : (t : Trace) (e : Event) (es : List Event) → longer (extended t e) es ≡ longer t (e ∷ es)
-longer-more t e es = ap (λ (x : List Event). record { procs = t .procs; events = x }) (append-assoc (t .events) (e ∷ []) es)
+longer-more t e es = ap (withEvents t) (append-assoc (t .events) (e ∷ []) es)
 
 -- ---- from reading to text
 

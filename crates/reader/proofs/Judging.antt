@@ -1,7 +1,6 @@
 -- Laws of `judge`: one for each way out of the functions that judge a line, and what a line that is judged fit has.
 use Prim.Native.Nat.{ℕ, _<_, _≤_}
-use mathlib.Core.Path.{_≡_}
-use mathlib.Core.List.{List}
+use mathlib.Core.Path.{_≡_, sym, _∙_}
 use native.Mathlib.Omega.{arith}
 use lib.Dec.{leb}
 use lib.ListN.{length}
@@ -12,20 +11,21 @@ use Rattle.trace.specs.Trace.{Trace}
 use Rattle.trace.specs.Fit.{eventFault}
 use Rattle.words.proofs.Cases.{by-eq}
 use Rattle.lines.specs.declared.Line.{Line}
+use Rattle.reader.specs.declared.Judged.{Judged}
 use Rattle.reader.specs.declared.Judged.the-variants.{Fit, Unfit}
 use Rattle.reader.specs.Verdict.{faultHere, judgeEvent, judge}
 use Rattle.trace.proofs.Faults.{or-zero}
 use Rattle.lines.specs.declared.Line as line
 
 -- each way out of `fault`
-module _ (n : ℕ) (es : List Event) (e : Event) where
-  pub fault-1 : 2048 ≤ length es → 7 ≡ faultHere (record { procs = n; events = es }) e
+module _ (t : Trace) (e : Event) where
+  pub fault-1 : 2048 ≤ length (t .events) → 7 ≡ faultHere t e
   unfolding faultHere
-  fault-1 h = rw (le-leb 2048 (length es) h)
+  fault-1 h = rw (le-leb 2048 (length (t .events)) h)
 
-  pub fault-2 : length es < 2048 → eventFault n es e ≡ faultHere (record { procs = n; events = es }) e
+  pub fault-2 : length (t .events) < 2048 → eventFault (t .procs) (t .events) e ≡ faultHere t e
   unfolding faultHere
-  fault-2 h = rw (lt-leb 2048 (length es) h)
+  fault-2 h = rw (lt-leb 2048 (length (t .events)) h)
 
 -- each way out of `judge_event`: f is what is wrong with the event
 module _ (t : Trace) (e : Event) (f : ℕ) (h : f ≡ faultHere t e) where
@@ -46,7 +46,7 @@ fit-here t e d h =
     (λ n. let q : Unfit (faultHere t e) ≡ Fit d = rw (ne-eqb (faultHere t e) 0 n) at h in
     let z : _≡_ {A = ℕ} 0 1 = cc in absurd (let w : ⊥ = omega arith in w))
 
-pub fit-line : (t : Trace) (l : Line) (d : Event) → judge t l ≡ Fit d → faultHere t d ≡ 0
+fit-line : (t : Trace) (l : Line) (d : Event) → judge t l ≡ Fit d → faultHere t d ≡ 0
 unfolding judge
 fit-line t (line.the-variants.Procs n) d h = let z : _≡_ {A = ℕ} 0 1 = cc in omega arith
 fit-line t (line.the-variants.Send a b v) d h = let q = fit-here t (Send a b v) d h in rw (q .0) at (q .1)
@@ -59,3 +59,7 @@ fit-line t line.the-variants.Malformed d h = let z : _≡_ {A = ℕ} 0 1 = cc in
 pub fit-few : (t : Trace) (e : Event) → faultHere t e ≡ 0 → (length (t .events) < 2048) × (eventFault (t .procs) (t .events) e ≡ 0)
 unfolding faultHere
 fit-few t e h = let x = or-zero (leb 2048 (length (t .events))) 7 (eventFault (t .procs) (t .events) e) (omega arith) h in (leb-false 2048 (length (t .events)) (x .0), x .1)
+
+pub fit-judged : (t : Trace) (l : Line) (j : Judged) (d : Event) → j ≡ judge t l → j ≡ Fit d
+    → (length (t .events) < 2048) × (eventFault (t .procs) (t .events) d ≡ 0)
+fit-judged t l j d said fit = fit-few t d (fit-line t l d (sym said ∙ fit))

@@ -1,42 +1,20 @@
 -- Laws of the table area: storing an event makes the words those of the trace with that event.
-use Prim.Native.Nat.{ℕ, suc, _+_, _-_, _<_}
+use Prim.Native.Nat.{ℕ, _+_, _-_, _<_}
 use mathlib.Core.Path.{_≡_, refl, sym, ap, _∙_}
 use mathlib.Core.List.{List, [], _∷_, _++_, map}
 use native.Mathlib.Omega.{arith}
 use mathlib.Core.Bool.{Bool, true, false, cond}
 use lib.Dec.{eqb, leb}
-use lib.ListN.{length, getD, set, length-set, length-append, replicate, length-replicate, getD-replicate, List·getD-append, List·getD-eq-default}
-use lib.Seq.{getD-set-same, getD-set-other, getD-append-seam}
+use lib.ListN.{length, getD, set, length-set, length-append, replicate, length-replicate, getD-replicate}
+use lib.Seq.{getD-set-same, getD-set-other}
 use borrow.Author.Tests.{ne-eqb, le-leb, lt-leb}
 use Rattle.words.specs.Area.{areaWords}
 use Rattle.words.proofs.Cases.{by-eq, by-lt}
+use Rattle.words.proofs.Lists.{last-mapped, other-mapped}
 use Rattle.trace.specs.declared.Event.{Event}
-use Rattle.trace.specs.Trace.{Trace}
+use Rattle.trace.specs.Trace.{Trace, started, extended}
 use Rattle.trace.specs.Table.{wordOf, valueWord, tableWord}
-use Rattle.reader.specs.Verdict.{extended}
 use Rattle.reader.specs.Inner.Reading.{Holds, appended}
-
-map-more : (f : Event → ℕ) (es : List Event) (e : Event) → map f (es ++ e ∷ []) ≡ map f es ++ f e ∷ []
-map-more f [] e = refl
-map-more f (x ∷ es) e = ap (λ (l : List ℕ). f x ∷ l) (map-more f es e)
-
-length-map : (f : Event → ℕ) (es : List Event) → length (map f es) ≡ length es
-length-map f [] = refl
-length-map f (x ∷ es) = ap suc (length-map f es)
-
--- a plane with one event more: its own word, and the others
-plane-here : (f : Event → ℕ) (es : List Event) (e : Event) (i : ℕ) → i ≡ length es → getD (map f (es ++ e ∷ [])) i 0 ≡ f e
-plane-here f es e i h =
-    rw (map-more f es e) (ap (λ (j : ℕ). getD (map f es ++ f e ∷ []) j 0) (h ∙ sym (length-map f es)) ∙ getD-append-seam (map f es) (f e) [] 0)
-
-plane-other : (f : Event → ℕ) (es : List Event) (e : Event) (i : ℕ) → (i ≡ length es → ⊥) → getD (map f (es ++ e ∷ [])) i 0 ≡ getD (map f es) i 0
-plane-other f es e i n =
-    let l = length-map f es in
-    rw (map-more f es e)
-    (by-lt i (length es)
-    (λ h. List·getD-append (map f es) (f e ∷ []) 0 i (omega arith))
-    (λ h. List·getD-eq-default (map f es ++ f e ∷ []) 0 {n = i} (rw (length-append (map f es) (f e ∷ []), l) (omega arith))
-    ∙ sym (List·getD-eq-default (map f es) 0 {n = i} (omega arith))))
 
 module _ (t : Trace) (e : Event) where
   -- the words that an event changes, and the others
@@ -49,14 +27,14 @@ module _ (t : Trace) (e : Event) where
   word-event h =
       let k = 16 + (length (t .events) + 1) in
       rw (ne-eqb k 0 (λ q. omega arith), ne-eqb k 1 (λ q. omega arith), lt-leb k 16 (omega arith), le-leb k 2065 (omega arith))
-      (plane-here wordOf (t .events) e (k - 17) (omega arith))
+      (ap (λ (i : ℕ). getD (map wordOf (t .events ++ e ∷ [])) i 0) (omega arith) ∙ last-mapped wordOf (t .events) e)
 
   word-value : tableWord (extended t e) (2065 + (length (t .events) + 1)) ≡ valueWord e
   unfolding tableWord
   word-value =
       let k = 2065 + (length (t .events) + 1) in
       rw (ne-eqb k 0 (λ q. omega arith), ne-eqb k 1 (λ q. omega arith), lt-leb k 16 (omega arith), lt-leb k 2065 (omega arith))
-      (plane-here valueWord (t .events) e (k - 2066) (omega arith))
+      (ap (λ (i : ℕ). getD (map valueWord (t .events ++ e ∷ [])) i 0) (omega arith) ∙ last-mapped valueWord (t .events) e)
 
   word-other : (k : ℕ) → (k ≡ 1 → ⊥) → (k ≡ 16 + (length (t .events) + 1) → ⊥) → (k ≡ 2065 + (length (t .events) + 1) → ⊥)
       → tableWord (extended t e) k ≡ tableWord t k
@@ -64,8 +42,8 @@ module _ (t : Trace) (e : Event) where
   word-other k n₁ n₂ n₃ =
       by-lt 16 k
       (λ h. by-lt 2065 k
-      (λ g. rw (ne-eqb k 1 n₁, lt-leb k 16 h, lt-leb k 2065 g, plane-other valueWord (t .events) e (k - 2066) (λ q. n₃ (omega arith))))
-      (λ g. rw (ne-eqb k 1 n₁, lt-leb k 16 h, le-leb k 2065 g, plane-other wordOf (t .events) e (k - 17) (λ q. n₂ (omega arith)))))
+      (λ g. rw (ne-eqb k 1 n₁, lt-leb k 16 h, lt-leb k 2065 g, other-mapped valueWord (t .events) e (k - 2066) (λ q. n₃ (omega arith))))
+      (λ g. rw (ne-eqb k 1 n₁, lt-leb k 16 h, le-leb k 2065 g, other-mapped wordOf (t .events) e (k - 17) (λ q. n₂ (omega arith)))))
       (λ h. rw (ne-eqb k 1 n₁, le-leb k 16 h))
 
   pub next-holds : (table : List ℕ) → Holds table t → length (t .events) < 2048 → Holds (appended table (length (t .events)) e) (extended t e)
@@ -97,12 +75,12 @@ all-zero false false true = refl
 all-zero false false false = refl
 
 -- a trace without events has no other word
-none-word : (procs k : ℕ) → (k ≡ 0 → ⊥) → tableWord (record { procs = procs; events = [] }) k ≡ 0
+none-word : (procs k : ℕ) → (k ≡ 0 → ⊥) → tableWord (started procs) k ≡ 0
 unfolding tableWord
 none-word procs k n = rw (ne-eqb k 0 n) (all-zero (eqb k 1) (leb k 16) (leb k 2065))
 
 -- a zero area whose first word is the process count holds the trace without events
-pub none-holds : (procs : ℕ) (table : List ℕ) → table ≡ replicate areaWords 0 → Holds (set table 0 procs) (record { procs = procs; events = [] })
+pub none-holds : (procs : ℕ) (table : List ℕ) → table ≡ replicate areaWords 0 → Holds (set table 0 procs) (started procs)
 unfolding tableWord
 none-holds procs table z =
     let l : length table ≡ 16384 = ap length z ∙ length-replicate {A = ℕ} 16384 0 in

@@ -10,14 +10,14 @@ use denote.Enum.Declared.{tagOf}
 use Rattle.text.specs.declared.LineEnd.the-variants.{At, Missing}
 use Rattle.text.specs.Inner.Line.{lineEnd}
 use Rattle.trace.specs.declared.Event.{Event}
-use Rattle.trace.specs.Trace.{Trace}
+use Rattle.trace.specs.Trace.{Trace, started, extended}
 use Rattle.lines.specs.declared.Line.{Line}
 use Rattle.reader.specs.declared.Judged.{Judged}
 use Rattle.reader.specs.declared.Judged.the-variants.{Fit, Fails, Unfit}
 use Rattle.reader.specs.declared.Scanned.{Scanned}
 use Rattle.reader.specs.declared.Scanned.the-variants.{Refused, Ended}
 use Rattle.lines.specs.Line.{lineSaid}
-use Rattle.reader.specs.Verdict.{Scan, refused, ended, pieces, extended, judge, afterLine, atEnd, linesFrom, firstLine, scanPieces, scan}
+use Rattle.reader.specs.Verdict.{Scan, refused, ended, pieces, judge, afterLine, atEnd, linesFrom, firstLine, scanPieces, scan}
 use Rattle.reader.specs.Inner.Reading.{countOnly, Holds, stopOf, ScanOutcome}
 use Rattle.reader.proofs.Pieces.{first-piece}
 use Rattle.reader.proofs.Cutting.{cut-none, line-cut, first-cut}
@@ -58,7 +58,7 @@ module _ (text : List ℕ) (t : Trace) (k at : ℕ) where
       where
         by-case : (x : Judged) → OneOf (1 ∷ 2 ∷ []) (tagOf judged.the-type x) → ScanOutcome text (afterLine x t k (pieces (drop (i + 1) text)) (λ d. linesFrom (extended t d) (k + 1) (pieces (drop (i + 1) text)))) (stopOf x k (i + 1)) table
         by-case (Fit d) o′ = absurd (miss (1 ∷ 2 ∷ []) 0 tt o′)
-        by-case (Fails step set) o′ = (i + 1, refl, refl, w, b)
+        by-case (Fails step set) o′ = record { next = i + 1; outcome = refl; follows = refl; holds = w; few = b }
         by-case (Unfit n) o′ = (refl, w .size)
 
 -- an outcome that is known
@@ -75,7 +75,7 @@ module _ (text : List ℕ) (s : Scan) (table : List ℕ) where
   out-same z r e o = rw (← e) o
 
 -- a first line with its LF, whatever follows
-first-lf : (l bs : List ℕ) → scanPieces (l ∷ pieces bs) ≡ firstLine (lineSaid l) (λ n. linesFrom (record { procs = n; events = [] }) 2 (pieces bs))
+first-lf : (l bs : List ℕ) → scanPieces (l ∷ pieces bs) ≡ firstLine (lineSaid l) (λ n. linesFrom (started n) 2 (pieces bs))
 unfolding scanPieces
 first-lf l bs = let p = first-piece bs in rw (p .2)
 
@@ -97,7 +97,7 @@ module _ (text : List ℕ) where
 
   module _ (i : ℕ) (e : lineEnd text 0 ≡ At i) (l : Line) (h : l ≡ countOnly (lineSaid (take i text))) where
     abbrev rest : ℕ → Scan
-    rest n = linesFrom (record { procs = n; events = [] }) 2 (pieces (drop (i + 1) text))
+    rest n = linesFrom (started n) 2 (pieces (drop (i + 1) text))
 
     scan-line : scan text ≡ firstLine l rest
     unfolding scan

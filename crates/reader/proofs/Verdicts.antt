@@ -35,7 +35,7 @@ module _ (text : List ℕ) (r : Scanned) (table : List ℕ) (o : ScanOutcome tex
       go : (s : Scan) → scan text ≡ s → ScanOutcome text s r table → (scan text ≡ Scan.refused n k) × (length table ≡ areaWords)
       go (Scan.refused m j) q p = let a : m ≡ n = cc in let b : j ≡ k = cc in (q ∙ rw (a, b), p .1)
       go (Scan.ended t j) q p = apart r (Refused n k) (Ended j) e (p .0) (λ f. cc)
-      go (Scan.stopped t step set j rest) q p = apart r (Refused n k) (Stopped step set j (p .0)) e (p .1) (λ f. cc)
+      go (Scan.stopped t step set j rest) q p = apart r (Refused n k) (Stopped step set j (p .next)) e (p .outcome) (λ f. cc)
 
   told-ended : (k : ℕ) → r ≡ Ended k → (t : Trace) × (scan text ≡ Scan.ended t k) × Holds table t
   unfolding ScanOutcome
@@ -44,7 +44,7 @@ module _ (text : List ℕ) (r : Scanned) (table : List ℕ) (o : ScanOutcome tex
       go : (s : Scan) → scan text ≡ s → ScanOutcome text s r table → (t : Trace) × (scan text ≡ Scan.ended t k) × Holds table t
       go (Scan.refused m j) q p = apart r (Ended k) (Refused m j) e (p .0) (λ f. cc)
       go (Scan.ended t j) q p = let a : j ≡ k = cc in (t, q ∙ rw a, p .1)
-      go (Scan.stopped t step set j rest) q p = apart r (Ended k) (Stopped step set j (p .0)) e (p .1) (λ f. cc)
+      go (Scan.stopped t step set j rest) q p = apart r (Ended k) (Stopped step set j (p .next)) e (p .outcome) (λ f. cc)
 
   pub told-stopped : (a b k at : ℕ) → r ≡ Stopped a b k at → (t : Trace) × (scan text ≡ Scan.stopped t a b k (pieces (drop at text))) × Holds table t × (k ≤ 2050)
   unfolding ScanOutcome
@@ -54,11 +54,11 @@ module _ (text : List ℕ) (r : Scanned) (table : List ℕ) (o : ScanOutcome tex
       go (Scan.refused m j) q p = apart r (Stopped a b k at) (Refused m j) e (p .0) (λ f. cc)
       go (Scan.ended t j) q p = apart r (Stopped a b k at) (Ended j) e (p .0) (λ f. cc)
       go (Scan.stopped t step set j rest) q p =
-          let w : step ≡ a = cc (p .1) in
-          let x : set ≡ b = cc (p .1) in
-          let y : j ≡ k = cc (p .1) in
-          let z : p .0 ≡ at = cc (p .1) in
-          (t, q ∙ rw (w, x, y, p .2, z), p .3, omega (arith, p .4))
+          let w : step ≡ a = cc (p .outcome) in
+          let x : set ≡ b = cc (p .outcome) in
+          let y : j ≡ k = cc (p .outcome) in
+          let z : p .next ≡ at = cc (p .outcome) in
+          (t, q ∙ rw (w, x, y, p .follows, z), p .holds, omega (arith, p .few))
 
 -- ---- The words that a verdict leaves
 

@@ -11,7 +11,7 @@ use borrow.Author.Tests.{leb-true, le-leb, lt-ltb, le-ltb}
 use Rattle.words.proofs.Cases.{by-lt, and-left, and-right, and-both}
 use Rattle.text.specs.Number.{decimal}
 use Rattle.trace.specs.declared.Event.{Event}
-use Rattle.trace.specs.Trace.{Trace}
+use Rattle.trace.specs.Trace.{Trace, started}
 use Rattle.trace.specs.Fit.{wellFormed}
 use Rattle.lines.specs.declared.Line.{Line}
 use Rattle.lines.specs.Line.{kProcs, lineSaid, most, mostSet}
@@ -33,18 +33,14 @@ Taken text (Scan.ended t k) = (wellFormed t ≡ true) × (text ≡ render t)
 Taken text (Scan.stopped t step set k rest) =
     (wellFormed t ≡ true) × (step ≤ most) × (set ≤ mostSet) × (text ≡ render t ++ (renderFailure step set ++ joined rest))
 
--- a run of n processes before its first event
-abbrev quiet : ℕ → Trace
-quiet n = record { procs = n; events = [] }
-
-grown-fit : (n : ℕ) (es : List Event) (u : Trace) → 2 ≤ n → n ≤ 64 → Grown (quiet n) es u → wellFormed u ≡ true
+grown-fit : (n : ℕ) (es : List Event) (u : Trace) → 2 ≤ n → n ≤ 64 → Grown (started n) es u → wellFormed u ≡ true
 unfolding wellFormed
 grown-fit n es u low high g =
     rw (g .0) (and-both _ _ (le-leb 2 n low) (and-both _ _ (le-leb n 64 high) (and-both _ _ (le-leb (length es) 2048 (omega (arith, g .2))) (g .1))))
 
 -- the first line, and what was heard of the others
 heard-taken : (n : ℕ) (l m : List ℕ) (ms : List (List ℕ)) → l ≡ kProcs ++ decimal n → 2 ≤ n → n ≤ 64
-    → (s : Scan) → Heard (quiet n) (m ∷ ms) s → Taken (joined (l ∷ (m ∷ ms))) s
+    → (s : Scan) → Heard (started n) (m ∷ ms) s → Taken (joined (l ∷ (m ∷ ms))) s
 unfolding joined render
 heard-taken n l m ms q low high (Scan.refused k j) h = h
 heard-taken n l m ms q low high (Scan.ended u k) h = (grown-fit n (h .0) u low high (h .2), rw (h .2 .0, q, h .1))
@@ -56,12 +52,12 @@ heard-taken n l m ms q low high (Scan.stopped u step set k rest) h = (
 )
 
 first-taken : (l m : List ℕ) (ms : List (List ℕ)) (x : Line) → Says l x
-    → Taken (joined (l ∷ (m ∷ ms))) (firstLine x (λ n. linesFrom (quiet n) 2 (m ∷ ms)))
+    → Taken (joined (l ∷ (m ∷ ms))) (firstLine x (λ n. linesFrom (started n) 2 (m ∷ ms)))
 first-taken l m ms (line.the-variants.Procs n) s =
     by-lt n 2 (λ low. rw (lt-ltb n 2 low) (λ z. omega arith)) (λ low.
     by-lt 64 n (λ high. rw (le-ltb n 2 low, lt-ltb 64 n high) (λ z. omega arith)) (λ high.
     rw (le-ltb n 2 low, le-ltb 64 n high)
-    (heard-taken n l m ms (s .0) low high (linesFrom (quiet n) 2 (m ∷ ms)) (lines-heard (quiet n) 2 (m ∷ ms) (omega arith)))))
+    (heard-taken n l m ms (s .0) low high (linesFrom (started n) 2 (m ∷ ms)) (lines-heard (started n) 2 (m ∷ ms) (omega arith)))))
 first-taken l m ms (line.the-variants.Send at to val) s = λ z. omega arith
 first-taken l m ms (line.the-variants.Recv at from) s = λ z. omega arith
 first-taken l m ms (line.the-variants.Save at) s = λ z. omega arith
@@ -88,7 +84,7 @@ pub verdict-taken : (text : List ℕ) (t : Trace) → verdict text ≡ Verdict.a
 unfolding verdict
 verdict-taken text t e = verdict-of text t (scan text) (scan-taken text) e
 
-scan-read : (n : ℕ) (text : List ℕ) → 2 ≤ n → n ≤ 64 → scanPieces ((kProcs ++ decimal n) ∷ pieces text) ≡ linesFrom (quiet n) 2 (pieces text)
+scan-read : (n : ℕ) (text : List ℕ) → 2 ≤ n → n ≤ 64 → scanPieces ((kProcs ++ decimal n) ∷ pieces text) ≡ linesFrom (started n) 2 (pieces text)
 unfolding scanPieces
 scan-read n text low high =
     let (m, ms, q) = first-piece text in
@@ -106,7 +102,7 @@ rendered-read t rest w =
     let high : p ≤ 64 = leb-true p 64 (and-left _ _ a) in
     let few : size ≤ 2048 = leb-true size 2048 (and-left _ _ b) in
     let after = renderEvents (t .events) ++ rest in
-    let (k, more) = events-read (quiet p) 2 (t .events) rest high (omega arith) (and-right (leb size 2048) _ b) in (
+    let (k, more) = events-read (started p) 2 (t .events) rest high (omega arith) (and-right (leb size 2048) _ b) in (
       k,
       ap (λ (x : List ℕ). scanPieces (pieces x)) (append-assoc (kProcs ++ decimal p) (10 ∷ renderEvents (t .events)) rest)
           ∙ ap scanPieces (line-piece (kProcs ++ decimal p) after (plain-procs p))

@@ -1,13 +1,13 @@
 -- The reader's verdict on a text: line by line from the top, the first faulty line decides (document 01, "Numbers given
 -- by whoever causes them": "for text line by line 1, 7, 2, 3, 4, 5, 6").
 use Prim.Native.Nat.{ℕ, _+_}
-use mathlib.Core.List.{List, [], _∷_, _++_}
+use mathlib.Core.List.{List, [], _∷_}
 use mathlib.Core.Bool.{cond}
 use lib.ListN.{length}
 use lib.Dec.{leb, ltb, eqb}
 use Rattle.trace.specs.declared.Event.{Event}
 use Rattle.trace.specs.declared.Event.the-variants.{Send, Recv, Save}
-use Rattle.trace.specs.Trace.{Trace}
+use Rattle.trace.specs.Trace.{Trace, started, extended}
 use Rattle.trace.specs.Fit.{eventFault}
 use Rattle.lines.specs.declared.Line.{Line}
 use Rattle.reader.specs.declared.Judged.{Judged}
@@ -25,10 +25,6 @@ grow b (l ∷ ls) = (b ∷ l) ∷ ls
 unfoldable pub pieces : List ℕ → List (List ℕ)
 pieces [] = [] ∷ []
 pieces (b ∷ bs) = cond (eqb b 10) ([] ∷ pieces bs) (grow b (pieces bs))
-
--- the trace with one event more
-abbrev pub extended : Trace → Event → Trace
-extended t e = record { procs = t .procs; events = t .events ++ e ∷ [] }
 
 -- what is wrong with an event as the next of a trace, or 0: a 2,049th is 7, before its processes are looked at; then 3,
 -- 4, 5, 6
@@ -82,7 +78,7 @@ firstLine line.the-variants.Malformed next = refused 1 1
 unfoldable pub scanPieces : List (List ℕ) → Scan
 scanPieces [] = refused 1 1
 scanPieces (l ∷ []) = refused 1 1
-scanPieces (l ∷ (m ∷ ms)) = firstLine (lineSaid l) (λ n. linesFrom (record { procs = n; events = [] }) 2 (m ∷ ms))
+scanPieces (l ∷ (m ∷ ms)) = firstLine (lineSaid l) (λ n. linesFrom (started n) 2 (m ∷ ms))
 
 unfoldable pub scan : List ℕ → Scan
 scan text = scanPieces (pieces text)

@@ -3,17 +3,15 @@
 // Render (the text of a trace) and Answer (answer and area). proofs/Claims states that a text is accepted exactly if it
 // is the text of a well-formed trace. No public function has a `requires`. Assumes nothing.
 ghost use mathlib.Core.Path.{_≡_};
-ghost use mathlib.Core.List.{List, []};
 ghost use Prim.Native.Nat.{_≤_, _<_};
 ghost use lib.ListN.{length, drop, replicate};
 ghost use Rattle.lines.specs.Line.{lineSaid};
 ghost use Rattle.reader.specs.Answer.{verdictAnswer, verdictWord, readAnswer, readArea};
 ghost use Rattle.reader.specs.Failure.{lastFailure, traceOf, failureAnswerOf, failureAnswer, failureArea};
 ghost use Rattle.words.specs.Area.{areaWords, wordsFrom};
-ghost use Rattle.trace.specs.Inner.Tally.{Tally};
-ghost use Rattle.trace.specs.declared.Event.{Event};
+ghost use Rattle.trace.specs.Trace.{Trace, started};
 ghost use Rattle.reader.specs.Verdict.{faultHere, judgeEvent, judge, linesFrom, pieces, scan, verdict};
-ghost use Rattle.reader.specs.Inner.Reading.{countOnly, Holds, appended, stopOf, ScanOutcome};
+ghost use Rattle.reader.specs.Inner.Reading.{countOnly, Tallied, Opened, appended, stopOf, ScanOutcome};
 use lines::Line;
 use text::LineEnd;
 use trace::Event;
@@ -59,10 +57,10 @@ fn first_line(line: &[u8]) -> Line
     Line::Malformed
 }
 
-// What is wrong with an event after n others.
+// What is wrong with an event after n others, which are counted.
 fn fault(counts: &[u16], procs: u64, n: usize, e: Event) -> u32
     requires { ⌜ (procs ≤ 64) × (length (now counts) ≡ 4160) ⌝ }
-    ensures { λ r. ⌜ ((es : List Event) → Tally (now (counts .entry)) es → n ≡ length es → r ≡ faultHere (record { procs = procs; events = es }) e) ⌝ }
+    ensures { λ r. ⌜ ((t : Trace) → Tallied (now (counts .entry)) procs n t → r ≡ faultHere t e) ⌝ }
 {
     if n >= 2048 {
         return 7;
@@ -72,7 +70,7 @@ fn fault(counts: &[u16], procs: u64, n: usize, e: Event) -> u32
 
 fn judge_event(counts: &[u16], procs: u64, n: usize, e: Event) -> Judged
     requires { ⌜ (procs ≤ 64) × (length (now counts) ≡ 4160) ⌝ }
-    ensures { λ r. ⌜ ((es : List Event) → Tally (now (counts .entry)) es → n ≡ length es → r ≡ judgeEvent (record { procs = procs; events = es }) e) ⌝ }
+    ensures { λ r. ⌜ ((t : Trace) → Tallied (now (counts .entry)) procs n t → r ≡ judgeEvent t e) ⌝ }
 {
     let f = fault(counts, procs, n, e);
     if f == 0 {
@@ -85,7 +83,7 @@ fn judge_event(counts: &[u16], procs: u64, n: usize, e: Event) -> Judged
 // A line after the first, where n events stand before it.
 fn judge_line(counts: &[u16], procs: u64, n: usize, line: Line) -> Judged
     requires { ⌜ (procs ≤ 64) × (length (now counts) ≡ 4160) ⌝ }
-    ensures { λ r. ⌜ ((es : List Event) → Tally (now (counts .entry)) es → n ≡ length es → r ≡ judge (record { procs = procs; events = es }) line) ⌝ }
+    ensures { λ r. ⌜ ((t : Trace) → Tallied (now (counts .entry)) procs n t → r ≡ judge t line) ⌝ }
 {
     match line {
         Line::Procs(_) => Judged::Unfit(1),
@@ -134,8 +132,8 @@ fn read_events(
     table: &mut [u32],
     counts: &mut [u16],
 ) -> Scanned
-    requires { ⌜ (procs ≤ 64) × (from ≤ length (now text)) × Holds (now table) (record { procs = procs; events = [] }) × Tally (now counts) [] ⌝ }
-    ensures { λ r. ⌜ ScanOutcome (now (text .entry)) (linesFrom (record { procs = procs; events = [] }) 2 (pieces (drop from (now (text .entry))))) r (now (table .exit)) ⌝ }
+    requires { ⌜ Opened (now text) from procs (now table) (now counts) ⌝ }
+    ensures { λ r. ⌜ ScanOutcome (now (text .entry)) (linesFrom (started procs) 2 (pieces (drop from (now (text .entry))))) r (now (table .exit)) ⌝ }
 {
     let mut at = from;
     let mut n: usize = 0;

@@ -3,13 +3,13 @@ use Prim.Native.Nat.{ℕ}
 use mathlib.Core.Path.{_≡_, refl, sym, ap, _∙_}
 use mathlib.Core.List.{List, _++_}
 use lib.ListN.{length, drop}
+use borrow.Author.Tests.{lt-ltb, le-ltb}
 use Rattle.words.specs.Area.{areaWords}
 use Rattle.words.proofs.Cases.{by-lt}
 use Rattle.table.specs.Held.{held}
 use Rattle.theory.specs.Line.{Run}
 use Rattle.theory.specs.Order.{run, lowestOrder}
 use Rattle.theory.specs.Answers.{exactSteps}
-use Rattle.protocol.proofs.Passes.{held-long}
 use Rattle.recovery_line.specs.declared.Line.{Line}
 use Rattle.recovery.specs.declared.Recovered.{Recovered}
 use Rattle.preparing.specs.Faults.{runOf, failureFaultOf}
@@ -19,8 +19,7 @@ use Rattle.preparing.specs.Inner.Prepared.{failureFaultIn, Tabulated}
 use Rattle.recovery.specs.Inner.Recovering.{Recovering, recoverRefusal}
 use Rattle.recovery.specs.Recover.{Succeeds}
 use Rattle.restart.specs.Restart.{restartAnswer}
-use Rattle.preparing.proofs.Filling.{step-within, short-area, by-failure, short}
-use Rattle.preparing.proofs.Preparing.{failure-first}
+use Rattle.preparing.proofs.Preparing.{step-within, failure-first}
 use Rattle.recovery.proofs.Replaying.{refuses, steps-counted, completed}
 use Rattle.messages.proofs.Listing.{refuses-messages, lists}
 use Rattle.restart.proofs.Restarting.{Ready, refuses-restart, answers-restart}
@@ -37,10 +36,8 @@ module _ (a : List ℕ) (step set : ℕ) where
 
   -- a table is too short as a table exactly if it is as a run area
   own-room : failureFaultOf a step set ≡ failureFaultIn a (length a) step set
-  own-room =
-      by-lt (length a) 16384
-      (λ h. sym (short a step set h) ∙ short-area a (length a) step set h)
-      (λ h. by-failure a (length a) step set h (failureFaultOf a step set) refl)
+  unfolding failureFaultOf
+  own-room = by-lt (length a) 16384 (λ h. rw (lt-ltb (length a) 16384 h)) (λ h. rw (le-ltb (length a) 16384 h))
 
   -- a refusal changes nothing
   pub refuses-recovery : (n : ℕ) (r : Recovered) → n ≡ failureFaultOf a step set → (n ≡ 0 → ⊥) → r ≡ recoverRefusal n → Answered r a
@@ -60,13 +57,13 @@ module _ (a : List ℕ) (step set : ℕ) where
   unfolding replayAnswer
   recovers n room full r w f z F D =
       let l : Line = r .restarted .line in
-      let G : Ready a step set (r .restarted) = record { holds = F .holds; fit = F .fit; answer = D .restarted; means = D .restarts } in
-      let ok = not-refused a step set (r .restarted) G (length a) (held-long a (F .holds)) in
+      let G : Ready a step set (r .restarted) = record { holds = F .opened .holds; fit = F .fit; answer = D .restarted; means = D .restarts } in
+      let ok = not-refused a step set (r .restarted) G (length a) (F .opened .long) in
       let m = lists a a step set l 0 (r .counted) w (sym ok) refl (D .counted) (D .words) (D .few) in
       let R : Run = runOf a step l in
       let cl = step-within a room step set full F in
-      let c = completed a a step set l (lowestOrder R) (F .holds) cl (r .replayed) (D .replayed) in
-      let (e, b) = steps-counted a a step set l (lowestOrder R) (F .holds) cl (run R (lowestOrder R)) refl in
+      let c = completed a a step set l (lowestOrder R) (F .opened .holds) cl (r .replayed) (D .replayed) in
+      let (e, b) = steps-counted a a step set l (lowestOrder R) (F .opened .holds) cl (run R (lowestOrder R)) refl in
       let exact : r .replayed .steps ≡ exactSteps R = (rw (← (D .replayed)) at e) (c ok .0) (c ok .1) (D .restarts .greatest .loss-free) in (
         answers-restart a step set n (r .restarted) f z (D .restarted) (D .restarts) .0,
         (D .replayed ∙ rw ok, (m .0, (m .1 .0, λ _. record { restarts = D .restarts; taken = ok; completed = c; exact = exact; at-most = rw (D .replayed) b; few = D .few }))),

@@ -8,13 +8,16 @@ ghost use Rattle.words.specs.Area.{areaWords};
 ghost use Rattle.trace.specs.Trace.{Trace};
 ghost use Rattle.theory.specs.Events.{size};
 ghost use Rattle.theory.specs.Order.{lowestOrder};
-ghost use Rattle.columns.specs.Inner.Columns.{Tabled};
+ghost use Rattle.theory.specs.Epochs.{ruleOf};
+ghost use Rattle.columns.specs.Inner.Given.{Marked};
 ghost use Rattle.preparing.specs.Faults.{runOf};
 ghost use Rattle.recovery.specs.Answers.{refusal, replayAnswer, replayArea, Equal, CarriesOut, StepsExact, StepsAtMost, Completed};
 ghost use Rattle.recovery.specs.Inner.Recovering.{Recovering, recoverRefusal};
 ghost use Rattle.messages.specs.Messages.{messagesAnswer, messagesArea};
 ghost use Rattle.recovery.specs.Recover.{Succeeds};
 ghost use Rattle.restart.specs.Restart.{restartAnswer};
+use columns::FULL_WORDS;
+use columns::GATE_WORDS;
 use messages::Counted;
 use orders::Replayed;
 use recovery_line::Line;
@@ -49,8 +52,8 @@ pub fn replay(
     ensures at_most { λ r. ⌜ StepsAtMost (now (table .entry)) step line r ⌝ }
     ensures carried { λ r. ⌜ CarriesOut (now (table .entry)) step line (now (order .entry)) r ⌝ }
 {
-    let mut full = [0u32; AREA_WORDS];
-    let mut gates = [0u32; gates::GATE_WORDS];
+    let mut full = [0u32; FULL_WORDS];
+    let mut gates = [0u32; GATE_WORDS];
     let fault = preparing::prepare(table, area.len(), step, set, line, &mut full, &mut gates);
     if fault != 0 {
         return refused(fault);
@@ -68,8 +71,8 @@ pub fn lowest(table: &[u32], step: u64, set: u64, line: Line, area: &mut [u32]) 
     ensures carried { λ r. ⌜ CarriesOut (now (table .entry)) step line (lowestOrder (runOf (now (table .entry)) step line)) r ⌝ }
     ensures completed { λ r. ⌜ Completed (now (table .entry)) (length (now (area .entry))) step set line r ⌝ }
 {
-    let mut full = [0u32; AREA_WORDS];
-    let mut gates = [0u32; gates::GATE_WORDS];
+    let mut full = [0u32; FULL_WORDS];
+    let mut gates = [0u32; GATE_WORDS];
     let fault = preparing::prepare(table, area.len(), step, set, line, &mut full, &mut gates);
     if fault != 0 {
         return refused(fault);
@@ -100,12 +103,12 @@ const RECORD_WORDS: usize = 4098;
 // The answers for a failure that is not refused, from the full table. The list of the messages takes the place of the
 // replay's record.
 fn recover_from(full: &[u32], cut: usize, set: u64, area: &mut [u32]) -> Recovered
-    requires { ⌜ (length (now area) ≡ areaWords) × ((t : Trace) × Tabled t (now full) × (cut ≤ size t)) ⌝ }
-    ensures { λ r. ⌜ ((t : Trace) → Tabled t (now (full .entry)) → cut ≤ size t → Recovering t cut set r (now (area .exit))) ⌝ }
+    requires { ⌜ (length (now area) ≡ areaWords) × ((t : Trace) × Marked t (ruleOf t) (now full) × (cut ≤ size t)) ⌝ }
+    ensures { λ r. ⌜ ((t : Trace) → Marked t (ruleOf t) (now (full .entry)) → cut ≤ size t → Recovering t cut set r (now (area .exit))) ⌝ }
 {
     let restarted = restart::restart_from(full, cut, set);
-    let mut gates = [0u32; gates::GATE_WORDS];
-    gates::gates(full, restarted.line, cut, &mut gates);
+    let mut gates = [0u32; GATE_WORDS];
+    preparing::gates_of(full, restarted.line, cut, &mut gates);
     let replayed = search::lowest(full, &gates, area, cut);
     words::zero(&mut area[..RECORD_WORDS]);
     let counted = messages::list_from(full, &gates, cut, area);
@@ -125,8 +128,8 @@ pub fn recover(table: &mut [u32], step: u64, set: u64) -> Recovered
     ensures words { λ r. ⌜ now (table .exit) ≡ messagesArea (now (table .entry)) (now (table .entry)) step set (r .restarted .line) ⌝ }
     ensures means { λ r. ⌜ (r .restarted .number ≡ 0 → Succeeds (now (table .entry)) step set r) ⌝ }
 {
-    let mut full = [0u32; AREA_WORDS];
-    let fault = preparing::fill_table(table, AREA_WORDS, step, set, &mut full);
+    let mut full = [0u32; FULL_WORDS];
+    let fault = preparing::open_failure(table, AREA_WORDS, step, set, &mut full);
     if fault != 0 {
         return not_recovered(fault);
     }

@@ -1,4 +1,3 @@
 pub mod Table
-pub mod Loops
 pub mod Lines
 pub mod Sets

@@ -1,4 +1,4 @@
--- What the functions of this crate are given, and what they give: the full table of a trace, and a line as a struct.
+-- A recovery line as a struct: the numbers that it gives to processes, and who goes back.
 use Prim.Native.Nat.{ℕ, _+_, _*_}
 use mathlib.Core.Bool.{not, cond}
 use mathlib.Core.List.{List, [], _∷_}

@@ -1,17 +1,13 @@
 // A recovery line of a trace (document 01 calls it a restart line): the epoch that each process restarts in, or that it
-// stays; and the set of those that go back. specs/Given says how a line stands in words, and when a table is the full
-// one of a trace (`Tabled`); the crates above, lowering, greatest, gates and faults, ask for that. Assumes nothing.
+// stays; and the set of those that go back. specs/Given says how a line stands in words. Assumes nothing.
 ghost use mathlib.Core.Path.{_≡_};
-ghost use mathlib.Core.Bool.{_&&_, not, cond};
+ghost use mathlib.Core.Bool.{_&&_, not};
 ghost use lib.Count.{ones};
 ghost use lib.Dec.{ltb};
-ghost use Prim.Native.Nat.{ℕ, _/_, _%_, _≤_, _<_};
-ghost use lib.ListN.{length, getD, set};
-ghost use Rattle.words.specs.Area.{areaWords};
+ghost use Prim.Native.Nat.{ℕ, _≤_};
+ghost use lib.ListN.{length, set};
 ghost use Rattle.theory.specs.Line.{inSet, staysIn};
 ghost use Rattle.recovery_line.specs.Given.{lineIn, numbersOf, backOf, backOnes};
-ghost use Rattle.columns.specs.Inner.Full.{matchW};
-use columns::MATCH_BASE;
 
 // A recovery line: for each process the epoch that it restarts in, or STAYS, and how many processes there are.
 pub struct Line {
@@ -21,34 +17,6 @@ pub struct Line {
 
 // A process that stays as it was at the cut.
 pub const STAYS: u32 = 32;
-
-// The event that event e is matched with.
-pub fn matched(full: &[u32], e: usize) -> usize
-    requires { ⌜ (length (now full) ≡ areaWords) × (e ≤ 2048) × (matchW (now full) e ≤ 2048) ⌝ }
-    ensures { λ r. ⌜ (r ≡ matchW (now (full .entry)) e) × (r ≤ 2048) ⌝ }
-{
-    full[MATCH_BASE + e] as usize
-}
-
-// How many processes the trace has.
-pub fn processes(full: &[u32]) -> usize
-    requires { ⌜ (length (now full) ≡ areaWords) × (getD (now full) 0 0 ≤ 64) ⌝ }
-    ensures { λ r. ⌜ (r ≡ getD (now (full .entry)) 0 0) × (r ≤ 64) ⌝ }
-{
-    full[0] as usize
-}
-
-pub fn one_if(yes: bool) -> u32
-    ensures { λ r. ⌜ r ≡ cond yes 1 0 ⌝ }
-{
-    if yes { 1 } else { 0 }
-}
-
-pub fn or_zero(yes: bool, v: u32) -> u32
-    ensures { λ r. ⌜ r ≡ cond yes v 0 ⌝ }
-{
-    if yes { v } else { 0 }
-}
 
 // The set of the processes not at 32, from the highest down.
 fn set_of(numbers: &[u32]) -> u64

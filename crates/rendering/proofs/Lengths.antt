@@ -1,5 +1,5 @@
 -- How long a text can be: 131,072 bytes hold every one. A process has two digits, and a value 20 at most.
-use Prim.Native.Nat.{ℕ, zero, suc, _+_, _*_, _/_, _%_, _<_, _≤_}
+use Prim.Native.Nat.{ℕ, zero, suc, _+_, _*_, _<_, _≤_}
 use mathlib.Core.Path.{_≡_}
 use mathlib.Core.Bool.{true}
 use mathlib.Core.List.{List, _∷_, _++_}
@@ -9,7 +9,7 @@ use lib.ListN.{length, length-append, getD}
 use Rattle.words.proofs.Cases.{by-bool}
 use Rattle.text.specs.Number.{decimal}
 use Rattle.trace.specs.declared.Event.the-variants.{Send, Recv, Save}
-use Rattle.trace.specs.Table.{eventBase, valueBase}
+use Rattle.trace.specs.Table.{topIn, processIn, peerIn, eventBase, valueBase}
 use Rattle.lines.specs.Line.{kProcs, kSend, kTo, kVal, kRecv, kFrom, kSave}
 use Rattle.lines.specs.Render.{renderEvent}
 use Rattle.reader.specs.Render.{renderEvents, render}
@@ -42,11 +42,11 @@ save-few a ha = omega (arith, length-append kSave (decimal a), small-few a ha)
 event-few : (w v : ℕ) → length (renderEvent (eventOf w v)) ≤ 44
 unfolding eventOf
 event-few w v =
-    by-bool (eqb (w / 4096) 1)
-    (λ e. rw e (send-few (w % 64) (w / 64 % 64) v (omega arith) (omega arith)))
-    (λ e. by-bool (eqb (w / 4096) 2)
-    (λ f. rw (e, f) (recv-few (w % 64) (w / 64 % 64) (omega arith) (omega arith)))
-    (λ f. rw (e, f) (save-few (w % 64) (omega arith))))
+    by-bool (eqb (topIn w) 1)
+    (λ e. rw e (send-few (processIn w) (peerIn w) v (omega arith) (omega arith)))
+    (λ e. by-bool (eqb (topIn w) 2)
+    (λ f. rw (e, f) (recv-few (processIn w) (peerIn w) (omega arith) (omega arith)))
+    (λ f. rw (e, f) (save-few (processIn w) (omega arith))))
 
 events-few : (a : List ℕ) (i n : ℕ) → length (renderEvents (heldEvents a i n)) ≤ 45 * n
 unfolding renderEvents heldEvents

@@ -58,15 +58,16 @@ messages-few key (m ∷ ms) h =
     let l = messageLine key (m .from) (m .to) (m .number) (m .phase) in
     omega (arith, length-append l (messageLines key ms), message-few key (m .from) (m .to) (m .number) (m .phase) h, messages-few key ms h)
 
-pub found-few : (r : Recovery) → length (r .line) ≤ 64 → length (r .orphans) + length (r .kept) ≤ 2048 → length (printedOf (given r)) ≤ reportBytes
+pub found-few : (r : Recovery) → r .restarted .line .count ≤ 64 → length (r .orphans) + length (r .kept) ≤ 2048 → length (printedOf (given r)) ≤ reportBytes
 unfolding printedOf bytesOf
 found-few r p m =
-    let A = gather (processLineOf r) (length (r .line)) in
+    let n = r .restarted .line .count in
+    let A = gather (processLineOf (r .restarted)) n in
     let B = messageLines keyOrphan (r .orphans) in
     let C = messageLines keyKept (r .kept) in
-    let D = totalLine (r .back) (length (r .orphans)) (length (r .kept)) (r .steps) in
-    let a = lines-few (processLineOf r) (length (r .line)) (λ z. process-few z _ _ _) in
+    let D = totalLine (r .restarted .back) (length (r .orphans)) (length (r .kept)) (r .steps) in
+    let a = lines-few (processLineOf (r .restarted)) n (λ z. process-few z _ _ _) in
     let b = messages-few keyOrphan (r .orphans) (omega arith) in
     let c = messages-few keyKept (r .kept) (omega arith) in
-    let d = total-few (r .back) (length (r .orphans)) (length (r .kept)) (r .steps) in
+    let d = total-few (r .restarted .back) (length (r .orphans)) (length (r .kept)) (r .steps) in
     omega (arith, length-append (A ++ B ++ C) D, length-append (A ++ B) C, length-append A B)

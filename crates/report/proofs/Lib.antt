@@ -3,5 +3,4 @@ pub mod Found
 pub mod Lengths
 pub mod Lines
 pub mod Messages
-pub mod Steps
 pub mod Ways

@@ -12,7 +12,8 @@ use Rattle.writer.proofs.Buffers.{none, then}
 use Rattle.printing.specs.Bytes.{bytesOf}
 use Rattle.printing.specs.Lines.{totalLine, keyOrphan, keyKept}
 use Rattle.printing.specs.Inner.Rows.{wordsRow}
-use Rattle.report.specs.Inner.Rows.{processRow, messageRow, recoveryRows}
+use Rattle.report.specs.Report.{processLineOf}
+use Rattle.report.specs.Inner.Rows.{messageRow, recoveryRows}
 
 -- ---- Lines f 0, f 1, ..
 
@@ -37,7 +38,7 @@ message-at k run before i =
 -- ---- The whole report of a recovery
 
 pub recovery-put : (r : Recovered) (run out o₁ o₂ o₃ o₄ : List ℕ) (p₁ p₂ p₃ p₄ : ℕ)
-    → Puts (gather (processRow (r .restarted)) (r .restarted .line .count)) out 0 o₁ p₁
+    → Puts (gather (processLineOf (r .restarted)) (r .restarted .line .count)) out 0 o₁ p₁
     → Puts (gather (messageRow (bytesOf keyOrphan) run 0) (r .counted .orphans)) o₁ p₁ o₂ p₂
     → Puts (gather (messageRow (bytesOf keyKept) run (r .counted .orphans)) (r .counted .kept)) o₂ p₂ o₃ p₃
     → Puts (totalLine (r .restarted .back) (r .counted .orphans) (r .counted .kept) (r .replayed .steps)) o₃ p₃ o₄ p₄

@@ -1,5 +1,5 @@
 -- Each way out of `report`: what is written is what the text's definition prints.
-use Prim.Native.Nat.{ℕ, _<_, _≤_}
+use Prim.Native.Nat.{ℕ, _+_, _<_, _≤_}
 use mathlib.Core.Path.{_≡_, refl, sym, ap, subst, _∙_}
 use mathlib.Core.Bool.{true}
 use mathlib.Core.List.{List}
@@ -21,26 +21,61 @@ use Rattle.restart.specs.declared.Restarted.{Restarted}
 use Rattle.preparing.specs.Faults.{failureFaultOf}
 use Rattle.restart.specs.Restart.{restartOf, restartRefusal, restartAnswer, Restarts}
 use Rattle.restart.proofs.Restarting.{Ready}
+use Rattle.messages.specs.Messages.{messagesAnswer, messagesArea}
+use Rattle.recovery.specs.declared.Recovered.{Recovered}
+use Rattle.recovery.specs.Recover.{Succeeds}
 use Rattle.writer.specs.Inner.Puts.{Puts}
 use Rattle.writer.specs.Buffer.{room, written}
 use Rattle.writer.proofs.Buffers.{same-bytes, whole}
-use Rattle.report.specs.Report.{refused, given, failureOf, recovery, printedOf, printed, StepsPrinted, reportBytes}
-use Rattle.report.specs.Inner.Rows.{recoveryFor}
+use Rattle.report.specs.Report.{refused, given, Failure, failureOf, recoveryOf, recovery, printedOf, printed, EndsExactly, StepsPrinted, reportBytes}
+use Rattle.report.specs.Inner.Rows.{recoveryRows}
 use Rattle.printing.specs.Lines.{refusalLine}
-use Rattle.report.proofs.Answers.{unless-some}
-use Rattle.report.proofs.Steps.{steps-printed}
+use Rattle.report.proofs.Answers.{not-given, unless-some}
+use Rattle.report.proofs.Lengths.{refusal-few}
+use Rattle.report.proofs.Found.{puttable, rows-are, rows-few, ends-exactly}
+
+-- what is promised of bytes that answer a text
+pub record Reports (bytes text : List ℕ) : Type 0 where
+  pub are : bytes ≡ printed text
+  pub few : length bytes ≤ reportBytes
+  pub exact : StepsPrinted text
 
 -- from what was written to the contract
-pub answered : (x text out after : List ℕ) (n : ℕ) → x ≡ printed text → length x ≤ reportBytes → Puts x out 0 after n
+pub answered : (x text out after : List ℕ) (n : ℕ) → Reports x text → Puts x out 0 after n
     → (n ≡ length (room (printed text) out))
     × ((after ≡ written (printed text) out) × (StepsPrinted text × (length (printed text) ≤ reportBytes)))
-answered x text out after n e l h =
-    let w = whole (printed text) out after n (same-bytes x (printed text) out after 0 n e h) in (w .1, (w .0, (steps-printed text, rw e at l)))
+answered x text out after n r h =
+    let w = whole (printed text) out after n (same-bytes x (printed text) out after 0 n (r .are) h) in
+    (w .1, (w .0, (r .exact, rw (r .are) at (r .few))))
 
-pub too-long : (text : List ℕ) → 65536 < length text → refusalLine 1 0 ≡ printed text
+pub too-long : (text : List ℕ) → 65536 < length text → Reports (refusalLine 1 0) text
 unfolding printed printedOf
-too-long text h = rw (lt-ltb 65536 (length text) h)
+too-long text h =
+    record { are = rw (lt-ltb 65536 (length text) h); few = refusal-few 1 0; exact = λ f short. absurd (let z : ⊥ = omega arith in z) }
 
+-- what follows from the failure that a text tells: a refusal, or what is written of its recovery
+module _ (text : List ℕ) (short : length text ≤ 65536) where
+  refuses : (n k : ℕ) → failureOf text ≡ refused n k → Reports (refusalLine n k) text
+  unfolding printed printedOf recovery
+  refuses n k e =
+      record {
+        are = rw (le-ltb 65536 (length text) short, e);
+        few = refusal-few n k;
+        exact = λ f _ h. absurd (not-given n k f (sym e ∙ h));
+      }
+
+  gives : (f : Failure) (bytes : List ℕ) → failureOf text ≡ given f → bytes ≡ printedOf (given (recoveryOf f)) → length bytes ≤ reportBytes
+      → EndsExactly f (printedOf (given (recoveryOf f))) → Reports bytes text
+  unfolding printed recovery
+  gives f bytes e are few ends =
+      let q : printedOf (given (recoveryOf f)) ≡ printed text = rw (le-ltb 65536 (length text) short, e) in
+      record {
+        are = are ∙ q;
+        few = few;
+        exact = λ g _ h. let same : f ≡ g = let p = sym e ∙ h in cc in subst (λ (x : Failure). EndsExactly x (printed text)) same (rw q at ends);
+      }
+
+-- from what `read_failure` answered, and left in the area that `recover` is given
 module _ (text : List ℕ) (short : length text ≤ 65536) (before : List ℕ) (room-is : length before ≡ 16384)
     (r : FailureAnswer) (hr : r ≡ failureAnswer text before) where
   read-is : (x : Failing) → lastFailure text ≡ x → r ≡ failureAnswerOf x
@@ -48,13 +83,13 @@ module _ (text : List ℕ) (short : length text ≤ 65536) (before : List ℕ) (
   read-is x e = hr ∙ rw (le-ltb (length before) 16384 (omega arith), e)
 
   -- the text is refused
-  refused-of : (x : Failing) → lastFailure text ≡ x → (r .number ≡ 0 → ⊥) → refusalLine (r .number) (r .place) ≡ printed text
-  unfolding printed printedOf recovery failureOf
-  refused-of (Failing.refused n k) e h = rw (read-is (Failing.refused n k) e, le-ltb 65536 (length text) short, e)
+  refused-of : (x : Failing) → lastFailure text ≡ x → (r .number ≡ 0 → ⊥) → failureOf text ≡ refused (r .number) (r .place)
+  unfolding failureOf
+  refused-of (Failing.refused n k) e h = rw (read-is (Failing.refused n k) e, e)
   refused-of (Failing.failing t step set) e h = absurd (h (ap (λ (y : FailureAnswer). y .number) (read-is (Failing.failing t step set) e)))
 
-  pub text-refused : (r .number ≡ 0 → ⊥) → refusalLine (r .number) (r .place) ≡ printed text
-  text-refused = refused-of (lastFailure text) refl
+  pub text-refused : (r .number ≡ 0 → ⊥) → Reports (refusalLine (r .number) (r .place)) text
+  text-refused h = refuses text short (r .number) (r .place) (refused-of (lastFailure text) refl h)
 
   module _ (z : r .number ≡ 0) (a : List ℕ) (ha : a ≡ failureArea text before) where
     -- the text is a trace and a failure
@@ -88,16 +123,25 @@ module _ (text : List ℕ) (short : length text ≤ 65536) (before : List ℕ) (
           (λ e. let q : s ≡ restartRefusal F = hs ∙ rw (fault-is, ne-eqb F 0 e) in ap (λ (x : Restarted). x .number) q)
 
       -- the failure is refused
-      pub failure-refused : (s .number ≡ 0 → ⊥) → refusalLine (s .number) 0 ≡ printed text
-      unfolding printed printedOf recovery failureOf
-      failure-refused h =
-          let n : F ≡ 0 → ⊥ = λ e. h (number-is ∙ e) in
-          rw (number-is, le-ltb 65536 (length text) short, same, unless-some F _ n)
+      pub failure-refused : (s .number ≡ 0 → ⊥) → Reports (refusalLine (s .number) 0) text
+      unfolding failureOf
+      failure-refused h = refuses text short (s .number) 0 (rw (same, number-is, unless-some F _ (λ e. h (number-is ∙ e))))
 
-      pub ready : s .number ≡ 0 → Restarts (held a) (r .step) (r .set) s → Ready a (r .step) (r .set) s
+      ready : s .number ≡ 0 → Restarts (held a) (r .step) (r .set) s → Ready a (r .step) (r .set) s
       unfolding restartAnswer
       ready h m = record { holds = holds; fit = sym number-is ∙ h; answer = hs ∙ rw (fault-is, sym number-is ∙ h); means = m }
 
-      pub found-printed : s .number ≡ 0 → printedOf (given (recoveryFor (held a) (r .step) (r .set))) ≡ printed text
-      unfolding printed recovery failureOf
-      found-printed h = rw (le-ltb 65536 (length text) short, same, sym number-is ∙ h)
+    -- the recovery is written
+    pub recovered : (x : Recovered) (run : List ℕ) → x .restarted ≡ restartAnswer a (r .step) (r .set) → x .restarted .number ≡ 0
+        → x .counted ≡ messagesAnswer a a (r .step) (r .set) (x .restarted .line) → run ≡ messagesArea a a (r .step) (r .set) (x .restarted .line)
+        → Succeeds a (r .step) (r .set) x
+        → Reports (recoveryRows x run) text × ((x .restarted .line .count ≤ 64) × (x .counted .orphans + x .counted .kept ≤ 2048))
+    unfolding failureOf
+    recovered x run hs h hc hw S =
+        let G = ready (x .restarted) hs h (S .restarts) in
+        let f : Failure = record { trace = held a; step = r .step; failed = r .set } in
+        let e : failureOf text ≡ given f = rw (same, G .fit) in (
+          gives text short f (recoveryRows x run) e (rows-are a (r .step) (r .set) x G run hc hw S)
+              (rows-few a (r .step) (r .set) x G run hc hw S) (ends-exactly a (r .step) (r .set) x G run hc hw S),
+          puttable a (r .step) (r .set) x G run hc hw S,
+        )

@@ -2,19 +2,20 @@
 -- with all that is said of it, or a refusal's number and place.
 use mathlib.Core.Path.{_≡_}
 use mathlib.Core.List.{List, [], _∷_, _++_}
-use mathlib.Core.Bool.{not, cond}
+use mathlib.Core.Bool.{cond}
 use Prim.Native.Nat.{ℕ, zero, suc, _≤_}
 use Prim.Native.String.{String}
 use lib.ListN.{length, getD}
-use lib.Dec.{ltb, eqb}
+use lib.Dec.{ltb}
 use Rattle.trace.specs.Trace.{Trace}
 use Rattle.reader.specs.Failure.{Failing, lastFailure}
-use Rattle.theory.specs.Lists.{keep}
-use Rattle.theory.specs.Epochs.{ruleOf}
-use Rattle.theory.specs.Line.{Run, current, runAt, engineLine}
+use Rattle.theory.specs.Line.{Run, runAt}
 use Rattle.theory.specs.Order.{steps, mostSteps, lowestOrder}
-use Rattle.theory.specs.Answers.{lineOf, Listed, gather, orphans, keptOnes, exactSteps}
+use Rattle.theory.specs.Answers.{Listed, gather, orphans, keptOnes, exactSteps}
 use Rattle.theory.specs.Refusals.{failureFault}
+use Rattle.recovery_line.specs.Given.{lineIn}
+use Rattle.restart.specs.declared.Restarted.{Restarted}
+use Rattle.restart.specs.Restart.{engineLineOf, restartOf}
 use Rattle.text.specs.Number.{decimal}
 use Rattle.printing.specs.Bytes.{bytesOf}
 use Rattle.printing.specs.Lines.{processLine, messageLine, totalLine, refusalLine, keyOrphan, keyKept}
@@ -53,52 +54,39 @@ abbrev pub then : {A B : Type 0} → Answer A → (A → Answer B) → Answer B
 then (refused n k) f = refused n k
 then (given a) f = f a
 
--- ---- The engine's line
+-- ---- The engine's line: the restart, and the run from it
 
--- the recorded run with a failure and a line
-abbrev pub runWith : Failure → List ℕ → Run
-runWith f l = runAt (f .trace) (f .step) (lineOf l)
+-- the recorded run with a failure and the engine's line
+abbrev pub engineRun : Failure → Run
+engineRun f = runAt (f .trace) (f .step) (lineIn (engineLineOf (f .trace) (f .step) (f .failed)))
 
--- of each process its epoch at the cut, its number in the line and its phase at the restart, "or at the cut for 32"
+-- the restart: the line, of each process its epoch at the cut and its phase at the restart, "or at the cut for 32", the
+-- set of processes that go back, "and back is its size"; and of the run from it the messages and the steps
 pub record Recovery : Type 0 where
-  pub epochs : List ℕ
-  pub line : List ℕ
-  pub phases : List ℕ
+  pub restarted : Restarted
   pub orphans : List Listed
   pub kept : List Listed
-  pub back : ℕ
   pub steps : ℕ
 
--- f 0 .. f (n - 1)
-abbrev pub tabled : (ℕ → ℕ) → ℕ → List ℕ
-tabled f n = gather (λ z. f z ∷ []) n
-
-unfoldable pub lineListed : Failure → List ℕ
-lineListed f = tabled (engineLine (f .trace) (f .step) (f .failed)) (f .trace .procs)
-
--- "back is its size", that of the set of processes that go back; "Steps are those of the order that always picks the
--- lowest allowed choice."
-unfoldable pub recoveryBy : Failure → List ℕ → Recovery
-recoveryBy f l =
-    let R = runWith f l in
+-- "Steps are those of the order that always picks the lowest allowed choice."
+unfoldable pub recoveryOf : Failure → Recovery
+recoveryOf f =
+    let R = engineRun f in
     record {
-      epochs = tabled (current (f .trace) (ruleOf (f .trace)) (f .step)) (f .trace .procs);
-      line = l;
-      phases = tabled (λ z. R .phase z (R .restart z)) (f .trace .procs);
+      restarted = restartOf (f .trace) (f .step) (f .failed);
       orphans = orphans R;
       kept = keptOnes R;
-      back = length (keep (λ e. not (eqb e 32)) l);
       steps = steps (lowestOrder R);
     }
-
-abbrev pub recoveryOf : Failure → Recovery
-recoveryOf f = recoveryBy f (lineListed f)
 
 unfoldable pub recovery : List ℕ → Answer Recovery
 recovery text = then (failureOf text) (λ f. given (recoveryOf f))
 
-abbrev pub processLineOf : Recovery → ℕ → List ℕ
-processLineOf r z = processLine z (getD (r .epochs) z 0) (getD (r .line) z 0) (getD (r .phases) z 0)
+-- ---- What is printed
+
+-- the line of a process
+abbrev pub processLineOf : Restarted → ℕ → List ℕ
+processLineOf r z = processLine z (getD (r .epochs) z 0) (getD (r .line .epochs) z 0) (getD (r .phases) z 0)
 
 unfoldable pub messageLines : String → List Listed → List ℕ
 messageLines key [] = []
@@ -108,8 +96,10 @@ messageLines key (m ∷ ms) = messageLine key (m .from) (m .to) (m .number) (m .
 unfoldable pub printedOf : Answer Recovery → List ℕ
 printedOf (refused n k) = refusalLine n k
 printedOf (given r) =
-    gather (processLineOf r) (length (r .line)) ++ messageLines keyOrphan (r .orphans) ++ messageLines keyKept (r .kept)
-    ++ totalLine (r .back) (length (r .orphans)) (length (r .kept)) (r .steps)
+    gather (processLineOf (r .restarted)) (r .restarted .line .count)
+    ++ messageLines keyOrphan (r .orphans)
+    ++ messageLines keyKept (r .kept)
+    ++ totalLine (r .restarted .back) (length (r .orphans)) (length (r .kept)) (r .steps)
 
 -- "The program takes at most 65,536 bytes; more is 1 at place 0, before anything else."
 abbrev pub textMost : ℕ
@@ -122,7 +112,7 @@ printed text = printedOf (cond (ltb textMost (length text)) (refused 1 0) (recov
 -- `steps=` in the last line is exact; and at most twice the number of events
 abbrev pub EndsExactly : Failure → List ℕ → Type 0
 EndsExactly f bytes =
-    let n = exactSteps (runWith f (lineListed f)) in
+    let n = exactSteps (engineRun f) in
     ((front : List ℕ) × (bytes ≡ front ++ (bytesOf " steps=" ++ decimal n ++ 10 ∷ []))) × (n ≤ mostSteps (f .trace))
 
 abbrev pub StepsPrinted : List ℕ → Type 0

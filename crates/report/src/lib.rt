@@ -7,9 +7,12 @@ ghost use Rattle.words.specs.Area.{areaWords};
 ghost use Rattle.theory.specs.Answers.{gather};
 ghost use Rattle.writer.specs.Inner.Puts.{Puts};
 ghost use Rattle.writer.specs.Buffer.{room, written};
-ghost use Rattle.report.specs.Report.{printed, StepsPrinted, reportBytes};
-ghost use Rattle.report.specs.Inner.Rows.{processRow, messageRow, recoveryRows};
+ghost use Rattle.report.specs.Report.{processLineOf, printed, StepsPrinted, reportBytes};
+ghost use Rattle.report.specs.Inner.Rows.{messageRow, recoveryRows};
 ghost use Rattle.printing.specs.Inner.Rows.{messageKey};
+use listing::ROW_BASE;
+use listing::ROW_NUMBER_BASE;
+use listing::ROW_PHASE_BASE;
 use recovery::Recovered;
 use restart::Restarted;
 use words::AREA_WORDS;
@@ -26,7 +29,7 @@ pub const READ_BYTES: usize = TEXT_MOST + 1;
 // A line for each process of the recovery line.
 fn put_processes(out: &mut [u8], r: Restarted) -> usize
     requires { ⌜ r .line .count ≤ 64 ⌝ }
-    ensures { λ n. ⌜ Puts (gather (processRow r) (r .line .count)) (now (out .entry)) 0 (now (out .exit)) n ⌝ }
+    ensures { λ n. ⌜ Puts (gather (processLineOf r) (r .line .count)) (now (out .entry)) 0 (now (out .exit)) n ⌝ }
 {
     let epochs = r.epochs;
     let numbers = r.line.epochs;
@@ -40,13 +43,6 @@ fn put_processes(out: &mut [u8], r: Restarted) -> usize
     }
     next
 }
-
-// The words before row 1 of each plane of a list of messages (docs/LAYOUT.md).
-const ROW_BASE: usize = 16;
-
-const ROW_NUMBER_BASE: usize = 2065;
-
-const ROW_PHASE_BASE: usize = 4114;
 
 // A line for each of `count` messages, all kept or all orphans, of the list that `recovery::recover` left, after the
 // first `before` of them.

@@ -15,9 +15,9 @@ use Rattle.theory.specs.Epochs.{ruleOf}
 use Rattle.theory.specs.Line.{inSet, staysIn, current, Greatest, usableAt, engineLine}
 use Rattle.theory.specs.Refusals.{failureFault}
 use Rattle.theory.proofs.Claims.{floor-failed}
-use Rattle.theory.proofs.WellFormed.{valid}
 use Rattle.recovery_line.specs.declared.Line.{Line}
-use Rattle.columns.specs.Inner.Columns.{Tabled}
+use Rattle.columns.specs.Inner.Given.{Marked}
+use Rattle.columns.proofs.Full.{fit}
 use Rattle.recovery_line.specs.Given.{lineIn, lineTo, restartPhaseIn, numbersOf, backOf, backOnes}
 use Rattle.restart.specs.declared.Restarted.{Restarted}
 use Rattle.preparing.specs.Faults.{failureFaultOf}
@@ -25,13 +25,13 @@ use Rattle.restart.specs.Restart.{engineLineOf, ofEach, restartBy, resta
 
 -- ---- From the full table
 
-module _ (t : Trace) (full : List ℕ) (G : Tabled t full) (cut set : ℕ) (cl : cut ≤ size t) (l : Line)
+module _ (t : Trace) (full : List ℕ) (G : Marked t (ruleOf t) full) (cut set : ℕ) (cl : cut ≤ size t) (l : Line)
     (e : l ≡ lineTo t (engineLine t cut set)) where
   pub count-of : l .count ≡ t .procs
   count-of = ap (λ (x : Line). x .count) e
 
   pub count-few : l .count ≤ 64
-  count-few = omega (arith, count-of, valid t (G .formed) .few)
+  count-few = omega (arith, count-of, fit t full (G .tabled) .few)
 
   pub made : (s b : ℕ) (x p : List ℕ) → s ≡ backOf (numbersOf l) → b ≡ ones (backOf (numbersOf l)) → x ≡ ofEach t (current t (ruleOf t) cut)
       → p ≡ ofEach t (restartPhaseIn t cut (lineIn l))
@@ -46,7 +46,7 @@ module _ (t : Trace) (full : List ℕ) (G : Tabled t full) (cut set : ℕ) (cl :
   means s b x p g hs bits hb hn =
       record {
         greatest = g;
-        floor = λ y ly fy least z lz. floor-failed t (G .formed) cut cl (inSet set) y ly fy least (lineIn l) g z lz;
+        floor = λ y ly fy least z lz. floor-failed t (G .tabled .formed) cut cl (inSet set) y ly fy least (lineIn l) g z lz;
         goes = λ z. bits z ∙ ap (λ (n : ℕ). ltb z n && not (staysIn (lineIn l) z)) count-of;
         ones-are = hb ∙ ap ones (sym hs);
         numbers-are = hn;

@@ -7,8 +7,10 @@ ghost use Prim.Native.Nat.{_≤_};
 ghost use Rattle.trace.specs.Trace.{Trace};
 ghost use Rattle.table.specs.Held.{held};
 ghost use Rattle.theory.specs.Events.{size};
-ghost use Rattle.columns.specs.Inner.Columns.{Tabled};
+ghost use Rattle.theory.specs.Epochs.{ruleOf};
+ghost use Rattle.columns.specs.Inner.Given.{Marked};
 ghost use Rattle.restart.specs.Restart.{restartRefusal, restartOf, restartAnswer, Restarts};
+use columns::FULL_WORDS;
 use recovery_line::Line;
 use words::AREA_WORDS;
 
@@ -43,9 +45,9 @@ pub fn no_restart(number: u32) -> Restarted
 
 // The answer for a failure that is not refused, from the full table.
 pub fn restart_from(full: &[u32], cut: usize, set: u64) -> Restarted
-    requires { ⌜ ((t : Trace) × Tabled t (now full) × (cut ≤ size t)) ⌝ }
-    ensures answer { λ r. ⌜ ((t : Trace) → Tabled t (now (full .entry)) → cut ≤ size t → r ≡ restartOf t cut set) ⌝ }
-    ensures means { λ r. ⌜ ((t : Trace) → Tabled t (now (full .entry)) → cut ≤ size t → Restarts t cut set r) ⌝ }
+    requires { ⌜ ((t : Trace) × Marked t (ruleOf t) (now full) × (cut ≤ size t)) ⌝ }
+    ensures answer { λ r. ⌜ ((t : Trace) → Marked t (ruleOf t) (now (full .entry)) → cut ≤ size t → r ≡ restartOf t cut set) ⌝ }
+    ensures means { λ r. ⌜ ((t : Trace) → Marked t (ruleOf t) (now (full .entry)) → cut ≤ size t → Restarts t cut set r) ⌝ }
 {
     let mut epochs = [0u32; 64];
     let mut phases = [0u32; 64];
@@ -66,8 +68,8 @@ pub fn restart(table: &[u32], step: u64, set: u64) -> Restarted
     ensures answer { λ r. ⌜ r ≡ restartAnswer (now (table .entry)) step set ⌝ }
     ensures means { λ r. ⌜ (r .number ≡ 0 → Restarts (held (now (table .entry))) step set r) ⌝ }
 {
-    let mut full = [0u32; AREA_WORDS];
-    let fault = preparing::fill_table(table, AREA_WORDS, step, set, &mut full);
+    let mut full = [0u32; FULL_WORDS];
+    let fault = preparing::open_failure(table, AREA_WORDS, step, set, &mut full);
     if fault != 0 {
         return no_restart(fault);
     }

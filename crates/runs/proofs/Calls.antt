@@ -2,17 +2,15 @@
 -- `reader::read_failure` reads a text into a table area, and then `restart`, `messages`, `replay` and `lowest` of
 -- recovery are called on what it left there.
 use Prim.Native.Nat.{ℕ, zero, suc, _+_, _<_, _≤_}
-use mathlib.Core.Path.{_≡_, refl, sym, ap, subst, _∙_, fun-ext}
+use mathlib.Core.Path.{_≡_, refl, sym, ap, subst, _∙_}
 use mathlib.Core.Bool.{Bool, true, false}
 use mathlib.Core.List.{List, [], _++_, map, append-nil}
 use mathlib.Core.Option.{some}
 use native.Mathlib.Omega.{arith}
-use lib.ListN.{length, getD, take, drop, replicate, length-replicate, getD-replicate, List·getD-eq-default}
-use lib.Seq.{ext-getD, getD-take, length-take-le}
-use borrow.Author.Tests.{lt-ltb, le-ltb, ne-eqb}
+use lib.ListN.{length, getD, take, drop, replicate, length-replicate, getD-replicate}
+use borrow.Author.Tests.{le-ltb, ne-eqb}
 use Rattle.words.specs.Area.{areaWords, wordsFrom, ruled}
-use Rattle.words.proofs.Area.{length-words, getD-words, words-ext}
-use Rattle.words.proofs.Cases.{by-lt}
+use Rattle.words.proofs.Area.{words-ext}
 use Rattle.trace.specs.Trace.{Trace}
 use Rattle.reader.specs.Verdict.{Verdict, accepted, verdict}
 use Rattle.reader.specs.Answer.{readAnswer, readArea}
@@ -24,10 +22,10 @@ use Rattle.table.proofs.Claims.{read-held, failing-held}
 use Rattle.theory.specs.Epochs.{ruleOf}
 use Rattle.theory.specs.Inner.Laws.{Laws}
 use Rattle.theory.specs.Line.{Run, LossFree, runAt}
-use Rattle.theory.specs.Order.{Outcome, carriedOut, run, complete, lowestOrder}
-use Rattle.theory.specs.Answers.{lineOf, Listed, orphans, keptOnes, lostOnes, exactSteps}
+use Rattle.theory.specs.Order.{Outcome, carriedOut, run, steps, complete, lowestOrder}
+use Rattle.theory.specs.Answers.{Listed, orphans, keptOnes, lostOnes, exactSteps}
 use Rattle.theory.specs.Inner.Tests.{sameRecord}
-use Rattle.theory.specs.Refusals.{failureFault, lineFault}
+use Rattle.theory.specs.Refusals.{failureFault}
 use Rattle.theory.proofs.Answers.{lost-none}
 use Rattle.theory.proofs.Claims.{record-iff, record-test, complete-test}
 use Rattle.theory.proofs.Epochs.{laws}
@@ -35,7 +33,7 @@ use Rattle.theory.proofs.Refusals.{failure-fit, line-fit}
 use Rattle.protocol.proofs.Passes.{held-long, held-formed, held-valid}
 use Rattle.listing.specs.Listing.{Row, rowOf, rowsOf, listWord}
 use Rattle.recovery_line.specs.declared.Line.{Line}
-use Rattle.recovery_line.specs.Given.{lineIn, numbersOf}
+use Rattle.recovery_line.specs.Given.{lineIn}
 use Rattle.orders.specs.Record.{faultlessAt}
 use Rattle.orders.specs.declared.Replayed.{Replayed}
 use Rattle.orders.specs.Answer.{answerOf, wordsOf}
@@ -44,24 +42,20 @@ use Rattle.restart.specs.declared.Restarted.{Restarted}
 use Rattle.preparing.specs.Faults.{lineFaultOf, runOf as codeRun, failureFaultOf}
 use Rattle.recovery.specs.Answers.{replayAnswer, replayArea, Completed}
 use Rattle.messages.specs.Messages.{countsOf}
-use Rattle.restart.specs.Restart.{restartOf, restartRefusal, restartAnswer}
+use Rattle.restart.specs.Restart.{engineLineOf, restartOf, restartRefusal, restartAnswer}
 use Rattle.messages.proofs.Listing.{Listed as Messages, counts-are, listed-at}
 use Rattle.recovery.proofs.Replaying.{Answered as Replay}
 use Rattle.restart.proofs.Restarting.{Answered as Restart, Ready}
 use Rattle.recovery.proofs.Taking.{not-refused}
-use Rattle.report.specs.Report.{Answer, refused, given, unless, then, Failure, runWith, Recovery, recoveryBy, lineListed, recoveryOf, recovery, failureOf}
-use Rattle.report.proofs.Found.{tabled-length, run-same, steps-are, epochs-at, phases-at, numbers-are, back-is}
+use Rattle.report.specs.Report.{Answer, refused, given, unless, then, Failure, engineRun, Recovery, recoveryOf, recovery, failureOf}
+use Rattle.report.proofs.Found.{run-is}
 use Rattle.report.proofs.Answers.{not-given, unless-given}
 use Rattle.report.proofs.Messages.{blank, At, front-row, later-row, word-in, number-in, phase-in, orphan-row, kept-row}
 use Rattle.runs.proofs.Table.{completed}
-use Rattle.runs.specs.Answers.{losses, Replayed as Told, fault, replayOf, replay, exactStepsOf}
+use Rattle.runs.specs.Answers.{lineFrom, runWith, losses, Replayed as Told, fault, replayOf, replay, exactStepsOf}
 
 -- ---- What the rows say. `Restart`, `Messages` and `Replay` are the contracts of those calls: what they promise of the
 -- answer, and of the run area that they leave.
-
--- a line of numbers, as the calls take it
-abbrev pub lineFrom : List ℕ → Line
-lineFrom l = record { epochs = wordsFrom (lineOf l) 0 64; count = length l }
 
 -- what a call leaves in an area after a refusal that clears it; "Words past 16,384 are never touched"
 abbrev pub cleared : List ℕ → List ℕ
@@ -87,14 +81,6 @@ Claim = Trace → List ℕ → List ℕ → Type 0
 abbrev pub OnTable : Trace → Claim → Type 0
 OnTable t P = (a run : List ℕ) → heldTrace a ≡ some t → areaWords ≤ length run → P t a run
 
--- the answer of `restart` is that of a recovery
-pub record Restored (t : Trace) (x : Recovery) (r : Restarted) : Type 0 where
-  pub number : r .number ≡ 0
-  pub line : numbersOf (r .line) ≡ x .line
-  pub epochs : take (t .procs) (r .epochs) ≡ x .epochs
-  pub phases : take (t .procs) (r .phases) ≡ x .phases
-  pub back : r .back ≡ x .back
-
 -- `messages` counts and lists these orphans, kept and lost messages
 pub record Lists (os ks ls : List Listed) (c : Counted) (w : List ℕ) : Type 0 where
   pub counted : c ≡ record { number = 0; place = 0; orphans = length os; kept = length ks; lost = length ls }
@@ -117,7 +103,7 @@ Done t n y v = Finished n y × Faultless t v
 abbrev pub Recovers : ℕ → ℕ → Recovery → Claim
 Recovers step set x t a run =
     (r : Restarted) → Restart a step set r
-    → Restored t x r
+    → (r ≡ x .restarted)
     × ((c : Counted) (w : List ℕ) → Messages a run step set (r .line) c w → Lists (x .orphans) (x .kept) [] c w)
     × ((y : Replayed) (v : List ℕ) → Replay a run step set (r .line) (lowestOrder (codeRun a step (r .line))) y v
     → Completed a (length run) step set (r .line) y → Done t (x .steps) y v)
@@ -129,7 +115,7 @@ Refuses step set n t a run = (r : Restarted) → Restart a step set r → r ≡ 
 -- `messages` with a line
 abbrev pub Loses : ℕ → ℕ → List ℕ → List Listed → Claim
 Loses step set l ms t a run =
-    let R = runAt t step (lineOf l) in
+    let R = runAt t step (lineIn (lineFrom l)) in
     (c : Counted) (w : List ℕ) → Messages a run step set (lineFrom l) c w → Lists (orphans R) (keptOnes R) ms c w
 
 -- `replay` with a line: every complete order, whatever its choices, has so many steps
@@ -207,12 +193,6 @@ module _ (a run : List ℕ) (step set : ℕ) (l : Line) (R : Run) (same : codeRu
         lost-at = rows-at (length (orphans R) + length (keptOnes R)) 3 (lostOnes R) (omega arith) lost-row;
       }
 
--- the front of an array is a list, if its places are
-front-is : (n : ℕ) (xs ys : List ℕ) → n ≤ length xs → length ys ≡ n → ((z : ℕ) → z < n → getD xs z 0 ≡ getD ys z 0) → take n xs ≡ ys
-front-is n xs ys h e at =
-    let m = length-take-le n xs h in
-    ext-getD 0 (take n xs) ys (m ∙ sym e) (λ z l. let k : z < n = omega arith in getD-take n xs z 0 k ∙ at z k)
-
 -- ---- A table area that holds the trace of a text
 
 module _ (text a : List ℕ) (step set : ℕ) (holds : holdsTrace a ≡ true) (e : lastFailure text ≡ Failing.failing (held a) step set) where
@@ -265,45 +245,31 @@ module _ (text a : List ℕ) (step set : ℕ) (holds : holdsTrace a ≡ true) (e
     ready : Ready a step set r
     ready = record { holds = holds; fit = taken .0; answer = answer-is; means = A .1 number-is }
 
-    epochs-are : take (t .procs) (r .epochs) ≡ recoveryOf f .epochs
-    unfolding restartOf recoveryBy
-    epochs-are =
-        let n : length (r .epochs) ≡ 64 = ap (λ (s : Restarted). length (s .epochs)) answer-is ∙ length-words _ 0 64 in
-        front-is (t .procs) (r .epochs) (recoveryOf f .epochs) (omega (arith, few-processes)) (tabled-length _ (t .procs)) (epochs-at a step set r ready)
-
-    phases-are : take (t .procs) (r .phases) ≡ recoveryOf f .phases
-    unfolding restartOf recoveryBy
-    phases-are =
-        let n : length (r .phases) ≡ 64 = ap (λ (s : Restarted). length (s .phases)) answer-is ∙ length-words _ 0 64 in
-        front-is (t .procs) (r .phases) (recoveryOf f .phases) (omega (arith, few-processes)) (tabled-length _ (t .procs)) (phases-at a step set r ready)
+    restarts : r ≡ x .restarted
+    unfolding recoveryOf
+    restarts = answer-is ∙ ap (λ (z : Recovery). z .restarted) found
 
     abbrev R : Run
-    R = runWith f (lineListed f)
+    R = engineRun f
 
-    loss-free : LossFree R
-    loss-free = subst LossFree (run-same a step set r ready) (ready .means .greatest .loss-free)
+    same : codeRun a step (r .line) ≡ R
+    same = run-is a step set r ready
 
     none-lost : lostOnes R ≡ []
     none-lost =
-        let L : Laws R = laws t (ruleOf t) (held-valid a holds) step (lineOf (lineListed f)) (failure-fit t step set .0 (taken .0) .step-most) in
-        lost-none R L .1 loss-free
-
-    restarts : Restored t x r
-    unfolding recoveryBy
-    restarts =
-        subst (λ (z : Recovery). Restored t z r) found
-        (record { number = number-is; line = numbers-are a step set r ready; epochs = epochs-are; phases = phases-are; back = back-is a step set r ready })
+        let L : Laws R = laws t (ruleOf t) (held-valid a holds) step (lineIn (engineLineOf t step set)) (failure-fit t step set .0 (taken .0) .step-most) in
+        lost-none R L .1 (subst LossFree same (ready .means .greatest .loss-free))
 
     module _ (run₀ : List ℕ) (long : areaWords ≤ length run₀) where
       ok : lineFaultOf a (length run₀) step set (r .line) ≡ 0
       ok = not-refused a step set r ready (length run₀) long
 
       listed : (c : Counted) (w : List ℕ) → Messages a run₀ step set (r .line) c w → Lists (x .orphans) (x .kept) [] c w
-      unfolding recoveryBy
+      unfolding recoveryOf
       listed c w M =
           subst (λ (z : Recovery). Lists (z .orphans) (z .kept) [] c w) found
           (subst (λ (ms : List Listed). Lists (orphans R) (keptOnes R) ms c w) none-lost
-          (lists a run₀ step set (r .line) R (run-same a step set r ready) few-processes ok c w M))
+          (lists a run₀ step set (r .line) R same few-processes ok c w M))
 
       module _ (y : Replayed) (v : List ℕ) (P : Replay a run₀ step set (r .line) (lowestOrder (codeRun a step (r .line))) y v)
           (C : Completed a (length run₀) step set (r .line) y) where
@@ -313,30 +279,19 @@ module _ (text a : List ℕ) (step set : ℕ) (holds : holdsTrace a ≡ true) (e
         carried-out (Outcome.refused i) n q = absurd (let z : _≡_ {A = ℕ} 11 0 = sym (ap (λ (z : Replayed). z .number) q) ∙ C ok .0 in let u : ⊥ = omega arith in u)
 
         lowest-done : Done t (x .steps) y v
-        unfolding recoveryBy replayAnswer
+        unfolding recoveryOf replayAnswer
         lowest-done =
             let T = codeRun a step (r .line) in
             let q = carried-out (run T (lowestOrder T)) (length (lowestOrder T)) (P .0 ∙ rw ok) in
-            let n = sym (ap (λ (z : Replayed). z .steps) q) ∙ steps-are a step set r ready (length run₀) y ok C ∙ ap (λ (z : Recovery). z .steps) found in
+            let n = sym (ap (λ (z : Replayed). z .steps) q) ∙ C ok .2 ∙ ap (λ (Q : Run). steps (lowestOrder Q)) same ∙ ap (λ (z : Recovery). z .steps) found in
             (q ∙ rw n, P .1 .1 .0 (C ok .0) (C ok .1) .1 (ready .means .greatest .loss-free))
 
   -- ---- `messages` and `replay` with a line of numbers
 
-  module _ (l : List ℕ) (short : length l ≤ 64) (run₀ : List ℕ) (long : areaWords ≤ length run₀) where
-    line-at : (z : ℕ) → lineIn (lineFrom l) z ≡ lineOf l z
-    line-at z =
-        by-lt z (length l)
-        (λ h. rw (lt-ltb z (length l) h) (getD-words (lineOf l) 0 64 z (omega arith) ∙ ap (lineOf l) (let q : 0 + z ≡ z = omega arith in q)))
-        (λ h. rw (le-ltb z (length l) h) (sym (List·getD-eq-default l 0 h)))
-
-    run-is : codeRun a step (lineFrom l) ≡ runWith f l
-    run-is = ap (runAt t step) (fun-ext line-at)
-
+  module _ (l : List ℕ) (run₀ : List ℕ) (long : areaWords ≤ length run₀) where
     fault-is : lineFaultOf a (length run₀) step set (lineFrom l) ≡ fault f l
     unfolding lineFaultOf
-    fault-is =
-        rw (le-ltb (length a) 16384 (held-long a holds), le-ltb (length run₀) 16384 long, holds)
-        (ap (lineFault t step set (length l)) (fun-ext line-at))
+    fault-is = rw (le-ltb (length a) 16384 (held-long a holds), le-ltb (length run₀) 16384 long, holds)
 
     -- what `losses` tells: nothing is wrong with the failure and the line, and these are the lost messages
     told-lost : (ms : List Listed) → losses text l ≡ given ms → (failureFault t step set ≡ 0) × (fault f l ≡ 0) × (lostOnes (runWith f l) ≡ ms)
@@ -352,13 +307,13 @@ module _ (text a : List ℕ) (step set : ℕ) (holds : holdsTrace a ≡ true) (e
     lost-are ms h c w M =
         let (_, z, q) = told-lost ms h in
         subst (λ (ls : List Listed). Lists (orphans (runWith f l)) (keptOnes (runWith f l)) ls c w) q
-        (lists a run₀ step set (lineFrom l) (runWith f l) run-is few-processes (fault-is ∙ z) c w M)
+        (lists a run₀ step set (lineFrom l) (runWith f l) refl few-processes (fault-is ∙ z) c w M)
 
     -- a line that loses no message, and the steps of its complete orders
     lost-nothing : losses text l ≡ given [] → LossFree (runWith f l)
     lost-nothing h =
         let (z, _, n) = told-lost [] h in
-        lost-none (runWith f l) (laws t (ruleOf t) (held-valid a holds) step (lineOf l) (failure-fit t step set .0 z .step-most)) .0 n
+        lost-none (runWith f l) (laws t (ruleOf t) (held-valid a holds) step (lineIn (lineFrom l)) (failure-fit t step set .0 z .step-most)) .0 n
 
     exact-is : (n : ℕ) → exactStepsOf text l ≡ given n → exactSteps (runWith f l) ≡ n
     unfolding exactStepsOf failureOf
@@ -369,7 +324,7 @@ module _ (text a : List ℕ) (step set : ℕ) (holds : holdsTrace a ≡ true) (e
 
     steps-so-many : (n : ℕ) → losses text l ≡ given [] → exactStepsOf text l ≡ given n → AllHaveSteps step set l n t a run₀
     steps-so-many n h k order y v P z c =
-        P .1 .1 .1 .0 z c (subst LossFree (sym run-is) (lost-nothing h)) ∙ ap exactSteps run-is ∙ exact-is n k
+        P .1 .1 .1 .0 z c (lost-nothing h) ∙ exact-is n k
 
     module _ (order : List ℕ) (y : Replayed) (v : List ℕ) (P : Replay a run₀ step set (lineFrom l) order y v) where
       abbrev S : Run
@@ -377,11 +332,11 @@ module _ (text a : List ℕ) (step set : ℕ) (holds : holdsTrace a ≡ true) (e
 
       answer-by : (o : Outcome) → run S order ≡ o → fault f l ≡ 0 → y ≡ answerOf S o (length order)
       unfolding replayAnswer
-      answer-by o q z = P .0 ∙ rw (fault-is, z, run-is, q)
+      answer-by o q z = P .0 ∙ rw (fault-is, z, q)
 
       area-by : (o : Outcome) → run S order ≡ o → fault f l ≡ 0 → v ≡ wordsOf S o ++ drop areaWords run₀
       unfolding replayArea
-      area-by o q z = P .1 .0 ∙ rw (fault-is, z, run-is, q)
+      area-by o q z = P .1 .0 ∙ rw (fault-is, z, q)
 
       -- carried out: the answer, and where the order is complete and the definition says that the records are equal,
       -- the record in the run area
@@ -393,13 +348,14 @@ module _ (text a : List ℕ) (step set : ℕ) (holds : holdsTrace a ≡ true) (e
           let i : y ≡ record { number = 0; place = 0; steps = x .steps; complete = x .complete } =
           answer-by (carriedOut s) q z ∙ ap (λ (u : Told). record { number = 0; place = 0; steps = u .steps; complete = u .complete }) p in
           let w = held-formed a holds in
-          let cl = line-fit t step set (length l) (lineOf l) .0 z .failure .step-most in (
+          let line = lineIn (lineFrom l) in
+          let cl = line-fit t step set (length l) line .0 z .failure .step-most in (
             i,
             λ all equal.
-                let d = complete-test t w (ruleOf t) step cl (lineOf l) s .0 (ap (λ (u : Told). u .complete) p ∙ all) in
-                let same = record-test t w (ruleOf t) step cl (lineOf l) order s q .0 (ap (λ (u : Told). u .equal) p ∙ equal) in
+                let d = complete-test t w (ruleOf t) step cl line s .0 (ap (λ (u : Told). u .complete) p ∙ all) in
+                let same = record-test t w (ruleOf t) step cl line order s q .0 (ap (λ (u : Told). u .equal) p ∙ equal) in
                 P .1 .1 .0 (ap (λ (u : Replayed). u .number) i) (ap (λ (u : Replayed). u .complete) i ∙ all) .1
-                (subst LossFree (sym run-is) (record-iff t w (ruleOf t) step cl (lineOf l) order s q d .0 same)),
+                (record-iff t w (ruleOf t) step cl line order s q d .0 same),
           )
       carried x (Outcome.refused i) q z h = absurd (not-given 11 i x h)
 
@@ -469,23 +425,23 @@ module _ (text : List ℕ) where
     pub refuses : (n k : ℕ) → recovery text ≡ refused n k → OnTable t (Refuses step set n)
     refuses n k h = by-area (Refuses step set n) (λ a run₀ o q m. restart-refused text a step set o q n k h)
 
-    module _ (l : List ℕ) (short : length l ≤ 64) where
+    module _ (l : List ℕ) where
       pub loses : (ms : List Listed) → losses text l ≡ given ms → OnTable t (Loses step set l ms)
-      loses ms h = by-area (Loses step set l ms) (λ a run₀ o q n. lost-are text a step set o q l short run₀ n ms h)
+      loses ms h = by-area (Loses step set l ms) (λ a run₀ o q n. lost-are text a step set o q l run₀ n ms h)
 
       pub all-have-steps : (n : ℕ) → losses text l ≡ given [] → exactStepsOf text l ≡ given n → OnTable t (AllHaveSteps step set l n)
-      all-have-steps n h k = by-area (AllHaveSteps step set l n) (λ a run₀ o q m. steps-so-many text a step set o q l short run₀ m n h k)
+      all-have-steps n h k = by-area (AllHaveSteps step set l n) (λ a run₀ o q m. steps-so-many text a step set o q l run₀ m n h k)
 
       pub finishes : (order : List ℕ) (n : ℕ) (b : Bool) → replay text l order ≡ given (record { complete = true; equal = b; steps = n })
           → OnTable t (Finishes step set l order n)
       finishes order n b h =
-          by-area (Finishes step set l order n) (λ a run₀ o q m y v P. replayed text a step set o q l short run₀ m order y v P _ h .0)
+          by-area (Finishes step set l order n) (λ a run₀ o q m y v P. replayed text a step set o q l run₀ m order y v P _ h .0)
 
       pub completes : (order : List ℕ) (n : ℕ) → replay text l order ≡ completed n → OnTable t (Completes step set l order n)
       completes order n h =
           by-area (Completes step set l order n)
-          (λ a run₀ o q m y v P. let u = replayed text a step set o q l short run₀ m order y v P _ h in (u .0, u .1 refl refl))
+          (λ a run₀ o q m y v P. let u = replayed text a step set o q l run₀ m order y v P _ h in (u .0, u .1 refl refl))
 
       pub stops : (order : List ℕ) (m i : ℕ) → replay text l order ≡ refused m (suc i) → OnTable t (Stops step set l order (suc i))
       stops order m i h =
-          by-area (Stops step set l order (suc i)) (λ a run₀ o q n y v P. stopped text a step set o q l short run₀ n order y v P m i h)
+          by-area (Stops step set l order (suc i)) (λ a run₀ o q n y v P. stopped text a step set o q l run₀ n order y v P m i h)

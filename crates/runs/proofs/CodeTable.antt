@@ -9,7 +9,7 @@ use mathlib.Core.Bool.{false}
 use mathlib.Core.List.{List, [], _∷_}
 use native.Mathlib.Omega.{arith}
 use lib.ListN.{length}
-use Rattle.words.specs.Area.{areaWords}
+use Rattle.words.specs.Area.{areaWords, wordsFrom}
 use Rattle.reader.specs.Answer.{readAnswer, readArea}
 use Rattle.reader.specs.Failure.{Failing, failureAnswer, failureArea, lastFailure}
 use Rattle.theory.proofs.Runs.{opens}
@@ -92,7 +92,7 @@ c1 =
       accepts (linesOf linesH) traceH v,
       reads-failure textH traceH 9 2 fails1,
       recovers textH traceH 9 2 fails1 recovery1 x,
-      all-have-steps textH traceH 9 2 fails1 (2 ∷ 2 ∷ 32 ∷ []) (omega arith) 4 (s .0) (s .1),
+      all-have-steps textH traceH 9 2 fails1 (2 ∷ 2 ∷ 32 ∷ []) 4 (s .0) (s .1),
     )
 
 -- "R2: H with line 32,2,32 loses message 2 from 0 to 1."; order 1 is complete with 1 step
@@ -104,7 +104,7 @@ C2 =
 c2 : C2
 c2 =
     let (x, _, y) = table .1 in
-    (loses textH traceH 9 2 fails1 (32 ∷ 2 ∷ 32 ∷ []) (omega arith) (message 0 1 2 2 ∷ []) x, finishes textH traceH 9 2 fails1 (32 ∷ 2 ∷ 32 ∷ []) (omega arith) (1 ∷ []) 1 false y)
+    (loses textH traceH 9 2 fails1 (32 ∷ 2 ∷ 32 ∷ []) (message 0 1 2 2 ∷ []) x, finishes textH traceH 9 2 fails1 (32 ∷ 2 ∷ 32 ∷ []) (1 ∷ []) 1 false y)
 
 -- "R3: H with 1,1,32 loses none, and isn't the greatest.": `restart`, whose line is the greatest, gives another
 abbrev pub C3 : Type 0
@@ -115,17 +115,18 @@ C3 =
     × OnTable traceH (Completes 9 2 (1 ∷ 1 ∷ 32 ∷ []) (0 ∷ 0 ∷ 0 ∷ 1 ∷ 1 ∷ 1 ∷ 1 ∷ 1 ∷ []) 8)
 
 c3 : C3
+unfolding wordsFrom
 c3 =
     let (s, _, y) = table .2 in (
-      loses textH traceH 9 2 fails1 (1 ∷ 1 ∷ 32 ∷ []) (omega arith) [] (s .0),
+      loses textH traceH 9 2 fails1 (1 ∷ 1 ∷ 32 ∷ []) [] (s .0),
       another,
-      all-have-steps textH traceH 9 2 fails1 (1 ∷ 1 ∷ 32 ∷ []) (omega arith) 8 (s .0) (s .1),
-      completes textH traceH 9 2 fails1 (1 ∷ 1 ∷ 32 ∷ []) (omega arith) (0 ∷ 0 ∷ 0 ∷ 1 ∷ 1 ∷ 1 ∷ 1 ∷ 1 ∷ []) 8 y,
+      all-have-steps textH traceH 9 2 fails1 (1 ∷ 1 ∷ 32 ∷ []) 8 (s .0) (s .1),
+      completes textH traceH 9 2 fails1 (1 ∷ 1 ∷ 32 ∷ []) (0 ∷ 0 ∷ 0 ∷ 1 ∷ 1 ∷ 1 ∷ 1 ∷ 1 ∷ []) 8 y,
     )
   where
     another : OnTable traceH (λ t a run. (r : Restarted) → Restart a 9 2 r → numbersOf (r .line) ≡ 1 ∷ 1 ∷ 32 ∷ [] → ⊥)
     another a run h n r A e =
-        let q : _≡_ {A = List ℕ} (2 ∷ 2 ∷ 32 ∷ []) (1 ∷ 1 ∷ 32 ∷ []) = sym (c1 .3 a run h n r A .0 .line) ∙ e in
+        let q : _≡_ {A = List ℕ} (2 ∷ 2 ∷ 32 ∷ []) (1 ∷ 1 ∷ 32 ∷ []) = sym (ap (λ (x : Restarted). numbersOf (x .line)) (c1 .3 a run h n r A .0)) ∙ e in
         let z : _≡_ {A = ℕ} 2 1 = cc in
         omega arith
 
@@ -140,7 +141,7 @@ c4 : C4
 c4 =
     let text = failing linesH "fail=0 set=1" in
     let (x, s) = table .3 in
-    (reads-failure text traceH 0 1 fails4, recovers text traceH 0 1 fails4 recovery4 x, all-have-steps text traceH 0 1 fails4 (1 ∷ 32 ∷ 32 ∷ []) (omega arith) 9 (s .0) (s .1))
+    (reads-failure text traceH 0 1 fails4, recovers text traceH 0 1 fails4 recovery4 x, all-have-steps text traceH 0 1 fails4 (1 ∷ 32 ∷ 32 ∷ []) 9 (s .0) (s .1))
 
 -- "Trace L: two zones; send 0 to 1, save 1, receive. R5: step 3, set 2: line 32,2, the message kept in phase 1, order
 -- 65,1 complete."
@@ -159,8 +160,8 @@ c5 =
       accepts (linesOf linesL) traceL v,
       reads-failure text traceL 3 2 fails5,
       recovers text traceL 3 2 fails5 recovery5 x,
-      completes text traceL 3 2 fails5 (32 ∷ 2 ∷ []) (omega arith) (65 ∷ 1 ∷ []) 2 y,
-      all-have-steps text traceL 3 2 fails5 (32 ∷ 2 ∷ []) (omega arith) 2 (s .0) (s .1),
+      completes text traceL 3 2 fails5 (32 ∷ 2 ∷ []) (65 ∷ 1 ∷ []) 2 y,
+      all-have-steps text traceL 3 2 fails5 (32 ∷ 2 ∷ []) 2 (s .0) (s .1),
     )
 
 -- "R6: order 1 alone is 11 at place 1."
@@ -168,7 +169,7 @@ abbrev pub C6 : Type 0
 C6 = OnTable traceL (Stops 3 2 (32 ∷ 2 ∷ []) (1 ∷ []) 1)
 
 c6 : C6
-c6 = stops (failing linesL "fail=3 set=2") traceL 3 2 fails5 (32 ∷ 2 ∷ []) (omega arith) (1 ∷ []) 11 0 (table .5)
+c6 = stops (failing linesL "fail=3 set=2") traceL 3 2 fails5 (32 ∷ 2 ∷ []) (1 ∷ []) 11 0 (table .5)
 
 -- "Trace S: two zones; save 0, send 0 to 1, receive. R7: step 3, set 2: line 2,1."
 abbrev pub C7 : Type 0
@@ -185,7 +186,7 @@ c7 =
       accepts (linesOf linesS) traceS v,
       reads-failure text traceS 3 2 fails7,
       recovers text traceS 3 2 fails7 recovery7 x,
-      all-have-steps text traceS 3 2 fails7 (2 ∷ 1 ∷ []) (omega arith) 2 (s .0) (s .1),
+      all-have-steps text traceS 3 2 fails7 (2 ∷ 1 ∷ []) 2 (s .0) (s .1),
     )
 
 -- "R8: step 3, set 1: line 2,32, one orphan of phase 2, 1 step."
@@ -199,7 +200,7 @@ c8 : C8
 c8 =
     let text = failing linesS "fail=3 set=1" in
     let (x, s) = table .7 in
-    (reads-failure text traceS 3 1 fails8, recovers text traceS 3 1 fails8 recovery8 x, all-have-steps text traceS 3 1 fails8 (2 ∷ 32 ∷ []) (omega arith) 1 (s .0) (s .1))
+    (reads-failure text traceS 3 1 fails8, recovers text traceS 3 1 fails8 recovery8 x, all-have-steps text traceS 3 1 fails8 (2 ∷ 32 ∷ []) 1 (s .0) (s .1))
 
 -- "Trace T: two zones; send 0 to 1, receive. R9: step 1, set 2: line 32,1, one kept, order 65,1."
 abbrev pub C9 : Type 0
@@ -217,8 +218,8 @@ c9 =
       accepts (linesOf linesT) traceT v,
       reads-failure text traceT 1 2 fails9,
       recovers text traceT 1 2 fails9 recovery9 x,
-      completes text traceT 1 2 fails9 (32 ∷ 1 ∷ []) (omega arith) (65 ∷ 1 ∷ []) 2 y,
-      all-have-steps text traceT 1 2 fails9 (32 ∷ 1 ∷ []) (omega arith) 2 (s .0) (s .1),
+      completes text traceT 1 2 fails9 (32 ∷ 1 ∷ []) (65 ∷ 1 ∷ []) 2 y,
+      all-have-steps text traceT 1 2 fails9 (32 ∷ 1 ∷ []) 2 (s .0) (s .1),
     )
 
 -- "R10: step 1, set 1: line 1,32, none kept, order 0,1."
@@ -235,8 +236,8 @@ c10 =
     let (x, y, s) = table .9 in (
       reads-failure text traceT 1 1 fails10,
       recovers text traceT 1 1 fails10 recovery10 x,
-      completes text traceT 1 1 fails10 (1 ∷ 32 ∷ []) (omega arith) (0 ∷ 1 ∷ []) 2 y,
-      all-have-steps text traceT 1 1 fails10 (1 ∷ 32 ∷ []) (omega arith) 2 (s .0) (s .1),
+      completes text traceT 1 1 fails10 (1 ∷ 32 ∷ []) (0 ∷ 1 ∷ []) 2 y,
+      all-have-steps text traceT 1 1 fails10 (1 ∷ 32 ∷ []) 2 (s .0) (s .1),
     )
 
 -- "R11: H with set 0 or 8 is 9."

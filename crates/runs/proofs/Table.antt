@@ -6,15 +6,17 @@ use mathlib.Core.List.{List, [], _∷_, _++_}
 use Prim.Native.Nat.{ℕ, _≤_}
 use Prim.Native.String.{String}
 use native.Mathlib.Omega.{arith}
+use lib.Count.{ones}
+use Rattle.words.specs.Area.{wordsFrom}
 use Rattle.text.specs.Key.{startsWith, fieldAt}
 use Rattle.text.specs.Number.{isDigit, pushed, digitsFrom, numberAt, lastDigits}
-use Rattle.trace.specs.declared.Event.{Event}
 use Rattle.trace.specs.declared.Event.the-variants.{Send, Recv, Save}
-use Rattle.trace.specs.Trace.{Trace}
+use Rattle.trace.specs.Trace.{Trace, started, withEvents}
 use Rattle.trace.specs.Fit.{wellFormed}
 use Rattle.lines.specs.Line.{procsSaid, sendSaid, recvSaid, saveSaid, failSaid, lineSaid as lineIn}
 use Rattle.reader.specs.Failure.{lastFailure}
 use Rattle.reader.specs.Verdict.{pieces, faultHere, judgeEvent, judge, linesFrom, scanPieces, scan, Verdict, accepted, verdict}
+use Rattle.theory.specs.Inner.Tests.{two}
 use Rattle.theory.specs.Events.{size}
 use Rattle.theory.specs.Epochs.{ruleOf}
 use Rattle.theory.specs.Line.{inSet, Greatest, greatestLine, usableAt}
@@ -22,21 +24,19 @@ use Rattle.theory.specs.Answers.{lineOf, Listed}
 use Rattle.theory.specs.Refusals.{failureFault, permits, lineFault}
 use Rattle.theory.proofs.Runs.{opens}
 use Rattle.theory.proofs.Claims.{reached-usable, greatest-line, greatest-only}
+use Rattle.recovery_line.specs.Given.{backOf}
+use Rattle.restart.specs.Restart.{engineLineOf, restartOf}
 use Rattle.printing.specs.Bytes.{bytesOf}
 use Rattle.printing.specs.Inner.Texts.{linesOf}
 use Rattle.runs.specs.Texts.{linesH, linesL, linesS, linesT, linesFirst, failing, textH}
-use Rattle.report.specs.Report.{Answer, refused, given, Failure, failureOf, Recovery, lineListed, recoveryBy, recovery, messageLines, printedOf, printed}
+use Rattle.report.specs.Report.{Answer, refused, given, Failure, failureOf, Recovery, recoveryOf, recovery, messageLines, printedOf, printed}
 use Rattle.printing.specs.Lines.{processLine, messageLine, totalLine, refusalLine}
-use Rattle.runs.specs.Answers.{losses, Replayed, replay, exactStepsOf}
+use Rattle.runs.specs.Answers.{recoveryIn, losses, Replayed, replay, exactStepsOf}
 
 -- all that a row computes with, beside what the theory's rows do: `opens`
 unfoldable pub reads : ℕ
-unfolding bytesOf linesOf failing startsWith fieldAt isDigit pushed digitsFrom numberAt lastDigits procsSaid sendSaid recvSaid saveSaid failSaid lineIn pieces faultHere judgeEvent judge linesFrom scanPieces scan verdict lastFailure failureFault permits lineFault failureOf losses replay exactStepsOf lineListed recoveryBy recovery processLine messageLine messageLines totalLine refusalLine printedOf printed
+unfolding bytesOf linesOf failing startsWith fieldAt isDigit pushed digitsFrom numberAt lastDigits procsSaid sendSaid recvSaid saveSaid failSaid lineIn pieces faultHere judgeEvent judge linesFrom scanPieces scan verdict lastFailure failureFault permits lineFault failureOf losses replay exactStepsOf wordsFrom ones backOf engineLineOf restartOf recoveryOf recovery processLine messageLine messageLines totalLine refusalLine printedOf printed
 reads = 0
-
--- a trace of two processes
-abbrev two : List Event → Trace
-two es = record { procs = 2; events = es }
 
 -- a message as the report lists it: from, to, number, phase
 abbrev pub message : ℕ → ℕ → ℕ → ℕ → Listed
@@ -64,10 +64,9 @@ StepsFrom text l n = (losses text l ≡ given []) × (exactStepsOf text l ≡ gi
 -- "R1: H as above." What is printed, byte for byte; then in parts: the trace and the failure that are read, and the
 -- recovery
 abbrev pub traceH : Trace
-traceH = record {
-  procs = 3;
-  events = Send 0 1 5 ∷ Recv 1 0 ∷ Save 1 ∷ Send 1 2 7 ∷ Recv 2 1 ∷ Save 0 ∷ Send 0 1 9 ∷ Recv 1 0 ∷ Send 1 2 4 ∷ [];
-}
+traceH =
+    withEvents (started 3)
+    (Send 0 1 5 ∷ Recv 1 0 ∷ Save 1 ∷ Send 1 2 7 ∷ Recv 2 1 ∷ Save 0 ∷ Send 0 1 9 ∷ Recv 1 0 ∷ Send 1 2 4 ∷ [])
 
 abbrev pub printed1 : List String
 printed1 =
@@ -79,7 +78,8 @@ printed1 =
     ∷ []
 
 abbrev pub recovery1 : Recovery
-recovery1 = record { epochs = 2 ∷ 2 ∷ 1 ∷ []; line = 2 ∷ 2 ∷ 32 ∷ []; phases = 2 ∷ 2 ∷ 2 ∷ []; orphans = message 1 2 1 2 ∷ []; kept = []; back = 2; steps = 4 }
+recovery1 =
+    recoveryIn (record { epochs = 2 ∷ 2 ∷ 1 ∷ []; line = 2 ∷ 2 ∷ 32 ∷ []; phases = 2 ∷ 2 ∷ 2 ∷ []; going = 3; back = 2; orphans = message 1 2 1 2 ∷ []; kept = []; steps = 4 })
 
 abbrev pub R1 : Type 0
 R1 =
@@ -87,7 +87,7 @@ R1 =
     × (verdict (linesOf linesH) ≡ accepted traceH)
     × (failureOf textH ≡ given (record { trace = traceH; step = 9; failed = 2 }))
     × (recovery textH ≡ given recovery1)
-    × StepsFrom textH (recovery1 .line) (recovery1 .steps)
+    × StepsFrom textH (2 ∷ 2 ∷ 32 ∷ []) 4
 
 r1 : R1
 unfolding opens reads
@@ -131,12 +131,13 @@ r3 = ((refl, refl), not-greatest, refl)
 
 -- "R4: H, step 0, set 1: line 1,32,32, 9 steps."
 abbrev pub recovery4 : Recovery
-recovery4 = record { epochs = 1 ∷ 1 ∷ 1 ∷ []; line = 1 ∷ 32 ∷ 32 ∷ []; phases = 1 ∷ 1 ∷ 1 ∷ []; orphans = []; kept = []; back = 1; steps = 9 }
+recovery4 =
+    recoveryIn (record { epochs = 1 ∷ 1 ∷ 1 ∷ []; line = 1 ∷ 32 ∷ 32 ∷ []; phases = 1 ∷ 1 ∷ 1 ∷ []; going = 1; back = 1; orphans = []; kept = []; steps = 9 })
 
 abbrev pub R4 : Type 0
 R4 =
     let text = failing linesH "fail=0 set=1" in
-    (recovery text ≡ given recovery4) × StepsFrom text (recovery4 .line) (recovery4 .steps)
+    (recovery text ≡ given recovery4) × StepsFrom text (1 ∷ 32 ∷ 32 ∷ []) 9
 
 r4 : R4
 unfolding opens reads
@@ -148,14 +149,15 @@ abbrev pub traceL : Trace
 traceL = two (Send 0 1 6 ∷ Save 1 ∷ Recv 1 0 ∷ [])
 
 abbrev pub recovery5 : Recovery
-recovery5 = record { epochs = 1 ∷ 2 ∷ []; line = 32 ∷ 2 ∷ []; phases = 1 ∷ 2 ∷ []; orphans = []; kept = message 0 1 1 1 ∷ []; back = 1; steps = 2 }
+recovery5 =
+    recoveryIn (record { epochs = 1 ∷ 2 ∷ []; line = 32 ∷ 2 ∷ []; phases = 1 ∷ 2 ∷ []; going = 2; back = 1; orphans = []; kept = message 0 1 1 1 ∷ []; steps = 2 })
 
 abbrev pub R5 : Type 0
 R5 =
     (verdict (linesOf linesL) ≡ accepted traceL)
     × (recovery (failing linesL "fail=3 set=2") ≡ given recovery5)
     × (replay (failing linesL "fail=3 set=2") (32 ∷ 2 ∷ []) (65 ∷ 1 ∷ []) ≡ completed 2)
-    × StepsFrom (failing linesL "fail=3 set=2") (recovery5 .line) (recovery5 .steps)
+    × StepsFrom (failing linesL "fail=3 set=2") (32 ∷ 2 ∷ []) 2
 
 r5 : R5
 unfolding opens reads
@@ -174,13 +176,14 @@ abbrev pub traceS : Trace
 traceS = two (Save 0 ∷ Send 0 1 6 ∷ Recv 1 0 ∷ [])
 
 abbrev pub recovery7 : Recovery
-recovery7 = record { epochs = 2 ∷ 1 ∷ []; line = 2 ∷ 1 ∷ []; phases = 2 ∷ 1 ∷ []; orphans = []; kept = []; back = 2; steps = 2 }
+recovery7 =
+    recoveryIn (record { epochs = 2 ∷ 1 ∷ []; line = 2 ∷ 1 ∷ []; phases = 2 ∷ 1 ∷ []; going = 3; back = 2; orphans = []; kept = []; steps = 2 })
 
 abbrev pub R7 : Type 0
 R7 =
     (verdict (linesOf linesS) ≡ accepted traceS)
     × (recovery (failing linesS "fail=3 set=2") ≡ given recovery7)
-    × StepsFrom (failing linesS "fail=3 set=2") (recovery7 .line) (recovery7 .steps)
+    × StepsFrom (failing linesS "fail=3 set=2") (2 ∷ 1 ∷ []) 2
 
 r7 : R7
 unfolding opens reads
@@ -188,12 +191,13 @@ r7 = (refl, refl, (refl, refl))
 
 -- "R8: step 3, set 1: line 2,32, one orphan of phase 2, 1 step."
 abbrev pub recovery8 : Recovery
-recovery8 = record { epochs = 2 ∷ 1 ∷ []; line = 2 ∷ 32 ∷ []; phases = 2 ∷ 2 ∷ []; orphans = message 0 1 1 2 ∷ []; kept = []; back = 1; steps = 1 }
+recovery8 =
+    recoveryIn (record { epochs = 2 ∷ 1 ∷ []; line = 2 ∷ 32 ∷ []; phases = 2 ∷ 2 ∷ []; going = 1; back = 1; orphans = message 0 1 1 2 ∷ []; kept = []; steps = 1 })
 
 abbrev pub R8 : Type 0
 R8 =
     let text = failing linesS "fail=3 set=1" in
-    (recovery text ≡ given recovery8) × StepsFrom text (recovery8 .line) (recovery8 .steps)
+    (recovery text ≡ given recovery8) × StepsFrom text (2 ∷ 32 ∷ []) 1
 
 r8 : R8
 unfolding opens reads
@@ -204,14 +208,15 @@ abbrev pub traceT : Trace
 traceT = two (Send 0 1 6 ∷ Recv 1 0 ∷ [])
 
 abbrev pub recovery9 : Recovery
-recovery9 = record { epochs = 1 ∷ 1 ∷ []; line = 32 ∷ 1 ∷ []; phases = 1 ∷ 1 ∷ []; orphans = []; kept = message 0 1 1 1 ∷ []; back = 1; steps = 2 }
+recovery9 =
+    recoveryIn (record { epochs = 1 ∷ 1 ∷ []; line = 32 ∷ 1 ∷ []; phases = 1 ∷ 1 ∷ []; going = 2; back = 1; orphans = []; kept = message 0 1 1 1 ∷ []; steps = 2 })
 
 abbrev pub R9 : Type 0
 R9 =
     (verdict (linesOf linesT) ≡ accepted traceT)
     × (recovery (failing linesT "fail=1 set=2") ≡ given recovery9)
     × (replay (failing linesT "fail=1 set=2") (32 ∷ 1 ∷ []) (65 ∷ 1 ∷ []) ≡ completed 2)
-    × StepsFrom (failing linesT "fail=1 set=2") (recovery9 .line) (recovery9 .steps)
+    × StepsFrom (failing linesT "fail=1 set=2") (32 ∷ 1 ∷ []) 2
 
 r9 : R9
 unfolding opens reads
@@ -219,13 +224,14 @@ r9 = (refl, refl, refl, (refl, refl))
 
 -- "R10: step 1, set 1: line 1,32, none kept, order 0,1."
 abbrev pub recovery10 : Recovery
-recovery10 = record { epochs = 1 ∷ 1 ∷ []; line = 1 ∷ 32 ∷ []; phases = 1 ∷ 1 ∷ []; orphans = []; kept = []; back = 1; steps = 2 }
+recovery10 =
+    recoveryIn (record { epochs = 1 ∷ 1 ∷ []; line = 1 ∷ 32 ∷ []; phases = 1 ∷ 1 ∷ []; going = 1; back = 1; orphans = []; kept = []; steps = 2 })
 
 abbrev pub R10 : Type 0
 R10 =
     (recovery (failing linesT "fail=1 set=1") ≡ given recovery10)
     × (replay (failing linesT "fail=1 set=1") (1 ∷ 32 ∷ []) (0 ∷ 1 ∷ []) ≡ completed 2)
-    × StepsFrom (failing linesT "fail=1 set=1") (recovery10 .line) (recovery10 .steps)
+    × StepsFrom (failing linesT "fail=1 set=1") (1 ∷ 32 ∷ []) 2
 
 r10 : R10
 unfolding opens reads
@@ -261,16 +267,16 @@ table = (r1, r2, r3, r4, r5, r6, r7, r8, r9, r10, r11, r12)
 
 -- no failure line is 1 at the line after the last; a line after the failure line is 1; H has 9 events, and 8 comes
 -- before 9
-abbrev pub Ends : Type 0
-Ends =
+abbrev pub NoFailure : Type 0
+NoFailure =
     (recovery (linesOf linesH) ≡ refused 1 11)
     × (recovery (linesOf (linesT ++ "fail=1 set=1" ∷ "ev=save at=0" ∷ [])) ≡ refused 1 5)
     × (verdict textH ≡ Verdict.refused 1 11)
     × (recovery (failing linesH "fail=10 set=0") ≡ refused 8 0)
 
-ends : Ends
+no-failure : NoFailure
 unfolding opens reads
-ends = (refl, refl, refl, refl)
+no-failure = (refl, refl, refl, refl)
 
 -- a line of two or of four numbers; a number 0; an epoch that process 2 has not reached; a failed process that stays; 9
 -- comes before 10

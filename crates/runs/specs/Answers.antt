@@ -1,21 +1,64 @@
--- Three more answers to a text that ends with a failure line: the messages that another line loses, what an order does,
--- and how many steps document 02's formula gives.
+-- A recovery by its numbers, and three more answers to a text that ends with a failure line: the messages that another
+-- line loses, what an order does, and how many steps document 02's formula gives.
 use mathlib.Core.List.{List}
 use mathlib.Core.Bool.{Bool}
 use Prim.Native.Nat.{ℕ}
 use lib.ListN.{length}
-use Rattle.theory.specs.Line.{Run}
+use Rattle.words.specs.Area.{wordsFrom}
+use Rattle.theory.specs.Line.{Run, runAt}
 use Rattle.theory.specs.Order.{Outcome, carriedOut, run, steps, complete}
 use Rattle.theory.specs.Answers.{lineOf, Listed, lostOnes, exactSteps}
 use Rattle.theory.specs.Inner.Tests.{sameRecord}
 use Rattle.theory.specs.Refusals.{lineFault, orderFault}
-use Rattle.report.specs.Report.{Answer, refused, given, unless, then, Failure, failureOf, runWith}
+use Rattle.recovery_line.specs.declared.Line.{Line}
+use Rattle.recovery_line.specs.Given.{lineIn}
+use Rattle.report.specs.Report.{Answer, refused, given, unless, then, Failure, Recovery, failureOf}
+
+-- ---- A number for each process, as the calls take and give them: "Places of a line past its N numbers are 0"
+
+abbrev pub padded : List ℕ → List ℕ
+padded l = wordsFrom (lineOf l) 0 64
+
+abbrev pub lineFrom : List ℕ → Line
+lineFrom l = record { epochs = padded l; count = length l }
+
+-- the numbers of a recovery: the line, epochs and phases, who goes back as a set, how many, the messages, the steps
+pub record Numbers : Type 0 where
+  pub epochs : List ℕ
+  pub line : List ℕ
+  pub phases : List ℕ
+  pub going : ℕ
+  pub back : ℕ
+  pub orphans : List Listed
+  pub kept : List Listed
+  pub steps : ℕ
+
+abbrev pub recoveryIn : Numbers → Recovery
+recoveryIn n =
+    record {
+      restarted = record {
+        number = 0;
+        place = 0;
+        line = lineFrom (n .line);
+        going = n .going;
+        back = n .back;
+        epochs = padded (n .epochs);
+        phases = padded (n .phases);
+      };
+      orphans = n .orphans;
+      kept = n .kept;
+      steps = n .steps;
+    }
 
 -- ---- Another line: the messages that it loses
 
+-- the recorded run with a failure and a line
+abbrev pub runWith : Failure → List ℕ → Run
+runWith f l = runAt (f .trace) (f .step) (lineIn (lineFrom l))
+
 -- what is wrong with a line, where the failure is fit: 10, or 0
 abbrev pub fault : Failure → List ℕ → ℕ
-fault f l = lineFault (f .trace) (f .step) (f .failed) (length l) (lineOf l)
+fault f l = lineFault (f .trace) (f .step) (f .failed) (length l) (lineIn (lineFrom l))
 
 unfoldable pub losses : List ℕ → List ℕ → Answer (List Listed)
 losses text l = then (failureOf text) (λ f. unless (fault f l) (given (lostOnes (runWith f l))))

@@ -78,14 +78,19 @@ module _ (R : Run) (t l g a₀ : List ℕ) (S : Started R t l g a₀) where
     abbrev order : List ℕ
     order = lowestFrom R most (start R)
 
-    abbrev pub Going : List ℕ → ℕ → Type 0
-    Going a i =
-        (s : State) × Rel R a s × Inv R s × (carry R s (suc i) (lowestFrom R (most - i) s) ≡ run R order)
-        × (i + length (lowestFrom R (most - i) s) ≡ length order)
+    pub record Going (a : List ℕ) (i : ℕ) : Type 0 where
+      pub state : State
+      pub rel : Rel R a state
+      pub inv : Inv R state
+      pub rest : carry R state (suc i) (lowestFrom R (most - i) state) ≡ run R order
+      pub steps : i + length (lowestFrom R (most - i) state) ≡ length order
 
     pub going-start : Going a₀ 0
     unfolding run
-    going-start = let e : most - 0 ≡ most = omega arith in let q : 0 + length order ≡ length order = omega arith in (start R, S .rel, inv-start R (S .laws), rw e, rw e q)
+    going-start =
+        let e : most - 0 ≡ most = omega arith in
+        let q : 0 + length order ≡ length order = omega arith in
+        record { state = start R; rel = S .rel; inv = inv-start R (S .laws); rest = rw e; steps = rw e q }
 
     from-none : (d : ℕ) (s : State) → lowest R s ≡ none → lowestFrom R d s ≡ []
     unfolding lowestFrom
@@ -108,36 +113,42 @@ module _ (R : Run) (t l g a₀ : List ℕ) (S : Started R t l g a₀) where
     unfolding carry
     carry-some s u i c cs e = rw e
 
-    ended : (a : List ℕ) (i : ℕ) (v : Going a i) → lowestFrom R (most - i) (v .0) ≡ [] → LowestDone R a most i
+    ended : (a : List ℕ) (i : ℕ) (v : Going a i) → lowestFrom R (most - i) (v .state) ≡ [] → LowestDone R a most i
     ended a i v e =
-        (v .0, v .1, v .2, sym (v .3) ∙ ap (carry R (v .0) (suc i)) e ∙ carry-none (v .0) (suc i), (let w = v .4 in let q : length (lowestFrom R (most - i) (v .0)) ≡ 0 = ap length e in omega (arith, w, q)))
+        let q : length (lowestFrom R (most - i) (v .state)) ≡ 0 = ap length e in record {
+          state = v .state;
+          rel = v .rel;
+          inv = v .inv;
+          carried = sym (v .rest) ∙ ap (carry R (v .state) (suc i)) e ∙ carry-none (v .state) (suc i);
+          steps = omega (arith, v .steps, q);
+        }
 
     pub going-bound : (a : List ℕ) (i : ℕ) → Going a i → Bounded a
-    going-bound a i v = rel-bounded R (S .laws) t l g (S .cols) a (v .0) (v .1) (v .2)
+    going-bound a i v = rel-bounded R (S .laws) t l g (S .cols) a (v .state) (v .rel) (v .inv)
 
     -- no choice is left
     pub going-end : (a : List ℕ) (i : ℕ) → Going a i → NoneBefore t g a noChoice → LowestDone R a most i
-    going-end a i v h = ended a i v (from-none (most - i) (v .0) (none-lowest a (v .0) (v .1) (v .2) h))
+    going-end a i v h = ended a i v (from-none (most - i) (v .state) (none-lowest a (v .state) (v .rel) (v .inv) h))
 
     -- as many as there may be are done
     pub going-out : (a : List ℕ) (i : ℕ) → Going a i → most ≤ i → LowestDone R a most i
-    going-out a i v h = ended a i v (let e : most - i ≡ 0 = omega arith in rw e (from-zero (v .0)))
+    going-out a i v h = ended a i v (let e : most - i ≡ 0 = omega arith in rw e (from-zero (v .state)))
 
     pub going-next : (a b : List ℕ) (i c : ℕ) → Going a i → i < most → NoneBefore t g a c → allowedW t g a c ≡ true → b ≡ applyW t l a c → Going b (i + 1)
     going-next a b i c v l n h eb =
-        let w = some-lowest a (v .0) (v .1) (v .2) c n h in
+        let w = some-lowest a (v .state) (v .rel) (v .inv) c n h in
         let d : most - i ≡ suc (most - (i + 1)) = omega arith in
-        let f : lowestFrom R (most - i) (v .0) ≡ c ∷ lowestFrom R (most - (i + 1)) (w .0) =
-        ap (λ k. lowestFrom R k (v .0)) d ∙ from-some (most - (i + 1)) c (v .0) (w .0) (w .1) in
-        let len : i + length (c ∷ lowestFrom R (most - (i + 1)) (w .0)) ≡ length order = ap (λ (x : List ℕ). i + length x) (sym f) ∙ v .4 in
-        let car : carry R (v .0) (suc i) (c ∷ lowestFrom R (most - (i + 1)) (w .0)) ≡ run R order = ap (carry R (v .0) (suc i)) (sym f) ∙ v .3 in
-        let one : suc i ≡ i + 1 = omega arith in (
-          w .0,
-          rw eb (w .2),
-          w .3,
-          ap (λ k. carry R (w .0) k (lowestFrom R (most - (i + 1)) (w .0))) (ap suc (sym one)) ∙ sym (carry-some (v .0) (w .0) (suc i) c _ (w .4)) ∙ car,
-          omega (arith, len),
-        )
+        let f : lowestFrom R (most - i) (v .state) ≡ c ∷ lowestFrom R (most - (i + 1)) (w .0) =
+        ap (λ k. lowestFrom R k (v .state)) d ∙ from-some (most - (i + 1)) c (v .state) (w .0) (w .1) in
+        let len : i + length (c ∷ lowestFrom R (most - (i + 1)) (w .0)) ≡ length order = ap (λ (x : List ℕ). i + length x) (sym f) ∙ v .steps in
+        let car : carry R (v .state) (suc i) (c ∷ lowestFrom R (most - (i + 1)) (w .0)) ≡ run R order = ap (carry R (v .state) (suc i)) (sym f) ∙ v .rest in
+        let one : suc i ≡ i + 1 = omega arith in record {
+          state = w .0;
+          rel = rw eb (w .2);
+          inv = w .3;
+          rest = ap (λ k. carry R (w .0) k (lowestFrom R (most - (i + 1)) (w .0))) (ap suc (sym one)) ∙ sym (carry-some (v .state) (w .0) (suc i) c _ (w .4)) ∙ car;
+          steps = omega (arith, len);
+        }
 
     -- ---- The answer
     module _ (all : most ≡ size (R .trace) + size (R .trace)) where
@@ -149,9 +160,9 @@ module _ (R : Run) (t l g a₀ : List ℕ) (S : Started R t l g a₀) where
       unfolding answerOf
       lowered-answer a n x v e =
           let o = lowest-order R (S .laws) in
-          e ∙ rw (o .1, complete-iff R (o .0) .1 (o .2), v .4 ∙ ap length whole)
+          e ∙ rw (o .1, complete-iff R (o .0) .1 (o .2), v .steps ∙ ap length whole)
 
       pub lowered-words : (a b : List ℕ) (n : ℕ) → LowestDone R a most n → length b ≡ areaWords
           → ((k : ℕ) → (currentBase ≤ k → lowPlace < k) → getD b k 0 ≡ getD a k 0) → ((k : ℕ) → currentBase ≤ k → k ≤ lowPlace → getD b k 0 ≡ 0) → b ≡ wordsOf R (run R (lowestOrder R))
       unfolding wordsOf
-      lowered-words a b n v j others zeros = rw (← whole, v .3) (record-left R (S .laws) t l g (S .cols) a b (v .0) (v .1) j others zeros)
+      lowered-words a b n v j others zeros = rw (← whole, v .carried) (record-left R (S .laws) t l g (S .cols) a b (v .state) (v .rel) j others zeros)

@@ -22,12 +22,14 @@ use Rattle.machine.specs.Inner.Words.{currentBase, orphanBase, takeBase, putBas
 use Rattle.columns.specs.Inner.Full.{kindW, peerW, valueW, numberW, phaseW}
 use Rattle.theory.specs.Inner.Lists.{head0}
 use Rattle.machine.specs.Inner.Related.{Rel, Started}
+use Rattle.machine.specs.Inner.Shapes.{Readable, Movable, Begun}
 use Rattle.machine.proofs.Facts.{left-none, left-some}
 use Rattle.machine.proofs.Moves.{at-next}
 use Rattle.sets.specs.Inner.Sets.{everyone, firstIn, restOf, withIn, Outside}
-use Rattle.search.specs.Inner.Lowest.{Idle, Shut, NoneTo, Under, Keeps, ToRun, ToKeep, NoneBefore, unlessNew, LowestDone}
+use Rattle.search.specs.Inner.Lowest.{Idle, Shut, NoneTo, Under, Keeps, SendersKnown, ToHand, ToRun, ToKeep, NoneBefore, unlessNew, LowestDone}
 use Rattle.machine.proofs.Steps.{process-none, allowed-process, allowed-hand}
 use Rattle.moves.proofs.Steps.{apply-process, apply-hand}
+use Rattle.orders.proofs.Ordering.{readable, movable}
 use Rattle.sets.proofs.Sets.{none-in, everyone-in, lower-out, first-lt, first-in, rest-out, with-out, with-lt, Pruned, pruned-start, pruned-next, rest-outside}
 use Rattle.search.proofs.Lowering.{Next, is-allowed, Going, going-start, going-bound, going-end, going-next}
 
@@ -151,23 +153,30 @@ module _ (t g a : List ℕ) where
   module _ (p : ℕ) where
     -- the receivers that are not left: none is ready, a phase that theirs are not below, and a set outside of which no
     -- message is kept
-    abbrev pub Waits : ℕ → ℕ → ℕ → Type 0
-    Waits least some left =
-        (least ≤ noPhase) × Outside (λ q. least ≤ keptPhase t g a p (64 * p + q)) left × Outside (λ q. handOk t g a p (64 * p + q) ≡ false) left
-        × Pruned (λ q. noPhase ≤ keptPhase t g a p (64 * p + q)) some left
+    pub record Waits (least some left : ℕ) : Type 0 where
+      pub least-le : least ≤ noPhase
+      pub above : Outside (λ q. least ≤ keptPhase t g a p (64 * p + q)) left
+      pub shut : Outside (λ q. handOk t g a p (64 * p + q) ≡ false) left
+      pub pruned : Pruned (λ q. noPhase ≤ keptPhase t g a p (64 * p + q)) some left
 
     pub waits-start : (ks : List ℕ) → p < 64 → lowW a ≤ noPhase → Keeps t g a ks → Waits noPhase 0 (getD ks p 0)
     unfolding Keeps
-    waits-start ks hp h k = (omega arith, k p hp, (λ q hq o. shut-under p (64 * p + q) noPhase h (k p hp q hq o)), pruned-start _ (getD ks p 0) (k p hp))
+    waits-start ks hp h k = record {
+      least-le = omega arith;
+      above = k p hp;
+      shut = λ q hq o. shut-under p (64 * p + q) noPhase h (k p hp q hq o);
+      pruned = pruned-start _ (getD ks p 0) (k p hp);
+    }
 
     pub waits-next : (least some left q f m some′ left′ : ℕ) → 0 < left → left < 2 ^ 64 → q ≡ firstIn left → left′ ≡ restOf left → f ≡ keptPhase t g a p (64 * p + q) → lowW a ≤ f
         → m ≡ lesser f least → ((z : ℕ) → inSet some′ z ≡ false → (inSet some z ≡ false) × (z ≡ q → eqb f noPhase ≡ true)) → Waits least some left → Waits m some′ left′
-    waits-next least some left q f m some′ left′ pos ll eq el e h em out w = (
-      omega (arith, w .0, less .0),
-      rest-outside (λ r. m ≤ keptPhase t g a p (64 * p + r)) left q left′ pos ll eq el (omega (arith, e, less .1)) (λ r hr o. omega (arith, w .1 r hr o, less .0)),
-      rest-outside (λ r. handOk t g a p (64 * p + r) ≡ false) left q left′ pos ll eq el (shut-under p (64 * p + q) f h (omega (arith, e))) (w .2),
-      pruned-next (λ r. noPhase ≤ keptPhase t g a p (64 * p + r)) left q left′ pos ll eq el some some′ (eqb f noPhase) out (λ n. omega (arith, e, eqb-true f noPhase n)) (w .3),
-    )
+    waits-next least some left q f m some′ left′ pos ll eq el e h em out w = record {
+      least-le = omega (arith, w .least-le, less .0);
+      above = rest-outside (λ r. m ≤ keptPhase t g a p (64 * p + r)) left q left′ pos ll eq el (omega (arith, e, less .1)) (λ r hr o. omega (arith, w .above r hr o, less .0));
+      shut = rest-outside (λ r. handOk t g a p (64 * p + r) ≡ false) left q left′ pos ll eq el (shut-under p (64 * p + q) f h (omega (arith, e))) (w .shut);
+      pruned =
+          pruned-next (λ r. noPhase ≤ keptPhase t g a p (64 * p + r)) left q left′ pos ll eq el some some′ (eqb f noPhase) out (λ n. omega (arith, e, eqb-true f noPhase n)) (w .pruned);
+    }
       where
         less : (m ≤ least) × (m ≤ f)
         less = by-lt f least (λ k. let x : m ≡ f = em ∙ rw (lt-ltb f least k) in (omega arith, omega arith)) (λ k. let x : m ≡ least = em ∙ rw (le-ltb f least k) in (omega arith, omega arith))
@@ -194,6 +203,11 @@ shut-all t g a h d j =
 pub shut-rest : (t g a : List ℕ) (m p n : ℕ) → 0 < m → m < 2 ^ 64 → p ≡ firstIn m → n ≡ restOf m → ((q : ℕ) → q < 64 → handOk t g a p (64 * p + q) ≡ false) → Shut t g a m → Shut t g a n
 unfolding Shut
 shut-rest t g a m p n pos l ep en h k = rest-outside (λ x. (q : ℕ) → q < 64 → handOk t g a x (64 * x + q) ≡ false) m p n pos l ep en h k
+
+-- of the processes of a set those that have an event left
+pub to-run-less : (a : List ℕ) (m n : ℕ) → ToRun a m → Outside (λ z. inSet m z ≡ true → curW a z ≡ 0) n → ToRun a n
+unfolding ToRun
+to-run-less a m n h o z hz x = by-bool (inSet m z) (λ y. o z hz x y) (λ y. h z hz y)
 
 -- where no event is left no process may run
 pub to-run-idle : (t g a : List ℕ) (m : ℕ) → ToRun a m → Idle t g a m
@@ -320,14 +334,14 @@ module _ (R : Run) (t l g a₀ : List ℕ) (S : Started R t l g a₀) where
         go [] e = e
         go (m ∷ ms) e =
             let no : sendOk (getD g (64 + z) 0) (putW a (64 * z + peerW t (curW a z))) ≡ false =
-            rw (S .cols .base .gated .places z z-in, ← eq) (left-some R (S .laws) s i z q _ _ (r .chan z q hz hq) m ms e) in
+            rw (S .cols .gated .places z z-in, ← eq) (left-some R (S .laws) s i z q _ _ (r .chan z q hz hq) m ms e) in
             clash ok (by-bool (eqb (curW a z) 0) (λ x. rw x) (λ x. rw x (by-bool (ltb (getD g z 0) (lowW a)) (λ y. rw (y, eq-eqb (kindW t (curW a z)) 1 k, no)) (λ y. rw y))))
 
     module _ (u : State) (r′ : Rel R (processW t l a z) u) (j : Inv R u) (did : Did R s (process z) u) (bound : Bounded a) where
       none-there : (q : ℕ) → q ≡ peerW t (curW a z) → kindW t (curW a z) ≡ 1 → sendOk (getD g (64 + z) 0) (putW (processW t l a z) (64 * z + q)) ≡ true
       none-there q eq k =
           let hq : q < 64 = omega arith in
-          rw (S .cols .base .gated .places z z-in) (left-none R (S .laws) u j z q _ _ (r′ .chan z q hz hq) (left-same s u z z q did ∙ none-left q eq k))
+          rw (S .cols .gated .places z z-in) (left-none R (S .laws) u j z q _ _ (r′ .chan z q hz hq) (left-same s u z z q did ∙ none-left q eq k))
 
       -- a channel is the one of the send, or its next message to put in stays
       at-channel : {A : Type 0} (d : ℕ) → d < 4096 → ((d ≡ 64 * z + peerW t (curW a z)) → kindW t (curW a z) ≡ 1 → A) → (putW (processW t l a z) d ≡ putW a d → A) → A
@@ -419,36 +433,36 @@ module _ (R : Run) (t l g a₀ : List ℕ) (S : Started R t l g a₀) (most : �
       run-idle-still h = rw eb (run-idle t l g a bound m (firstIn m) z-lt (first-in m p lm) (rw eb at h) idle)
 
       -- the state that the step leads to
-      after : (u : State) × Rel R (processW t l a (firstIn m)) u × Inv R u × Did R (v .0) (process (firstIn m)) u
+      after : (u : State) × Rel R (processW t l a (firstIn m)) u × Inv R u × Did R (v .state) (process (firstIn m)) u
       unfolding Next
       after =
           let z = firstIn m in
-          let w = is-allowed R t l g a₀ S a (v .0) (v .1) (v .2) z z-allowed in (
+          let w = is-allowed R t l g a₀ S a (v .state) (v .rel) (v .inv) z z-allowed in (
             w .0,
             rw (run-applied t l g a z z-lt) at (w .1 .0),
             w .1 .1,
-            view R (v .0) (w .0) (process z) (sym (choose-of R (v .0) z (process z) (choice-process z z-lt)) ∙ w .1 .2),
+            view R (v .state) (w .0) (process z) (sym (choose-of R (v .state) z (process z) (choice-process z z-lt)) ∙ w .1 .2),
           )
 
       pub run-shut-still : lowW b ≡ lowW a → (n : ℕ) → Shut t g a n → Shut t g b n
       run-shut-still h n k =
           let w = after in
-          rw eb (run-shut R t l g a₀ S a (v .0) (v .1) (v .2) (firstIn m) z-lt ok (w .0) (w .1) (w .2) (w .3) bound (rw eb at h) n k)
+          rw eb (run-shut R t l g a₀ S a (v .state) (v .rel) (v .inv) (firstIn m) z-lt ok (w .0) (w .1) (w .2) (w .3) bound (rw eb at h) n k)
 
       pub run-under-still : (ls : List ℕ) → Under t g a ls → Under t g b ls
       run-under-still ls k =
           let w = after in
-          rw eb (run-under R t l g a₀ S a (v .0) (v .1) (v .2) (firstIn m) z-lt ok (w .0) (w .1) (w .2) (w .3) bound ls k)
+          rw eb (run-under R t l g a₀ S a (v .state) (v .rel) (v .inv) (firstIn m) z-lt ok (w .0) (w .1) (w .2) (w .3) bound ls k)
 
       pub run-keeps-still : (ks : List ℕ) → Keeps t g a ks → Keeps t g b ks
       run-keeps-still ks k =
           let w = after in
-          rw eb (run-keeps R t l g a₀ S a (v .0) (v .1) (v .2) (firstIn m) z-lt ok (w .0) (w .1) (w .2) (w .3) bound ks k)
+          rw eb (run-keeps R t l g a₀ S a (v .state) (v .rel) (v .inv) (firstIn m) z-lt ok (w .0) (w .1) (w .2) (w .3) bound ks k)
 
       pub run-to-keep-still : (n : ℕ) → ToKeep t g a n → ToKeep t g b n
       run-to-keep-still n k =
           let w = after in
-          rw eb (run-to-keep R t l g a₀ S a (v .0) (v .1) (v .2) (firstIn m) z-lt ok (w .0) (w .1) (w .2) (w .3) bound n k)
+          rw eb (run-to-keep R t l g a₀ S a (v .state) (v .rel) (v .inv) (firstIn m) z-lt ok (w .0) (w .1) (w .2) (w .3) bound n k)
 
       pub run-to-run-still : (n : ℕ) → ToRun a n → ToRun b n
       run-to-run-still n k = rw eb (run-to-run t l g a bound (firstIn m) z-lt ok n k)
@@ -466,98 +480,126 @@ module _ (R : Run) (t l g a₀ : List ℕ) (S : Started R t l g a₀) (most : �
       pub hand-shut-still : (n : ℕ) → inSet n (c / 64) ≡ true → Shut t g a n → Shut t g b n
       hand-shut-still n o k = rw eb (hand-shut t l g a bound c hc n o k)
 
--- what holds before each choice, i of them done: sets outside of which no process may run, no sender has a message that
--- is ready, no process has an event, no sender a kept message; of each sender a phase that its messages' are not below,
--- and a set of receivers outside of which it keeps none
 module _ (t l g a₀ : List ℕ) (most : ℕ) where
-  abbrev pub Looking : List ℕ → List ℕ → List ℕ → ℕ → ℕ → ℕ → ℕ → ℕ → Type 0
-  Looking a ls ks running keepers may senders i =
-      (length a ≡ length a₀) × (may < 2 ^ 64) × Idle t g a may × Shut t g a senders × ((R : Run) (S : Started R t l g a₀) → Going R t l g a₀ S most a i)
-      × (length ls ≡ 64) × Under t g a ls × (length ks ≡ 64) × Keeps t g a ks × ToRun a running × ToKeep t g a keepers
+  -- what holds before each choice, i of them done: sets outside of which no process may run, no sender has a message
+  -- that is ready, no process has an event, no sender a kept message; of each sender a phase that its messages' are not
+  -- below, and a set of receivers outside of which it keeps none
+  pub record Looking (a ls ks : List ℕ) (running keepers may senders i : ℕ) : Type 0 where
+    pub same-long : length a ≡ length a₀
+    pub may-lt : may < 2 ^ 64
+    pub idle : Idle t g a may
+    pub shut : Shut t g a senders
+    pub going : (R : Run) (S : Started R t l g a₀) → Going R t l g a₀ S most a i
+    pub phases-long : length ls ≡ 64
+    pub under : Under t g a ls
+    pub keeping-long : length ks ≡ 64
+    pub keeps : Keeps t g a ks
+    pub to-run : ToRun a running
+    pub to-keep : ToKeep t g a keepers
 
   pub looking-start : (ls ks : List ℕ) → length ls ≡ 64 → ((p : ℕ) → p < 64 → getD ls p 0 ≡ 0) → length ks ≡ 64 → ((p : ℕ) → p < 64 → getD ks p 0 ≡ everyone)
       → Looking a₀ ls ks everyone everyone everyone everyone 0
-  looking-start ls ks n z nk zk = (
-    refl,
-    omega arith,
-    all-idle t g a₀,
-    all-shut t g a₀,
-    (λ R S. going-start R t l g a₀ S most),
-    n,
-    none-under t g a₀ ls z,
-    nk,
-    all-keeps t g a₀ ks zk,
-    all-to-run a₀,
-    all-to-keep t g a₀,
-  )
+  looking-start ls ks n z nk zk = record {
+    same-long = refl;
+    may-lt = omega arith;
+    idle = all-idle t g a₀;
+    shut = all-shut t g a₀;
+    going = λ R S. going-start R t l g a₀ S most;
+    phases-long = n;
+    under = none-under t g a₀ ls z;
+    keeping-long = nk;
+    keeps = all-keeps t g a₀ ks zk;
+    to-run = all-to-run a₀;
+    to-keep = all-to-keep t g a₀;
+  }
 
   pub looking-same : (a b ls ls′ ks ks′ : List ℕ) (r r′ k k′ m m′ s s′ i : ℕ) → b ≡ a → ls′ ≡ ls → ks′ ≡ ks → r′ ≡ r → k′ ≡ k → m′ ≡ m → s′ ≡ s
       → Looking a ls ks r k m s i → Looking b ls′ ks′ r′ k′ m′ s′ i
   looking-same a b ls ls′ ks ks′ r r′ k k′ m m′ s s′ i ea el ek er e em es h = rw (ea, el, ek, er, e, em, es) h
 
-  module _ (R : Run) (S : Started R t l g a₀) (a b ls ks : List ℕ) (running keepers i : ℕ) (lt : i < most) (la : length a ≡ length a₀) (lb : length b ≡ length a)
-      (v : (R : Run) (S : Started R t l g a₀) → Going R t l g a₀ S most a i) (n : length ls ≡ 64) (u : Under t g a ls) (nk : length ks ≡ 64) (uk : Keeps t g a ks)
-      (tr : ToRun a running) (tk : ToKeep t g a keepers) where
-    -- the oldest kept message of channel c handed over
-    module _ (c : ℕ) (hc : c < 4096) (h : Idle t g a 0) (k : NoneTo t g a c) (ok : handOk t g a (c / 64) c ≡ true) (was : keptPhase t g a (c / 64) c < noPhase)
-        (z : getD ls (c / 64) 0 ≡ 0) (may senders : ℕ) (member : inSet senders (c / 64) ≡ true) (shut : Shut t g a senders) (eb : b ≡ putInW l a c)
-        (em : may ≡ withIn (withIn 0 (c / 64)) (c % 64)) where
-      pub looking-hand : Looking b ls ks running keepers may senders (i + 1)
-      looking-hand =
-          let bound = going-bound R t l g a₀ S most a i (v R S) in
-          rw em (
-            lb ∙ la,
-            with-lt (withIn 0 (c / 64)) (c % 64) (with-lt 0 (c / 64) (omega arith)),
-            hand-idle-still R t l g a₀ S most a i (v R S) lt b c hc h k ok eb,
-            hand-shut-still R t l g a₀ S most a i (v R S) lt b c hc h k ok eb senders member shut,
-            (λ R S. hand-going R t l g a₀ S most a i (v R S) lt b c hc h k ok eb),
-            n,
-            hand-under-still R t l g a₀ S most a i (v R S) lt b c hc h k ok eb ls z u,
-            nk,
-            rw eb (hand-keeps t l g a bound c hc was ks uk),
-            rw eb (hand-to-run t l g a bound c hc running tr),
-            rw eb (hand-to-keep t l g a bound c hc was keepers tk),
-          )
+  module _ (B : Begun t l g a₀) (a ls ks : List ℕ) (running keepers may senders i : ℕ) (L : Looking a ls ks running keepers may senders i) where
+    abbrev R : Run
+    R = B .run
 
-    -- the next event of the first process of m done
-    module _ (m s : ℕ) (p : 0 < m) (lm : m < 2 ^ 64) (h : Idle t g a m) (k : Shut t g a s) (ok : processOk t g a (firstIn m) ≡ true) (eb : b ≡ processW t l a (firstIn m)) where
-      pub still-to-run : ToRun b running
-      still-to-run = run-to-run-still R t l g a₀ S most a i (v R S) lt b m p lm h ok eb running tr
+    abbrev S : Started (B .run) t l g a₀
+    S = B .started
 
-      module _ (low : lowW b ≤ noPhase) (running′ keepers′ may senders : ℕ) (lr : running′ < 2 ^ 64) (tr′ : ToRun b running′)
-          (tk′ : Outside (λ p. inSet keepers p ≡ true → getD ls p 0 ≡ noPhase) keepers′)
-          (em : may ≡ unlessNew (lowW a) (lowW b) (withIn m (peerW t (curW a (firstIn m)))) running′) (es : senders ≡ unlessNew (lowW a) (lowW b) s keepers′) where
-        pub looking-run : Looking b ls ks running′ keepers′ may senders (i + 1)
-        unfolding unlessNew
-        looking-run =
-            let w = run-under-still R t l g a₀ S most a i (v R S) lt b m p lm h ok eb ls u in
-            let wk = run-keeps-still R t l g a₀ S most a i (v R S) lt b m p lm h ok eb ks uk in
-            let x = to-keep-less t g b ls keepers keepers′ w (run-to-keep-still R t l g a₀ S most a i (v R S) lt b m p lm h ok eb keepers tk) tk′ in
-            let go : (R : Run) (S : Started R t l g a₀) → Going R t l g a₀ S most b (i + 1) = λ R S. run-going R t l g a₀ S most a i (v R S) lt b m p lm h ok eb in
-            by-eq (lowW b) (lowW a)
-            (λ e. rw (em, es, eq-eqb (lowW b) (lowW a) e) (
-              lb ∙ la,
-              with-lt m (peerW t (curW a (firstIn m))) lm,
-              run-idle-still R t l g a₀ S most a i (v R S) lt b m p lm h ok eb e,
-              run-shut-still R t l g a₀ S most a i (v R S) lt b m p lm h ok eb e s k,
-              go,
-              n,
-              w,
-              nk,
-              wk,
-              tr′,
-              x,
-            ))
-            (λ e. rw (em, es, ne-eqb (lowW b) (lowW a) e) (
-              lb ∙ la,
-              lr,
-              to-run-idle t g b running′ tr′,
-              to-keep-shut t g b keepers′ low x,
-              go,
-              n,
-              w,
-              nk,
-              wk,
-              tr′,
-              x,
-            ))
+    v : Going (B .run) t l g a₀ (B .started) most a i
+    v = L .going (B .run) (B .started)
+
+    -- what the tests and the steps ask of the words
+    pub looking-readable : Readable t g a
+    looking-readable = readable t l g a₀ B a (L .same-long) (v .state) (v .rel) (v .inv)
+
+    pub looking-movable : Movable t l a
+    looking-movable = movable t l g a₀ B a (L .same-long) (v .state) (v .rel) (v .inv)
+
+    pub looking-known : SendersKnown t g a ls ks
+    looking-known = record { readable = looking-readable; phases-long = L .phases-long; under = L .under; keeping-long = L .keeping-long; keeps = L .keeps }
+
+    module _ (lt : i < most) (b : List ℕ) (lb : length b ≡ length a) where
+      -- the oldest kept message of channel c handed over, after what was learned of the senders on the way
+      module _ (ls′ ks′ : List ℕ) (n : length ls′ ≡ 64) (u : Under t g a ls′) (nk : length ks′ ≡ 64) (uk : Keeps t g a ks′) (c may′ senders′ : ℕ) (h : Idle t g a 0)
+          (k : NoneTo t g a c) (found : ToHand t g a ls′ senders′ c) (shut : Shut t g a senders′) (eb : b ≡ putInW l a c)
+          (em : may′ ≡ withIn (withIn 0 (c / 64)) (c % 64)) where
+        pub looking-hand : Looking b ls′ ks′ running keepers may′ senders′ (i + 1)
+        looking-hand =
+            let bound = looking-readable .ranged .pointed .bounded in
+            let hc = found .channel in
+            let ok = found .ready in
+            rw em (record {
+              same-long = lb ∙ L .same-long;
+              may-lt = with-lt (withIn 0 (c / 64)) (c % 64) (with-lt 0 (c / 64) (omega arith));
+              idle = hand-idle-still R t l g a₀ S most a i v lt b c hc h k ok eb;
+              shut = hand-shut-still R t l g a₀ S most a i v lt b c hc h k ok eb senders′ (found .member) shut;
+              going = λ R S. hand-going R t l g a₀ S most a i (L .going R S) lt b c hc h k ok eb;
+              phases-long = n;
+              under = hand-under-still R t l g a₀ S most a i v lt b c hc h k ok eb ls′ (found .unknown) u;
+              keeping-long = nk;
+              keeps = rw eb (hand-keeps t l g a bound c hc (found .kept) ks′ uk);
+              to-run = rw eb (hand-to-run t l g a bound c hc running (L .to-run));
+              to-keep = rw eb (hand-to-keep t l g a bound c hc (found .kept) keepers (L .to-keep));
+            })
+
+      -- the next event of the first process of m done
+      module _ (m : ℕ) (p : 0 < m) (le : m ≤ may) (h : Idle t g a m) (ok : processOk t g a (firstIn m) ≡ true) (eb : b ≡ processW t l a (firstIn m)) where
+        lm : m < 2 ^ 64
+        lm = omega (arith, le, L .may-lt)
+
+        pub still-to-run : ToRun b running
+        still-to-run = run-to-run-still R t l g a₀ S most a i v lt b m p lm h ok eb running (L .to-run)
+
+        module _ (low : lowW b ≤ noPhase) (running′ keepers′ may′ senders′ : ℕ) (lr : running′ < 2 ^ 64) (tr′ : ToRun b running′)
+            (tk′ : Outside (λ p. inSet keepers p ≡ true → getD ls p 0 ≡ noPhase) keepers′)
+            (em : may′ ≡ unlessNew (lowW a) (lowW b) (withIn m (peerW t (curW a (firstIn m)))) running′) (es : senders′ ≡ unlessNew (lowW a) (lowW b) senders keepers′) where
+          under : Under t g b ls
+          under = run-under-still R t l g a₀ S most a i v lt b m p lm h ok eb ls (L .under)
+
+          keeping : ToKeep t g b keepers′
+          keeping = to-keep-less t g b ls keepers keepers′ under (run-to-keep-still R t l g a₀ S most a i v lt b m p lm h ok eb keepers (L .to-keep)) tk′
+
+          -- the sets that the step leaves, where the least phase is what it was and where it is new
+          left : (may′ < 2 ^ 64) × Idle t g b may′ × Shut t g b senders′
+          unfolding unlessNew
+          left = by-eq (lowW b) (lowW a)
+              (λ e. rw (em, es, eq-eqb (lowW b) (lowW a) e) (
+                with-lt m (peerW t (curW a (firstIn m))) lm,
+                run-idle-still R t l g a₀ S most a i v lt b m p lm h ok eb e,
+                run-shut-still R t l g a₀ S most a i v lt b m p lm h ok eb e senders (L .shut),
+              ))
+              (λ e. rw (em, es, ne-eqb (lowW b) (lowW a) e) (lr, to-run-idle t g b running′ tr′, to-keep-shut t g b keepers′ low keeping))
+
+          pub looking-run : Looking b ls ks running′ keepers′ may′ senders′ (i + 1)
+          looking-run = record {
+            same-long = lb ∙ L .same-long;
+            may-lt = left .0;
+            idle = left .1;
+            shut = left .2;
+            going = λ R S. run-going R t l g a₀ S most a i (L .going R S) lt b m p lm h ok eb;
+            phases-long = L .phases-long;
+            under = under;
+            keeping-long = L .keeping-long;
+            keeps = run-keeps-still R t l g a₀ S most a i v lt b m p lm h ok eb ks (L .keeps);
+            to-run = tr′;
+            to-keep = keeping;
+          }

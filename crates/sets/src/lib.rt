@@ -1,6 +1,6 @@
 // Sets of processes, as numbers of 64 bits whose bit z says that process z is a member: the first member, the set
-// without it, the set with one more. The definitions are in specs/Sets, laws on them in proofs/Sets. No public function
-// has a `requires`. Assumes nothing.
+// without it, the set with one more. The definitions are in specs/Inner/Sets, laws on them in proofs/Sets. No public
+// function has a `requires`. Assumes nothing.
 ghost use mathlib.Core.Path.{_≡_};
 ghost use Rattle.sets.specs.Inner.Sets.{firstIn, restOf, withIn};
 

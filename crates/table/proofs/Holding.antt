@@ -2,7 +2,7 @@
 use Prim.Native.Nat.{ℕ, _+_, _<_, _≤_}
 use mathlib.Core.Path.{_≡_, refl, sym, ap, _∙_}
 use mathlib.Core.List.{List, [], _++_}
-use mathlib.Core.Bool.{Bool, true, false}
+use mathlib.Core.Bool.{true, false}
 use mathlib.Core.Option.{Option, none, some}
 use native.Mathlib.Omega.{arith}
 use lib.Dec.{leb}
@@ -10,8 +10,8 @@ use lib.ListN.{length, getD, take, drop, replicate, length-append, take-append-d
 use lib.Seq.{length-take-le, getD-take, take-at, take-all}
 use borrow.Author.Tests.{leb-true, le-leb, le-ltb}
 use Rattle.words.specs.Area.{wordsFrom, ruled}
-use Rattle.words.proofs.Area.{length-words, getD-words, words-ext}
-use Rattle.words.proofs.Cases.{by-bool, and-left, and-right, and-both}
+use Rattle.words.proofs.Area.{length-words, words-at, words-ext}
+use Rattle.words.proofs.Cases.{by-bool, cond-some, and-left, and-right, and-both}
 use Rattle.trace.specs.Trace.{Trace}
 use Rattle.trace.specs.Fit.{wellFormed}
 use Rattle.trace.specs.Table.{tableWord}
@@ -19,20 +19,17 @@ use Rattle.reader.specs.Failure.{failing, lastFailure, failureArea}
 use Rattle.reader.specs.Verdict.{accepted, verdict}
 use Rattle.reader.specs.Answer.{readArea}
 use Rattle.table.specs.Held.{heldEvents, held, holdsTrace}
-use Rattle.table.specs.Inner.Held.{heldIf, heldTrace}
-use Rattle.table.proofs.Places.{word-procs, word-count, word-event, word-value, events-back}
+use Rattle.table.specs.Inner.Held.{heldTrace}
+use Rattle.trace.proofs.Places.{word-procs, word-count, word-event, word-value}
+use Rattle.table.proofs.Places.{events-back}
 use Rattle.table.proofs.Testing.{words-each, each-words, holds-facts}
 
 -- ---- `heldTrace` and `holdsTrace`
 
-held-some : (b : Bool) (x t : Trace) → heldIf b x ≡ some t → (b ≡ true) × (x ≡ t)
-held-some true x t h = (refl, cc)
-held-some false x t h = absurd (let z : _≡_ {A = ℕ} 0 1 = cc in let w : ⊥ = omega arith in w)
-
 module _ (a : List ℕ) where
   pub told : (t : Trace) → heldTrace a ≡ some t → (holdsTrace a ≡ true) × (held a ≡ t)
   unfolding heldTrace
-  told t h = held-some (holdsTrace a) (held a) t h
+  told t h = cond-some (holdsTrace a) (held a) t h
 
   pub held-self : holdsTrace a ≡ true → heldTrace a ≡ some (held a)
   unfolding heldTrace
@@ -45,7 +42,7 @@ module _ (f : ℕ → ℕ) (a : List ℕ) (size : 16384 ≤ length a) where
   rule-words h = words-ext f 16384 (take 16384 a) (length-take-le 16384 a size) (λ k l. getD-take 16384 a k 0 l ∙ h k l)
 
   words-rule : take 16384 a ≡ wordsFrom f 0 16384 → (k : ℕ) → k < 16384 → getD a k 0 ≡ f k
-  words-rule e k l = sym (getD-take 16384 a k 0 l) ∙ ap (λ (x : List ℕ). getD x k 0) e ∙ getD-words f 0 16384 k l ∙ ap f (omega arith)
+  words-rule e k l = sym (getD-take 16384 a k 0 l) ∙ ap (λ (x : List ℕ). getD x k 0) e ∙ words-at f 16384 k l
 
 -- ---- an area that holds a trace, and its words
 

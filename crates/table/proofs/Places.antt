@@ -1,48 +1,21 @@
--- The words of a trace by their places, those of the trace that an area says, and the event that a fit event's words
--- say.
-use Prim.Native.Nat.{ℕ, zero, suc, _+_, _-_, _*_, _/_, _%_, _<_, _≤_}
+-- The words of the trace that an area says, and the event that a fit event's words say.
+use Prim.Native.Nat.{ℕ, zero, suc, _+_, _-_, _*_, _%_, _<_, _≤_}
 use mathlib.Core.Path.{_≡_, refl, sym, ap, _∙_}
 use mathlib.Core.List.{List, [], _∷_, _++_, map}
 use mathlib.Core.Bool.{true}
 use native.Mathlib.Omega.{arith}
 use lib.Dec.{eqb}
 use lib.ListN.{length, getD, length-map, List·getD-eq-default}
-use borrow.Author.Tests.{leb-true, le-leb, lt-leb, eqb-true, ne-eqb}
+use borrow.Author.Tests.{leb-true, eqb-true}
 use Rattle.words.proofs.Cases.{and-left, and-right}
 use Rattle.trace.specs.declared.Event.{Event}
 use Rattle.trace.specs.declared.Event.the-variants.{Send, Recv, Save}
-use Rattle.trace.specs.Trace.{Trace}
 use Rattle.trace.specs.Fit.{eventFault, valueFits, allFit}
-use Rattle.trace.specs.Table.{wordOf, valueWord, tableWord}
+use Rattle.trace.specs.Table.{wordOf, processIn, valueWord, tableWord}
+use Rattle.trace.proofs.Places.{word-event, word-value, word-at, word-peer, word-top}
 use Rattle.trace.proofs.Faults.{send-fit, recv-fit, save-fit}
 use Rattle.table.specs.Held.{eventOf, heldEvent, heldEvents, held}
 use Rattle.table.proofs.Turns.{event-send, event-recv, event-save}
-
-module _ (t : Trace) where
-  pub word-procs : tableWord t 0 ≡ t .procs
-  unfolding tableWord
-  word-procs = refl
-
-  pub word-count : tableWord t 1 ≡ length (t .events)
-  unfolding tableWord
-  word-count = refl
-
-  pub word-head : (k : ℕ) → 2 ≤ k → k ≤ 16 → tableWord t k ≡ 0
-  unfolding tableWord
-  word-head k l h = rw (ne-eqb k 0 (λ q. omega arith), ne-eqb k 1 (λ q. omega arith), le-leb k 16 h)
-
-  -- the two columns, by the place after their first
-  pub word-event : (j k : ℕ) → k ≡ 17 + j → k ≤ 2065 → tableWord t k ≡ getD (map wordOf (t .events)) j 0
-  unfolding tableWord
-  word-event j k e h =
-      let q : k - 17 ≡ j = omega arith in
-      rw (ne-eqb k 0 (λ z. omega arith), ne-eqb k 1 (λ z. omega arith), lt-leb k 16 (omega arith), le-leb k 2065 h, q)
-
-  pub word-value : (j k : ℕ) → k ≡ 2066 + j → tableWord t k ≡ getD (map valueWord (t .events)) j 0
-  unfolding tableWord
-  word-value j k e =
-      let q : k - 2066 ≡ j = omega arith in
-      rw (ne-eqb k 0 (λ z. omega arith), ne-eqb k 1 (λ z. omega arith), lt-leb k 16 (omega arith), lt-leb k 2065 (omega arith), q)
 
 -- past the last event a column is 0
 past : (f : Event → ℕ) (es : List Event) (j : ℕ) → length es ≤ j → getD (map f es) j 0 ≡ 0
@@ -81,17 +54,6 @@ module _ (a : List ℕ) where
       word-value (held a) (k - 2066) k (omega arith)
       ∙ past valueWord (heldEvents a 1 (getD a 1 0)) (k - 2066) (rw (length-held a 1 (getD a 1 0)) (omega arith))
 
--- the process, the peer and the kind of a word
-module _ (at peer kind w : ℕ) (la : at < 64) (lp : peer < 64) (e : w ≡ at % 64 + 64 * (peer % 64) + 4096 * kind) where
-  word-at : w % 64 ≡ at
-  word-at = omega arith
-
-  word-peer : w / 64 % 64 ≡ peer
-  word-peer = let q : w / 64 ≡ peer + 64 * kind = omega arith in rw q (omega arith)
-
-  word-kind : w / 4096 ≡ kind
-  word-kind = omega arith
-
 -- a fit event is the one that its words say
 event-back : (n : ℕ) (before : List Event) (e : Event) → n ≤ 64 → eventFault n before e ≡ 0 → valueFits e ≡ true → eventOf (wordOf e) (valueWord e) ≡ e
 event-back n before (Send at to val) r z v =
@@ -99,18 +61,18 @@ event-back n before (Send at to val) r z v =
     let small : val ≤ 4294967295 = leb-true val 4294967295 v in
     let w = at % 64 + 64 * (to % 64) + 4096 in
     let value : val % 4294967296 ≡ val = omega arith in
-    sym (event-send w (val % 4294967296) (word-kind at to 1 w (omega arith) (omega arith) refl))
+    sym (event-send w (val % 4294967296) (word-top at to 1 w (omega arith) (omega arith) refl))
     ∙ rw (word-at at to 1 w (omega arith) (omega arith) refl, word-peer at to 1 w (omega arith) (omega arith) refl, value)
 event-back n before (Recv at from) r z v =
     let f = recv-fit n before at from z in
     let w = at % 64 + 64 * (from % 64) + 8192 in
-    let kind = word-kind at from 2 w (omega arith) (omega arith) refl in
+    let kind = word-top at from 2 w (omega arith) (omega arith) refl in
     sym (event-recv w 0 (λ k. omega arith) kind)
     ∙ rw (word-at at from 2 w (omega arith) (omega arith) refl, word-peer at from 2 w (omega arith) (omega arith) refl)
 event-back n before (Save at) r z v =
     let f = save-fit n before at z in
     let w = at % 64 + 12288 in
-    let p : w % 64 ≡ at = omega arith in
+    let p : processIn w ≡ at = omega arith in
     sym (event-save w 0 (λ k. omega arith) (λ k. omega arith)) ∙ rw p
 
 -- fit events are those that an area with their words says

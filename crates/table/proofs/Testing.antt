@@ -1,20 +1,21 @@
 -- What the code tests is what the definition says: `holdsTrace` and `tested` are one, both by the facts that they
 -- establish.
-use Prim.Native.Nat.{ℕ, zero, suc, _+_, _-_, _/_, _<_, _≤_}
+use Prim.Native.Nat.{ℕ, zero, suc, _+_, _-_, _<_, _≤_}
 use mathlib.Core.Path.{_≡_, refl, sym, _∙_}
 use mathlib.Core.List.{List, [], _∷_, _++_}
-use mathlib.Core.Bool.{Bool, true, false}
+use mathlib.Core.Bool.{true}
 use native.Mathlib.Omega.{arith}
 use lib.Dec.{leb, eqb}
 use lib.ListN.{length, getD}
 use borrow.Author.Tests.{leb-true, le-leb, eqb-true, eq-eqb}
-use Rattle.words.proofs.Cases.{by-bool, by-eq, by-lt, clash, and-left, and-right, and-both}
+use Rattle.words.proofs.Cases.{by-bool, by-eq, by-lt, same-bool, and-left, and-right, and-both}
 use Rattle.trace.specs.declared.Event.{Event}
 use Rattle.trace.specs.Fit.{eventFault, valueFits, allFit, wellFormed}
-use Rattle.trace.specs.Table.{wordOf, valueWord, tableWord}
+use Rattle.trace.specs.Table.{wordOf, topIn, valueWord, tableWord}
 use Rattle.table.specs.Held.{eventOf, heldEvent, heldEvents, held, wordsAre, holdsTrace}
 use Rattle.table.specs.Inner.Tested.{zerosFrom, fitFrom, wordsTested, tested}
-use Rattle.table.proofs.Places.{word-procs, word-count, word-head, length-held, said-event, said-value, said-gap, said-tail}
+use Rattle.trace.proofs.Places.{word-procs, word-count, word-head}
+use Rattle.table.proofs.Places.{length-held, said-event, said-value, said-gap, said-tail}
 
 -- the words of event number i are those of the event that they say
 pub record Said (a : List ℕ) (i : ℕ) : Type 0 where
@@ -68,9 +69,9 @@ module _ (a : List ℕ) where
 value-fits : (w v : ℕ) → valueWord (eventOf w v) ≡ v → valueFits (eventOf w v) ≡ true
 unfolding eventOf
 value-fits w v =
-    by-bool (eqb (w / 4096) 1)
+    by-bool (eqb (topIn w) 1)
     (λ e. rw e (λ h. le-leb v 4294967295 (omega arith)))
-    (λ e. by-bool (eqb (w / 4096) 2) (λ f. rw (e, f) (λ h. refl)) (λ f. rw (e, f) (λ h. refl)))
+    (λ e. by-bool (eqb (topIn w) 2) (λ f. rw (e, f) (λ h. refl)) (λ f. rw (e, f) (λ h. refl)))
 
 module _ (p : ℕ) (a : List ℕ) where
   fits-each : (before : List Event) (i n : ℕ) → fitFrom p before a i n ≡ true
@@ -202,11 +203,5 @@ module _ (a : List ℕ) where
       (and-both _ _ (le-leb 2 p (f .least)) (and-both _ _ (le-leb p 64 (f .most)) (and-both _ _ (le-leb (length (heldEvents a 1 n)) 2048 few) (f .fit))))
       (each-words (tableWord (held a)) a 16384 (facts-words f)))
 
--- two tests that say yes together say the same
-same-test : (x y : Bool) → (x ≡ true → y ≡ true) → (y ≡ true → x ≡ true) → x ≡ y
-same-test true y f g = sym (f refl)
-same-test false true f g = clash (g refl) refl
-same-test false false f g = refl
-
 pub tested-holds : (a : List ℕ) → tested a ≡ holdsTrace a
-tested-holds a = same-test (tested a) (holdsTrace a) (λ h. facts-holds a (tested-facts a h)) (λ h. facts-tested a (holds-facts a h))
+tested-holds a = same-bool (tested a) (holdsTrace a) (λ h. facts-holds a (tested-facts a h)) (λ h. facts-tested a (holds-facts a h))

@@ -15,23 +15,23 @@ use Rattle.trace.specs.declared.Event.the-variants.{Send, Recv, Save}
 use Rattle.trace.specs.Fit.{eventFault}
 use Rattle.trace.specs.Inner.Tally.{Tally, faultBy}
 use Rattle.trace.proofs.Faults.{fault-counted}
-use Rattle.trace.specs.Table.{wordOf, valueWord}
+use Rattle.trace.specs.Table.{wordOf, topIn, processIn, peerIn, valueWord}
 use Rattle.table.specs.Held.{eventOf, heldEvent}
 use Rattle.table.specs.Inner.Tested.{zerosFrom, wordFits, fitFrom, wordsTested, tested}
 
 -- each way out of `event`
 module _ (w v : ℕ) where
-  pub event-send : w / 4096 ≡ 1 → Send (w % 64) (w / 64 % 64) v ≡ eventOf w v
+  pub event-send : topIn w ≡ 1 → Send (processIn w) (peerIn w) v ≡ eventOf w v
   unfolding eventOf
-  event-send h = rw (eq-eqb (w / 4096) 1 h)
+  event-send h = rw (eq-eqb (topIn w) 1 h)
 
-  pub event-recv : (w / 4096 ≡ 1 → ⊥) → w / 4096 ≡ 2 → Recv (w % 64) (w / 64 % 64) ≡ eventOf w v
+  pub event-recv : (topIn w ≡ 1 → ⊥) → topIn w ≡ 2 → Recv (processIn w) (peerIn w) ≡ eventOf w v
   unfolding eventOf
-  event-recv n h = rw (ne-eqb (w / 4096) 1 n, eq-eqb (w / 4096) 2 h)
+  event-recv n h = rw (ne-eqb (topIn w) 1 n, eq-eqb (topIn w) 2 h)
 
-  pub event-save : (w / 4096 ≡ 1 → ⊥) → (w / 4096 ≡ 2 → ⊥) → Save (w % 64) ≡ eventOf w v
+  pub event-save : (topIn w ≡ 1 → ⊥) → (topIn w ≡ 2 → ⊥) → Save (processIn w) ≡ eventOf w v
   unfolding eventOf
-  event-save n m = rw (ne-eqb (w / 4096) 1 n, ne-eqb (w / 4096) 2 m)
+  event-save n m = rw (ne-eqb (topIn w) 1 n, ne-eqb (topIn w) 2 m)
 
 -- two numbers have a bit together exactly if one of them has
 or-zero : (x y : ℕ) → eqb (bitOr x y) 0 ≡ eqb x 0 && eqb y 0
@@ -58,35 +58,35 @@ module _ (a : List ℕ) (any i to : ℕ) where
 
 -- each way out of `word_fits`, by the kind of the word
 module _ (p : ℕ) (counts : List ℕ) (w v : ℕ) where
-  module _ (send : w / 4096 ≡ 1) (few : v < 4294967296) where
-    pub fits-send : (r : Bool) → r ≡ eqb (faultBy p counts (Send (w % 64) (w / 64 % 64) v)) 0 → r ≡ wordFits p counts w v
+  module _ (send : topIn w ≡ 1) (few : v < 4294967296) where
+    pub fits-send : (r : Bool) → r ≡ eqb (faultBy p counts (Send (processIn w) (peerIn w) v)) 0 → r ≡ wordFits p counts w v
     unfolding wordFits
     fits-send r e =
         let word : w % 64 % 64 + 64 * (w / 64 % 64 % 64) + 4096 ≡ w = omega arith in
         let value : v % 4294967296 ≡ v = omega arith in
         rw (← event-send w v send, eq-eqb _ _ word, eq-eqb _ _ value) e
 
-  module _ (no-send : w / 4096 ≡ 1 → ⊥) where
+  module _ (no-send : topIn w ≡ 1 → ⊥) where
     pub fits-value : (v ≡ 0 → ⊥) → false ≡ wordFits p counts w v
     unfolding wordFits
     fits-value z =
-        by-eq (w / 4096) 2
+        by-eq (topIn w) 2
         (λ h. rw (← event-recv w v no-send h, ne-eqb 0 v (λ q. z (sym q)), and-false))
         (λ h. rw (← event-save w v no-send h, ne-eqb 0 v (λ q. z (sym q)), and-false))
 
     module _ (zero-value : v ≡ 0) where
-      pub fits-recv : w / 4096 ≡ 2 → (r : Bool) → r ≡ eqb (faultBy p counts (Recv (w % 64) (w / 64 % 64))) 0 → r ≡ wordFits p counts w v
+      pub fits-recv : topIn w ≡ 2 → (r : Bool) → r ≡ eqb (faultBy p counts (Recv (processIn w) (peerIn w))) 0 → r ≡ wordFits p counts w v
       unfolding wordFits
       fits-recv h r e =
           let word : w % 64 % 64 + 64 * (w / 64 % 64 % 64) + 8192 ≡ w = omega arith in
           rw (← event-recv w v no-send h, eq-eqb _ _ word, eq-eqb 0 v (sym zero-value)) e
 
-      module _ (no-recv : w / 4096 ≡ 2 → ⊥) where
+      module _ (no-recv : topIn w ≡ 2 → ⊥) where
         pub fits-none : (w / 64 ≡ 192 → ⊥) → false ≡ wordFits p counts w v
         unfolding wordFits
         fits-none n = rw (← event-save w v no-send no-recv, ne-eqb (w % 64 % 64 + 12288) w (λ q. n (omega arith)))
 
-        pub fits-save : w / 64 ≡ 192 → (r : Bool) → r ≡ eqb (faultBy p counts (Save (w % 64))) 0 → r ≡ wordFits p counts w v
+        pub fits-save : w / 64 ≡ 192 → (r : Bool) → r ≡ eqb (faultBy p counts (Save (processIn w))) 0 → r ≡ wordFits p counts w v
         unfolding wordFits
         fits-save h r e =
             let word : w % 64 % 64 + 12288 ≡ w = omega arith in

@@ -1,6 +1,6 @@
 -- The trace that a table area holds (document 01, 13: "the first 16,384 words of the table area aren't what reading
 -- some accepted trace leaves there"). proofs/Claims states that this is what `holdsTrace` refuses.
-use Prim.Native.Nat.{ℕ, zero, suc, _+_, _/_, _%_}
+use Prim.Native.Nat.{ℕ, zero, suc, _+_}
 use mathlib.Core.List.{List, [], _∷_}
 use mathlib.Core.Bool.{Bool, true, _&&_, cond}
 use lib.ListN.{length, getD}
@@ -10,15 +10,15 @@ use Rattle.trace.specs.declared.Event.{Event}
 use Rattle.trace.specs.declared.Event.the-variants.{Send, Recv, Save}
 use Rattle.trace.specs.Trace.{Trace}
 use Rattle.trace.specs.Fit.{wellFormed}
-use Rattle.trace.specs.Table.{eventBase, valueBase, tableWord}
+use Rattle.trace.specs.Table.{topIn, processIn, peerIn, eventBase, valueBase, tableWord}
 
--- The event that a word and a value say: the word's kind is 1 for a send, 2 for a receive; every other word is read as
--- a save's. A word that is no event's is told by its not being the word of the event read from it.
+-- The event that a word and a value say: above the peer the word has 1 for a send, 2 for a receive; every other word is
+-- read as a save's. A word that is no event's is told by its not being the word of the event read from it.
 unfoldable pub eventOf : ℕ → ℕ → Event
 eventOf w v =
-    cond (eqb (w / 4096) 1) (Send (w % 64) (w / 64 % 64) v)
-    (cond (eqb (w / 4096) 2) (Recv (w % 64) (w / 64 % 64))
-    (Save (w % 64)))
+    cond (eqb (topIn w) 1) (Send (processIn w) (peerIn w) v)
+    (cond (eqb (topIn w) 2) (Recv (processIn w) (peerIn w))
+    (Save (processIn w)))
 
 -- event number i of an area
 abbrev pub heldEvent : List ℕ → ℕ → Event

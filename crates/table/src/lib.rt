@@ -4,15 +4,14 @@
 // is what a reading leaves. No public function has a `requires`. Assumes nothing.
 ghost use mathlib.Core.Path.{_≡_};
 ghost use mathlib.Core.Bool.{true};
-ghost use mathlib.Core.List.{List, []};
+ghost use mathlib.Core.List.{[]};
 ghost use Prim.Native.Nat.{_-_, _≤_, _<_};
 ghost use lib.Dec.{eqb};
 ghost use lib.ListN.{length, getD};
 ghost use Rattle.words.specs.Area.{areaWords};
 ghost use Rattle.table.specs.Held.{eventOf, holdsTrace};
-ghost use Rattle.table.specs.Inner.Tested.{zerosFrom, wordFits, fitFrom, wordsTested};
-ghost use Rattle.trace.specs.declared.Event.{Event};
-ghost use Rattle.trace.specs.Inner.Tally.{Tally, faultBy, tallied};
+ghost use Rattle.table.specs.Inner.Tested.{Room, zerosFrom, wordFits, fitFrom, wordsTested};
+ghost use Rattle.trace.specs.Inner.Tally.{faultBy, tallied};
 use trace::EVENT_BASE;
 use trace::Event;
 use trace::VALUE_BASE;
@@ -22,9 +21,9 @@ use words::AREA_WORDS;
 pub fn event(word: u32, value: u32) -> Event
     ensures { λ r. ⌜ r ≡ eventOf word value ⌝ }
 {
-    let kind = word / 4096;
-    let at = (word % 64) as u64;
-    let peer = (word / 64 % 64) as u64;
+    let kind = trace::top(word);
+    let at = trace::process(word) as u64;
+    let peer = trace::peer(word) as u64;
     if kind == 1 {
         return Event::Send {
             at: at,
@@ -55,7 +54,7 @@ fn zeros(area: &[u32], from: usize, to: usize) -> bool
 
 // Counts an event, if nothing is wrong with it after those that were counted; whether that is so.
 fn counted(counts: &mut [u16], procs: u64, e: Event) -> bool
-    requires { ⌜ (procs ≤ 64) × ((es : List Event) × (length es < 2048) × Tally (now counts) es) ⌝ }
+    requires { ⌜ Room procs (now counts) ⌝ }
     ensures answer { λ r. ⌜ r ≡ eqb (faultBy procs (now (counts .entry)) e) 0 ⌝ }
     ensures counters { λ r. ⌜ (r ≡ true → now (counts .exit) ≡ tallied (now (counts .entry)) e) ⌝ }
 {
@@ -66,19 +65,20 @@ fn counted(counts: &mut [u16], procs: u64, e: Event) -> bool
     true
 }
 
-// The word of a checkpoint is this times 64 and its process: kind 3, and no peer.
-const CHECKPOINT: u32 = 192;
+// The word of a checkpoint is this times 64 and its process: kind 3, and no peer, in one test.
+const CHECKPOINT_WORD: u32 = 192;
 
 // Whether a word and a value are those of an event that is fit after those that were counted; then counts it. One test
 // for each kind of word, so that the event's kind is asked once.
 fn word_fits(counts: &mut [u16], procs: u64, w: u32, v: u32) -> bool
-    requires { ⌜ (procs ≤ 64) × ((es : List Event) × (length es < 2048) × Tally (now counts) es) ⌝ }
+    requires { ⌜ Room procs (now counts) ⌝ }
     ensures answer { λ r. ⌜ r ≡ wordFits procs (now (counts .entry)) w v ⌝ }
     ensures counters { λ r. ⌜ (r ≡ true → now (counts .exit) ≡ tallied (now (counts .entry)) (eventOf w v)) ⌝ }
 {
-    let at = (w % 64) as u64;
-    let peer = (w / 64 % 64) as u64;
-    if w / 4096 == 1 {
+    let top = trace::top(w);
+    let at = trace::process(w) as u64;
+    let peer = trace::peer(w) as u64;
+    if top == 1 {
         return counted(
             counts,
             procs,
@@ -92,10 +92,10 @@ fn word_fits(counts: &mut [u16], procs: u64, w: u32, v: u32) -> bool
     if v != 0 {
         return false;
     }
-    if w / 4096 == 2 {
+    if top == 2 {
         return counted(counts, procs, Event::Recv { at: at, from: peer });
     }
-    if w / 64 != CHECKPOINT {
+    if w / 64 != CHECKPOINT_WORD {
         return false;
     }
     counted(counts, procs, Event::Save { at: at })

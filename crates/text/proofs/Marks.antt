@@ -3,16 +3,18 @@
 use Prim.Native.Nat.{ℕ, suc, zero, _+_, _-_, _*_, _/_, _%_, _^_, _<_, _≤_}
 use mathlib.Core.Path.{_≡_, refl, sym, _∙_}
 use mathlib.Core.List.{List}
-use mathlib.Core.Bool.{Bool, true, _&&_, cond}
+use mathlib.Core.Bool.{cond}
 use native.Mathlib.Omega.{arith}
 use native.Mathlib.Nat.{pow-zero, pow-suc, zero-add, suc-add, one-mul, mul-comm, mul-assoc}
-use lib.Dec.{ltb, eqb}
+use lib.Dec.{eqb}
 use lib.ListN.{length, getD, drop}
 use lib.Seq.{getD-drop}
 use lib.Bits.{bitAnd, bitOr, bitXor, and-block, or-block, xor-block, and-le-r, or-lt, xor-lt}
 use lib.Count.{trailingZeros, trailing-of-zero}
-use borrow.Author.Tests.{eq-eqb, ne-eqb, eqb-true, ltb-true}
-use Rattle.words.proofs.Cases.{by-eq, and-left, and-right}
+use borrow.Author.Tests.{eq-eqb, ne-eqb}
+use Rattle.words.specs.Area.{wordsFrom}
+use Rattle.words.proofs.Area.{words-agree}
+use Rattle.words.proofs.Cases.{by-eq}
 use Rattle.words.proofs.Zeros.{even-zeros, odd-zeros}
 use Rattle.text.specs.declared.LineEnd.the-variants.{At}
 use Rattle.text.specs.Inner.Line.{lineEnd}
@@ -64,31 +66,15 @@ module _ (k a r : ℕ) (h : r < 256) where
         or-block 8 (bitOr (carried k a) x) l u 127 (or-lt 8 (bitAnd y 127 + 127) y low-carried low-differs) (omega arith),
       )
 
--- what holds of each number below n, by trying them all
-abbrev every : (ℕ → Bool) → ℕ → Bool
-every p zero = true
-every p (suc n) = p n && every p n
-
-every-below : (p : ℕ → Bool) (n i : ℕ) → every p n ≡ true → i < n → p i ≡ true
-every-below p zero i e l = absurd (let z : ⊥ = omega arith in z)
-every-below p (suc n) i e l =
-    by-eq i n
-    (λ q. rw q (and-left (p n) (every p n) e))
-    (λ q. every-below p n i (and-right (p n) (every p n) e) (omega arith))
-
 -- one byte, by trying all 256
-abbrev byte-right : ℕ → Bool
-byte-right r = ltb (unmarked 1 r) 256 && eqb (255 - unmarked 1 r) (cond (eqb r 10) 128 0)
-
 module _ (r : ℕ) (h : r < 256) where
-  is-right : byte-right r ≡ true
-  is-right = every-below byte-right 256 r refl h
-
   byte-lt : unmarked 1 r < 256
-  byte-lt = ltb-true (unmarked 1 r) 256 (and-left (ltb (unmarked 1 r) 256) _ is-right)
+  unfolding wordsFrom
+  byte-lt = let e : unmarked 1 r / 256 ≡ 0 = words-agree (λ i. unmarked 1 i / 256) (λ i. 0) 256 r refl h in omega arith
 
   byte-mark : 255 - unmarked 1 r ≡ cond (eqb r 10) 128 0
-  byte-mark = eqb-true (255 - unmarked 1 r) (cond (eqb r 10) 128 0) (and-right (ltb (unmarked 1 r) 256) _ is-right)
+  unfolding wordsFrom
+  byte-mark = words-agree (λ i. 255 - unmarked 1 i) (λ i. cond (eqb i 10) 128 0) 256 r refl h
 
 -- k bytes
 record Marked (k w : ℕ) : Type 0 where

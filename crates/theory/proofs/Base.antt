@@ -12,7 +12,7 @@ use borrow.Author.Tests.{leb-true, leb-false, ltb-true, eqb-true, eqb-false, lt-
 use Rattle.theory.specs.Lists.{iv, keep, cnt, place, lastOf, no-one, all-below, sum, or-else, first}
 use Rattle.theory.specs.Inner.Lists.{has}
 use Rattle.theory.specs.Inner.Flow.{Each}
-pub use Rattle.words.proofs.Cases.{by-bool as by, clash}
+pub use Rattle.words.proofs.Cases.{by-bool as by, clash, same-bool}
 
 -- ---- Cases
 
@@ -40,11 +40,6 @@ or-right false b h = h
 pub false-or : (a b : Bool) → (a || b) ≡ false → a ≡ false
 false-or true b e = e
 false-or false b e = refl
-
-pub same-bool : (a b : Bool) → (a ≡ true → b ≡ true) → (b ≡ true → a ≡ true) → a ≡ b
-same-bool true b f g = sym (f refl)
-same-bool false true f g = g refl
-same-bool false false f g = refl
 
 -- ---- Lists and intervals
 
@@ -389,6 +384,11 @@ pub all-true : (n : ℕ) (f : ℕ → Bool) → ((z : ℕ) → z < n → f z ≡
 unfolding all-below
 all-true zero f h = refl
 all-true (suc n) f h = rw (h n (omega arith)) (all-true n f (λ z l. h z (omega arith)))
+
+pub all-same : (n : ℕ) (f g : ℕ → Bool) → ((z : ℕ) → z < n → f z ≡ g z) → all-below n f ≡ all-below n g
+unfolding all-below
+all-same zero f g h = refl
+all-same (suc n) f g h = rw (h n (omega arith), all-same n f g (λ z l. h z (omega arith)))
 
 pub all-at : (n : ℕ) (f : ℕ → Bool) → all-below n f ≡ true → (z : ℕ) → z < n → f z ≡ true
 unfolding all-below

@@ -148,6 +148,81 @@ module _ (t : Trace) (w : wellFormed t ≡ true) (rule : Rule) where
       pub loss-test : (lossFree R ≡ true) ↔ LossFree R
       loss-test = lossFree-iff R the-laws
 
+      -- ---- Gates and steps
+
+      -- "a sent message whose number is at most how many the receiver had received on that channel before its restart
+      -- is dropped": of the sends after the restart those are the orphans'
+      pub dropped-orphans : (p q e : ℕ) → sends t p q e ≡ true → restartIn t cut line p < e
+          → leb (sent t p q e) (rcvd t p q (restartIn t cut line q)) ≡ orphan R p q (sent t p q e)
+      dropped-orphans p q e h l =
+          let a : ltb (sent t p q (restartIn t cut line p)) (sent t p q e) ≡ true = lt-ltb _ _ (sent-lt t p q (restartIn t cut line p) e h l) in
+          sym (orphan-counts R the-laws p q (sent t p q e) ∙ rw a)
+
+      -- "An order is complete when no choice is allowed", as it can be tested: no number below 4,160 is
+      pub complete-test : (s : State) → (complete R s ≡ true) ↔ Complete R s
+      complete-test = complete-iff R
+
+      -- 11, "a choice isn't allowed where it comes", and its place: those before it are carried out, and it is not
+      -- allowed in what they leave
+      pub refused-place : (order : List ℕ) (i : ℕ) → run R order ≡ refused i
+          → (m : ℕ) × (s : State) × (i ≡ suc m) × (m < length order) × (run R (take m order) ≡ carriedOut s) × (choose R s (getD order m 0) ≡ none)
+      refused-place = run-refused R
+
+      -- an order that is carried out, complete or not
+      module _ (order : List ℕ) (s : State) (h : run R order ≡ carriedOut s) where
+        abbrev I : Inv R s
+        I = inv R the-laws s (length order) (run-reaches R order s h)
+
+        -- demand 3 for any rule and any line
+        pub record-iff : Complete R s → SameRecord R s ↔ LossFree R
+        record-iff = order-iff R the-laws order s h
+
+        -- "Equal is the same numbers and values in the same order on every channel.", as it can be tested
+        pub record-test : (sameRecord R s ≡ true) ↔ SameRecord R s
+        record-test = sameRecord-iff R the-laws s I
+
+        -- from a line that loses a message the record of its channel differs, whether the order is complete or not
+        pub lost-differs : (p q k : ℕ) → lost R p q k ≡ true → delivered R s p q ≢ faultless R p q
+        lost-differs = order-differs R the-laws order s h
+
+        -- "From a line without loss, an order carried out so far always has an allowed choice until each zone has done
+        -- all its events"
+        pub always-goes-on : LossFree R → (z e : ℕ) (es : List ℕ) → s .todo z ≡ e ∷ es → (c : ℕ) × Allowed R s c
+        always-goes-on = order-progress R the-laws order s h
+
+        -- "so a complete one does them all"
+        pub does-all : LossFree R → Complete R s → (z : ℕ) → s .todo z ≡ []
+        does-all = order-done R the-laws order s h
+
+        -- "Steps is the length of the order carried out, and is at most twice the number of events."
+        pub steps-at-most : steps order ≤ mostSteps t
+        steps-at-most = order-bound R the-laws order s h
+
+        -- Document 02, item 2: "For a line without loss, every complete order has exactly as many steps as there are
+        -- listed events after the restarts (after the cut for staying zones) plus kept messages."
+        pub steps-exactly : LossFree R → Complete R s → steps order ≡ exactSteps R
+        steps-exactly = exact-steps R the-laws order s h
+
+        -- and no order has more, from whatever line, complete or not
+        pub steps-no-more : steps order ≤ exactSteps R
+        steps-no-more = steps-within R the-laws order s h
+
+        -- "Phase r is ready when every orphan of phase r or less has been sent again."
+        pub ready-means : (r : ℕ) → (ready R s r ≡ true) ↔ ((p q k : ℕ) → orphan R p q k ≡ true → orphanPhase R p q k ≤ r → sentAgain R s p q k ≡ true)
+        ready-means = ready-iff R the-laws s (I .cursors)
+
+        -- "the order that always picks the lowest allowed choice": what it picks is allowed and no lower number is; it
+        -- ends where it is complete
+        pub lowest-is : (r : ℕ × State) → lowest R s ≡ some r → (choose R s (r .0) ≡ some (r .1)) × ((c : ℕ) → c < r .0 → choose R s c ≡ none)
+        lowest-is = lowest-some R the-laws s I
+
+        pub lowest-ends : (lowest R s ≡ none) ↔ Complete R s
+        lowest-ends = lowest-iff R the-laws s I
+
+      -- and it gets there, so that every line has a complete order
+      pub lowest-completes : (s : State) × (run R (lowestOrder R) ≡ carriedOut s) × Complete R s
+      lowest-completes = lowest-order R the-laws
+
     -- ---- The restart line, of any usable checkpoints
 
     -- "an epoch from 1 to its current one" is a set of usable checkpoints that contains the start
@@ -182,88 +257,6 @@ module _ (t : Trace) (w : wellFormed t ≡ true) (rule : Rule) where
 
       pub lowering-ends : (m : ℕ → ℕ) → Above t rule cut usable failed m → LossFree (recorded t rule cut m) → Greatest t rule cut usable failed m
       lowering-ends m a f = record { permitted = a .permitted; loss-free = f; top = a .top }
-
-    -- ---- Gates and steps
-
-    module _ (line : ℕ → ℕ) where
-      abbrev S : Run
-      S = recorded t rule cut line
-
-      abbrev L : Laws S
-      L = laws t rule A cut line cl
-
-      -- "a sent message whose number is at most how many the receiver had received on that channel before its restart
-      -- is dropped": of the sends after the restart those are the orphans'
-      pub dropped-orphans : (p q e : ℕ) → sends t p q e ≡ true → restartIn t cut line p < e
-          → leb (sent t p q e) (rcvd t p q (restartIn t cut line q)) ≡ orphan S p q (sent t p q e)
-      dropped-orphans p q e h l =
-          let a : ltb (sent t p q (restartIn t cut line p)) (sent t p q e) ≡ true = lt-ltb _ _ (sent-lt t p q (restartIn t cut line p) e h l) in
-          sym (orphan-counts S L p q (sent t p q e) ∙ rw a)
-
-      -- "An order is complete when no choice is allowed", as it can be tested: no number below 4,160 is
-      pub complete-test : (s : State) → (complete S s ≡ true) ↔ Complete S s
-      complete-test = complete-iff S
-
-      -- 11, "a choice isn't allowed where it comes", and its place: those before it are carried out, and it is not
-      -- allowed in what they leave
-      pub refused-place : (order : List ℕ) (i : ℕ) → run S order ≡ refused i
-          → (m : ℕ) × (s : State) × (i ≡ suc m) × (m < length order) × (run S (take m order) ≡ carriedOut s) × (choose S s (getD order m 0) ≡ none)
-      refused-place = run-refused S
-
-      -- an order that is carried out, complete or not
-      module _ (order : List ℕ) (s : State) (h : run S order ≡ carriedOut s) where
-        abbrev I : Inv S s
-        I = inv S L s (length order) (run-reaches S order s h)
-
-        -- demand 3 for any rule and any line
-        pub record-iff : Complete S s → SameRecord S s ↔ LossFree S
-        record-iff = order-iff S L order s h
-
-        -- "Equal is the same numbers and values in the same order on every channel.", as it can be tested
-        pub record-test : (sameRecord S s ≡ true) ↔ SameRecord S s
-        record-test = sameRecord-iff S L s I
-
-        -- from a line that loses a message the record of its channel differs, whether the order is complete or not
-        pub lost-differs : (p q k : ℕ) → lost S p q k ≡ true → delivered S s p q ≢ faultless S p q
-        lost-differs = order-differs S L order s h
-
-        -- "From a line without loss, an order carried out so far always has an allowed choice until each zone has done
-        -- all its events"
-        pub always-goes-on : LossFree S → (z e : ℕ) (es : List ℕ) → s .todo z ≡ e ∷ es → (c : ℕ) × Allowed S s c
-        always-goes-on = order-progress S L order s h
-
-        -- "so a complete one does them all"
-        pub does-all : LossFree S → Complete S s → (z : ℕ) → s .todo z ≡ []
-        does-all = order-done S L order s h
-
-        -- "Steps is the length of the order carried out, and is at most twice the number of events."
-        pub steps-at-most : steps order ≤ mostSteps t
-        steps-at-most = order-bound S L order s h
-
-        -- Document 02, item 2: "For a line without loss, every complete order has exactly as many steps as there are
-        -- listed events after the restarts (after the cut for staying zones) plus kept messages."
-        pub steps-exactly : LossFree S → Complete S s → steps order ≡ exactSteps S
-        steps-exactly = exact-steps S L order s h
-
-        -- and no order has more, from whatever line, complete or not
-        pub steps-no-more : steps order ≤ exactSteps S
-        steps-no-more = steps-within S L order s h
-
-        -- "Phase r is ready when every orphan of phase r or less has been sent again."
-        pub ready-means : (r : ℕ) → (ready S s r ≡ true) ↔ ((p q k : ℕ) → orphan S p q k ≡ true → orphanPhase S p q k ≤ r → sentAgain S s p q k ≡ true)
-        ready-means = ready-iff S L s (I .cursors)
-
-        -- "the order that always picks the lowest allowed choice": what it picks is allowed and no lower number is; it
-        -- ends where it is complete
-        pub lowest-is : (r : ℕ × State) → lowest S s ≡ some r → (choose S s (r .0) ≡ some (r .1)) × ((c : ℕ) → c < r .0 → choose S s c ≡ none)
-        lowest-is = lowest-some S L s I
-
-        pub lowest-ends : (lowest S s ≡ none) ↔ Complete S s
-        lowest-ends = lowest-iff S L s I
-
-      -- and it gets there, so that every line has a complete order
-      pub lowest-completes : (s : State) × (run S (lowestOrder S) ≡ carriedOut s) × Complete S s
-      lowest-completes = lowest-order S L
 
 -- ---- The floor, for document 01's rule: "No zone in it restarts in an epoch below the smallest current epoch of a
 -- failed zone."

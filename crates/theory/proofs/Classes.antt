@@ -14,7 +14,7 @@ use Rattle.theory.specs.Replay.{keptOn}
 use Rattle.theory.specs.Inner.Laws.{Laws}
 use Rattle.theory.proofs.Base.{by, on, clash, le?, both, same-bool, cnt-lt, place-by, place-there, iv-split, keep-append, keep-iv-cong, keep-iv-none}
 use Rattle.theory.proofs.Events.{sends-is, sent-le, rcvd-le, send-of, sendOf-at}
-use Rattle.theory.specs.Inner.Flow.{rBefore, rCut, sBefore, keptb, Kept}
+use Rattle.theory.specs.Inner.Flow.{rBefore, rCut, sBefore, keptb}
 
 -- ---- Tests
 

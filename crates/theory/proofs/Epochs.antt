@@ -15,8 +15,8 @@ use Rattle.theory.specs.Events.{size, eventAt, sends, recvs, checkpoints
 use Rattle.theory.specs.Epochs.{Rule, Carried, Notes, joined, note, notes, epochAt, phaseAt, epochOf, phaseOf, loggedBy}
 use Rattle.theory.specs.Line.{restartIn, recorded}
 use Rattle.theory.specs.Inner.Laws.{Laws}
-use Rattle.theory.proofs.Base.{by, clash, both, eqb-self, cnt-suc, cnt-skip, place-le, place-is}
-use Rattle.theory.proofs.Events.{send-not-recv, send-no-checkpoint, sent-le, recvOf-at}
+use Rattle.theory.proofs.Base.{by, clash, both, eqb-self, cnt-skip, place-le, place-is}
+use Rattle.theory.proofs.Events.{send-not-recv, send-no-checkpoint, sent-le, sent-more, sent-same, recvOf-at}
 use Rattle.theory.proofs.WellFormed.{Valid}
 
 -- ---- An event
@@ -128,16 +128,8 @@ module _ (t : Trace) (rule : Rule) where
   epoch-is (suc x) z = note-epoch (notes t rule x) (suc x) (eventAt t (suc x)) z ∙ by (isSave z (eventAt t (suc x)))
       (λ u. rw (u, epoch-is x z)) (λ u. rw (u, epoch-is x z))
 
-  sent-next : (p q x : ℕ) → sends t p q (suc x) ≡ true → sent t p q (suc x) ≡ suc (sent t p q x)
-  unfolding sent
-  sent-next p q x h = cnt-suc (sends t p q) x h
-
-  sent-same : (p q x : ℕ) → sends t p q (suc x) ≡ false → sent t p q (suc x) ≡ sent t p q x
-  unfolding sent
-  sent-same p q x h = cnt-skip (sends t p q) x h
-
   once : (p q y k : ℕ) → k ≤ sent t p q y → isSend p q (eventAt t (suc y)) ≡ true → k ≢ sent t p q (suc y)
-  once p q y k a u i = omega (arith, sent-next p q y (unfold sends in u))
+  once p q y k a u i = omega (arith, sent-more t y p q (unfold sends in u))
 
   carried-add : (p q k x d : ℕ) → k ≤ sent t p q x → (notes t rule (x + d)) .carried p q k ≡ (notes t rule x) .carried p q k
   unfolding notes
@@ -200,7 +192,7 @@ module _ (t : Trace) (rule : Rule) where
     no-send = by (sends t p q (suc x)) (λ u. absurd (send-not-recv t p q (suc x) (suc x) u h refl)) (λ u. u)
 
     found : (notes t rule (size t)) .carried p q (rcvd t p q (suc x)) ≡ (notes t rule x) .carried p q (rcvd t p q (suc x))
-    found = carried-later p q (rcvd t p q (suc x)) x (size t) (omega (arith, sent-same p q x no-send, A .causal p q (suc x) l)) (omega arith)
+    found = carried-later p q (rcvd t p q (suc x)) x (size t) (omega (arith, sent-same t x p q no-send, A .causal p q (suc x) l)) (omega arith)
 
     -- the epoch of the receive
     epoch-recv : epochAt t rule q (recvOf t p q (rcvd t p q (suc x))) ≡ epochAt t rule q x
@@ -259,3 +251,7 @@ module _ (t : Trace) (rule : Rule) where
       stay = λ z h. unfold restartIn in rw h;
       back = λ z h. unfold restartIn in rw h (place-is (checkpoints t z) (line z - 1) cut);
     }
+
+-- epochs do not depend on the rule of logging
+pub epoch-same : (t : Trace) (rule other : Rule) (z x : ℕ) → epochAt t rule z x ≡ epochAt t other z x
+epoch-same t rule other z x = epoch-is t rule x z ∙ sym (epoch-is t other x z)

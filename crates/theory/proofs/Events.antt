@@ -2,8 +2,8 @@
 -- definitions of specs/Events.
 use mathlib.Core.Path.{_≡_, refl, sym, _∙_, ap}
 use mathlib.Core.Logic.{_≢_}
-use mathlib.Core.Bool.{Bool, true, false, _&&_}
-use Prim.Native.Nat.{ℕ, _≤_, _<_}
+use mathlib.Core.Bool.{true, false, _&&_}
+use Prim.Native.Nat.{ℕ, suc, _≤_, _<_}
 use native.Mathlib.Omega.{arith}
 use lib.Dec.{eqb}
 use borrow.Author.Tests.{eqb-true}
@@ -11,7 +11,7 @@ use Rattle.trace.specs.declared.Event.{Event}
 use Rattle.trace.specs.declared.Event.the-variants.{Send, Recv, Save}
 use Rattle.trace.specs.Trace.{Trace, isSend, isRecv, isSave}
 use Rattle.theory.specs.Events.{Kind, send, recv, other, kindOf, processOf, size, eventAt, at, kind, sends, recvs, checkpoints, sent, rcvd, sendOf, recvOf}
-use Rattle.theory.proofs.Base.{by, clash, both, eqb-self, cnt-le, cnt-lt, cnt-find, place-at}
+use Rattle.theory.proofs.Base.{by, clash, both, eqb-self, cnt-suc, cnt-skip, cnt-le, cnt-lt, cnt-find, place-at}
 use Rattle.theory.specs.Inner.Flow.{sendTo, recvFrom}
 
 -- ---- The kinds of events
@@ -70,26 +70,18 @@ module _ (t : Trace) where
   pub recvs-of : (p q e : ℕ) → at t e ≡ q → kind t e ≡ recv p → recvs t p q e ≡ true
   recvs-of p q e a k = recvs-split p q e ∙ rw (a, k, eqb-self q, eqb-self p)
 
+  -- events of different kinds are different events
+  apart : (d e : ℕ) (k m : Kind) → kind t d ≡ k → kind t e ≡ m → k ≢ m → d ≢ e
+  apart d e k m a b n i = n (sym a ∙ ap (kind t) i ∙ b)
+
   pub send-not-recv : (p q d e : ℕ) → sends t p q d ≡ true → recvs t p q e ≡ true → d ≢ e
-  send-not-recv p q d e a b i =
-      let x = (sends-is p q d a) .1 in
-      let y = (recvs-is p q e b) .1 in
-      let c : kind t d ≡ kind t e = ap (kind t) i in
-      let z : _≡_ {A = ℕ} 0 1 = cc in omega arith
+  send-not-recv p q d e a b = apart d e (send q) (recv p) (sends-is p q d a .1) (recvs-is p q e b .1) (λ i. let z : _≡_ {A = ℕ} 0 1 = cc in omega arith)
 
   pub send-not-checkpoint : (p q z d e : ℕ) → sends t p q d ≡ true → checkpoints t z e ≡ true → d ≢ e
-  send-not-checkpoint p q z d e a b i =
-      let x = (sends-is p q d a) .1 in
-      let y = (checkpoints-is z e b) .1 in
-      let c : kind t d ≡ kind t e = ap (kind t) i in
-      let z : _≡_ {A = ℕ} 0 1 = cc in omega arith
+  send-not-checkpoint p q z d e a b = apart d e (send q) other (sends-is p q d a .1) (checkpoints-is z e b .1) (λ i. let z : _≡_ {A = ℕ} 0 1 = cc in omega arith)
 
   pub recv-not-checkpoint : (p q z d e : ℕ) → recvs t p q d ≡ true → checkpoints t z e ≡ true → d ≢ e
-  recv-not-checkpoint p q z d e a b i =
-      let x = (recvs-is p q d a) .1 in
-      let y = (checkpoints-is z e b) .1 in
-      let c : kind t d ≡ kind t e = ap (kind t) i in
-      let z : _≡_ {A = ℕ} 0 1 = cc in omega arith
+  recv-not-checkpoint p q z d e a b = apart d e (recv p) other (recvs-is p q d a .1) (checkpoints-is z e b .1) (λ i. let z : _≡_ {A = ℕ} 0 1 = cc in omega arith)
 
   pub send-no-checkpoint : (p q d : ℕ) → sends t p q d ≡ true → checkpoints t p d ≡ false
   send-no-checkpoint p q d h = by (checkpoints t p d) (λ u. absurd (send-not-checkpoint p q p d d h u refl)) (λ u. u)
@@ -114,6 +106,23 @@ module _ (t : Trace) where
   pub rcvd-lt : (p q x e : ℕ) → recvs t p q e ≡ true → x < e → rcvd t p q x < rcvd t p q e
   unfolding rcvd
   rcvd-lt p q x e t h = cnt-lt (recvs _ p q) x e t h
+
+  -- one event more
+  pub sent-more : (x p q : ℕ) → sends t p q (suc x) ≡ true → sent t p q (suc x) ≡ suc (sent t p q x)
+  unfolding sent
+  sent-more x p q h = cnt-suc (sends t p q) x h
+
+  pub sent-same : (x p q : ℕ) → sends t p q (suc x) ≡ false → sent t p q (suc x) ≡ sent t p q x
+  unfolding sent
+  sent-same x p q h = cnt-skip (sends t p q) x h
+
+  pub rcvd-more : (x p q : ℕ) → recvs t p q (suc x) ≡ true → rcvd t p q (suc x) ≡ suc (rcvd t p q x)
+  unfolding rcvd
+  rcvd-more x p q h = cnt-suc (recvs t p q) x h
+
+  pub rcvd-same : (x p q : ℕ) → recvs t p q (suc x) ≡ false → rcvd t p q (suc x) ≡ rcvd t p q x
+  unfolding rcvd
+  rcvd-same x p q h = cnt-skip (recvs t p q) x h
 
   -- the event of a message's number
   pub send-of : (p q k x : ℕ) → 0 < k → k ≤ sent t p q x → (d : ℕ) × (0 < d) × (d ≤ x) × (sends t p q d ≡ true) × (sent t p q d ≡ k)

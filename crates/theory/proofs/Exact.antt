@@ -10,7 +10,7 @@ use lib.ListN.{length, length-map}
 use Rattle.theory.specs.Lists.{sum, iv, keep, no-one}
 use Rattle.theory.specs.Events.{size, sent}
 use Rattle.theory.specs.Line.{Run, kept, LossFree}
-use Rattle.theory.specs.Replay.{State, hand, listed, keptOn, start, ready, step, handStep, handing}
+use Rattle.theory.specs.Replay.{State, hand, keptOn, start, ready, step, handStep, handing}
 use Rattle.theory.specs.Order.{carriedOut, run, steps, Complete}
 use Rattle.theory.specs.Answers.{messages, keptOnes, exactSteps}
 use Rattle.theory.specs.Inner.Laws.{Laws}

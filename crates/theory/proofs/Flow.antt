@@ -4,16 +4,16 @@
 use mathlib.Core.Path.{_≡_, refl, sym, _∙_, ap, subst}
 use mathlib.Core.Logic.{inl, inr}
 use mathlib.Core.Bool.{Bool, true, false, _&&_, cond}
-use mathlib.Core.List.{List, [], _∷_, _++_, map, append-assoc}
+use mathlib.Core.List.{List, [], _∷_, _++_, append-assoc}
 use mathlib.Core.Option.{some, Option·some-injective, Option·none-ne-some}
 use Prim.Native.Nat.{ℕ, suc, _+_, _-_, _≤_, _<_}
 use native.Mathlib.Omega.{arith}
-use lib.ListN.{length, length-append}
+use lib.ListN.{length-append}
 use lib.Dec.{leb, ltb, eqb}
 use borrow.Author.Tests.{leb-true, leb-false, eqb-true, lt-ltb, le-ltb, eq-eqb}
 use Rattle.theory.specs.Lists.{iv, keep, put}
 use Rattle.theory.specs.Inner.Lists.{has}
-use Rattle.theory.specs.Events.{Kind, send, recv, other, size, at, kind, sent, rcvd}
+use Rattle.theory.specs.Events.{Kind, send, recv, other, size, at, kind, sent}
 use Rattle.theory.specs.Line.{Run, orphan, orphanPhase}
 use Rattle.theory.specs.Replay.{Choice, process, hand, State, listed, resends, ready, gate, start, moved, sending, taking, handing, sendStep, recvStep, eventStep, processStep, handStep, step}
 use Rattle.theory.proofs.Base.{by, on, clash, le?, both, same2, eqb-self, keep-head, has-keep-is, has-iv-not}

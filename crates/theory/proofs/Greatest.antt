@@ -3,11 +3,12 @@
 use mathlib.Core.Path.{_≡_, refl, sym, subst}
 use mathlib.Core.Logic.{_⊎_}
 use mathlib.Core.Bool.{Bool, true, false, cond}
-use mathlib.Core.Option.{Option, none, some, Option·some-injective, Option·none-ne-some}
+use mathlib.Core.Option.{Option, none, some, Option·none-ne-some}
 use Prim.Native.Nat.{ℕ, zero, suc, _*_, _≤_, _<_}
 use native.Mathlib.Omega.{arith}
 use lib.Dec.{eqb}
 use borrow.Author.Tests.{eqb-true, ne-eqb}
+use Rattle.words.proofs.Cases.{cond-some}
 use Rattle.trace.specs.Trace.{Trace}
 use Rattle.theory.specs.Lists.{ifSome, first, sum}
 use Rattle.theory.specs.Events.{size}
@@ -57,10 +58,6 @@ module _ (t : Trace) (rule : Rule) (A : Valid t) (cut : ℕ) (cl : cut ≤ size 
   pick-none true f h = absurd (Option·none-ne-some f (sym h))
   pick-none false f h = refl
 
-  pick-some : (b : Bool) (f g : ℕ → ℕ) → cond b (some f) none ≡ some g → (b ≡ true) × (f ≡ g)
-  pick-some true f g h = (refl, Option·some-injective f g h)
-  pick-some false f g h = absurd (Option·none-ne-some g h)
-
   -- nothing left to lower: nothing is lost
   lowered-none : (m : ℕ → ℕ) → lowered t rule cut usable m ≡ none → LossFree (recorded t rule cut m)
   unfolding lowered
@@ -78,7 +75,7 @@ module _ (t : Trace) (rule : Rule) (A : Valid t) (cut : ℕ) (cl : cut ≤ size 
       let a = first-some (λ p. first (λ q. first (λ k. lowerIf t rule cut usable m p q k) (suc (size t))) (t .procs)) (t .procs) n h in
       let b = first-some (λ q. first (λ k. lowerIf t rule cut usable m (a .0) q k) (suc (size t))) (t .procs) n (a .2) in
       let c = first-some (λ k. lowerIf t rule cut usable m (a .0) (b .0) k) (suc (size t)) n (b .2) in
-      let d = pick-some (lost (recorded t rule cut m) (a .0) (b .0) (c .0)) _ n (c .2) in
+      let d = cond-some (lost (recorded t rule cut m) (a .0) (b .0) (c .0)) _ n (c .2) in
       (a .0, b .0, c .0, d .0, d .1)
 
   lowering-greatest : (c : ℕ) (m : ℕ → ℕ) → Above t rule cut usable failed m → sum (t .procs) m ≤ c → Greatest t rule cut usable failed (lowering t rule cut usable c m)

@@ -2,7 +2,6 @@
 use mathlib.Core.Path.{_≡_, refl, sym, _∙_}
 use mathlib.Core.Logic.{_⊎_, inl, inr, _↔_}
 use mathlib.Core.Bool.{Bool, true, false, _&&_, _||_, not, cond}
-use mathlib.Core.List.{[]}
 use Prim.Native.Nat.{ℕ, zero, suc, _+_, _-_, _*_, _/_, _%_, _^_, _≤_, _<_}
 use native.Mathlib.Omega.{arith}
 use native.Mathlib.Nat.{div-eq-of-lt, mod-lt, pow-suc}
@@ -10,11 +9,11 @@ use lib.Dec.{leb, ltb, eqb}
 use lib.Pow.{pow-pos, pow-mono, pow-lt, split, high}
 use lib.Count.{leading-top}
 use borrow.Author.Tests.{leb-true, leb-false, ltb-true, ltb-false, eqb-true, eqb-false, lt-ltb, le-ltb, le-leb, lt-leb, eq-eqb, ne-eqb}
-use Rattle.trace.specs.Trace.{Trace}
+use Rattle.trace.specs.Trace.{Trace, started}
 use Rattle.theory.specs.Events.{size}
 use Rattle.theory.specs.Epochs.{Rule, ruleOf}
 use Rattle.theory.specs.Line.{inSet, Permitted, usableAt}
-use Rattle.theory.specs.Refusals.{failureOr, failureFault, permits, lineFault}
+use Rattle.theory.specs.Refusals.{stepOr, setOr, failureFault, permits, lineFault}
 use Rattle.theory.specs.Inner.Refusals.{FitFailure, FitLine}
 use Rattle.theory.proofs.Base.{by, on, clash, le?, both, or-right, all-true, all-at}
 
@@ -85,7 +84,7 @@ or-next false k rest n h e = (refl, e)
 
 module _ (t : Trace) (step set : ℕ) where
   -- where no number is given for the failure, what is looked for next decides
-  failure-rest : (rest : ℕ) → FitFailure t step set → failureOr t step set rest ≡ rest
+  failure-rest : (rest : ℕ) → FitFailure t step set → stepOr t step (setOr t set rest) ≡ rest
   failure-rest rest f =
       let a : ltb (size t) step ≡ false = le-ltb _ _ (f .step-most) in
       let n : 0 < set = (set-named set .1) (f .set-some) in
@@ -94,7 +93,7 @@ module _ (t : Trace) (step set : ℕ) where
       rw (a, b, c) refl
 
   -- and a number that is neither 8 nor 9 is the rest's
-  failure-else : (rest n : ℕ) → (n ≡ 8 → ⊥) → (n ≡ 9 → ⊥) → failureOr t step set rest ≡ n → FitFailure t step set × (rest ≡ n)
+  failure-else : (rest n : ℕ) → (n ≡ 8 → ⊥) → (n ≡ 9 → ⊥) → stepOr t step (setOr t set rest) ≡ n → FitFailure t step set × (rest ≡ n)
   failure-else rest m n8 n9 e =
       let x = or-next (ltb (size t) step) 8 (cond (eqb set 0 || leb (2 ^ (t .procs)) set) 9 rest) m n8 e in
       let y = or-next (eqb set 0 || leb (2 ^ (t .procs)) set) 9 rest m n9 (x .1) in
@@ -113,7 +112,7 @@ module _ (t : Trace) (step set : ℕ) where
   failure-fit = (λ e. failure-else 0 0 (λ z. omega arith) (λ z. omega arith) e .0, failure-rest 0)
 
   -- 8 and 9, whatever is looked for next
-  or-8 : (rest : ℕ) → (rest ≡ 8 → ⊥) → (failureOr t step set rest ≡ 8) ↔ (size t < step)
+  or-8 : (rest : ℕ) → (rest ≡ 8 → ⊥) → (stepOr t step (setOr t set rest) ≡ 8) ↔ (size t < step)
   or-8 rest n = (
     λ e. by (ltb (size t) step) (λ a. ltb-true _ _ a) (λ a. by (eqb set 0 || leb (2 ^ (t .procs)) set)
         (λ b. absurd (let z : 9 ≡ 8 = rw (a, b) at e in omega arith))
@@ -124,7 +123,7 @@ module _ (t : Trace) (step set : ℕ) where
   abbrev Beyond : Type 0
   Beyond = (set ≡ 0) ⊎ ((z : ℕ) × (t .procs ≤ z) × (inSet set z ≡ true))
 
-  or-9 : (rest : ℕ) → (rest ≡ 9 → ⊥) → (failureOr t step set rest ≡ 9) ↔ ((step ≤ size t) × Beyond)
+  or-9 : (rest : ℕ) → (rest ≡ 9 → ⊥) → (stepOr t step (setOr t set rest) ≡ 9) ↔ ((step ≤ size t) × Beyond)
   or-9 rest n = (
     λ e. by (ltb (size t) step) (λ a. absurd (let z : 8 ≡ 9 = rw a at e in omega arith)) (λ a. (
       ltb-false _ _ a,
@@ -198,9 +197,6 @@ module _ (t : Trace) (step set count : ℕ) (line : ℕ → ℕ) where
 -- ---- Rows: of two processes and no event, the sets that name 2; none; 0 and 1; the step 1, with the set that names
 -- none
 
-abbrev pub quiet : Trace
-quiet = record { procs = 2; events = [] }
-
-pub rows : (failureFault quiet 0 4 ≡ 9) × (failureFault quiet 0 0 ≡ 9) × (failureFault quiet 0 3 ≡ 0) × (failureFault quiet 1 0 ≡ 8)
+pub rows : (failureFault (started 2) 0 4 ≡ 9) × (failureFault (started 2) 0 0 ≡ 9) × (failureFault (started 2) 0 3 ≡ 0) × (failureFault (started 2) 1 0 ≡ 8)
 unfolding failureFault
 rows = (refl, refl, refl, refl)

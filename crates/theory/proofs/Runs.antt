@@ -1,5 +1,4 @@
--- Runs that tell the definitions from plausible mistakes (PROOF-PLAN, section 8), by computation from the definitions
--- alone.
+-- Runs that tell the definitions from plausible mistakes, by computation from the definitions alone.
 use mathlib.Core.Path.{_≡_, refl}
 use mathlib.Core.Bool.{Bool, true, false, _&&_, not}
 use mathlib.Core.List.{List, [], _∷_, map}
@@ -8,17 +7,17 @@ use Prim.Native.Nat.{ℕ}
 use lib.Dec.{eqb}
 use Rattle.trace.specs.declared.Event.{Event}
 use Rattle.trace.specs.declared.Event.the-variants.{Send, Recv, Save}
-use Rattle.trace.specs.Trace.{Trace, count}
+use Rattle.trace.specs.Trace.{count}
 use Rattle.trace.specs.Fit.{wellFormed, allFit, eventFault}
 use Rattle.theory.specs.Lists.{iv, keep, cnt, place, lastOf, no-one, all-below, sum, first}
 use Rattle.theory.specs.Events.{eventAt, at, kind, sends, recvs, checkpoints, sent, rcvd, sendOf, recvOf, value}
 use Rattle.theory.specs.Epochs.{note, notes, loggedBy}
-use Rattle.theory.specs.Line.{inSet, Run, sentBefore, sentAfter, received, receivedBefore, undone, lost, orphan, kept, orphanPhase, restartIn, highest, lowered, lowering, greatestLine, runAt, engineLine}
+use Rattle.theory.specs.Line.{Run, sentBefore, sentAfter, received, receivedBefore, undone, lost, orphan, kept, orphanPhase, restartIn, highest, lowered, lowering, greatestLine, runAt, engineLine}
 use Rattle.theory.specs.Replay.{listed, keptOn, takenBy, resends, ready, gate, sendStep, recvStep, eventStep, processStep, handStep, step}
 use Rattle.theory.specs.Inner.Record.{delivered, faultless}
 use Rattle.theory.specs.Order.{choiceOf, choose, carry, run, steps, mostSteps, isNone, lowest, lowestFrom, complete}
 use Rattle.theory.specs.Answers.{lineOf, Listed, gather, messages, orphans, exactSteps}
-use Rattle.theory.specs.Inner.Tests.{samePairs, sameRecord, placeOf, leaves}
+use Rattle.theory.specs.Inner.Tests.{two, samePairs, sameRecord, placeOf, leaves}
 
 -- all that a row computes with
 unfoldable pub opens : ℕ
@@ -31,9 +30,6 @@ every [] = true
 every (b ∷ bs) = b && every bs
 
 -- a trace of two processes, recovered under document 01's rule
-abbrev two : List Event → Trace
-two es = record { procs = 2; events = es }
-
 abbrev at-cut : List Event → ℕ → List ℕ → Run
 at-cut es cut l = runAt (two es) cut (lineOf l)
 
@@ -51,6 +47,10 @@ completes R order = leaves (λ s. isNone (lowest R s) && sameRecord R s) (run R 
 abbrev pub differs : Run → List ℕ → Bool
 differs R order =
     leaves (λ s. isNone (lowest R s) && (all-below (R .trace .procs) (λ z. no-one (λ e. true) (s .todo z)) && not (sameRecord R s))) (run R order)
+
+-- from a line of a trace one order is refused at its first choice, and another is complete as above
+abbrev waits : List Event → ℕ → List ℕ → List ℕ → List ℕ → Bool
+waits es cut l early later = stops (at-cut es cut l) early 1 && completes (at-cut es cut l) later
 
 -- the order is complete with as many steps as document 02's formula says; it is complete with another number of them
 abbrev exact : Run → List ℕ → Bool
@@ -91,128 +91,77 @@ t10 = Send 0 1 0 ∷ Recv 1 0 ∷ Send 0 1 0 ∷ Recv 1 0 ∷ []
 abbrev t12 : List Event
 t12 = Send 0 1 5 ∷ Send 0 1 6 ∷ Recv 1 0 ∷ Recv 1 0 ∷ []
 
--- ---- The rows. Each has its own proof, so that a definition that is wrong names the row that it makes false.
+-- ---- The rows. Each is a theorem of its own, so that a definition that is wrong names the row that it makes false.
 
 -- all these traces are well formed
-unfoldable fit : Bool
-fit = every (map (λ es. wellFormed (two es)) (t1 ∷ t2 ∷ t4 ∷ t6 ∷ t7 ∷ t8 ∷ t10 ∷ t12 ∷ []))
-
-fit-holds : fit ≡ true
-unfolding opens fit every
-fit-holds = refl
+fit : every (map (λ es. wellFormed (two es)) (t1 ∷ t2 ∷ t4 ∷ t6 ∷ t7 ∷ t8 ∷ t10 ∷ t12 ∷ [])) ≡ true
+unfolding opens every
+fit = refl
 
 -- an orphan's phase is its sender's at the send
-unfoldable d1 : Bool
-d1 = only-orphan (orphans (at-cut t1 3 (1 ∷ 32 ∷ []))) 1
-
-d1-holds : d1 ≡ true
-unfolding opens d1 every
-d1-holds = refl
+d1 : only-orphan (orphans (at-cut t1 3 (1 ∷ 32 ∷ []))) 1 ≡ true
+unfolding opens
+d1 = refl
 
 -- a staying process waits for its phase at the cut, one that goes back does not wait for the orphans that it sends
 -- first itself
-unfoldable d2 : Bool
-d2 = stops (at-cut t2 2 (1 ∷ 32 ∷ [])) (1 ∷ []) 1 && completes (at-cut t2 2 (1 ∷ 32 ∷ [])) (0 ∷ 1 ∷ [])
-
-d2-holds : d2 ≡ true
-unfolding opens d2 every
-d2-holds = refl
+d2 : waits t2 2 (1 ∷ 32 ∷ []) (1 ∷ []) (0 ∷ 1 ∷ []) ≡ true
+unfolding opens
+d2 = refl
 
 -- a kept message waits for its own phase
-unfoldable d3 : Bool
-d3 = stops (at-cut t2 3 (1 ∷ 32 ∷ [])) (128 ∷ []) 1 && completes (at-cut t2 3 (1 ∷ 32 ∷ [])) (0 ∷ 128 ∷ [])
-
-d3-holds : d3 ≡ true
-unfolding opens d3 every
-d3-holds = refl
+d3 : waits t2 3 (1 ∷ 32 ∷ []) (128 ∷ []) (0 ∷ 128 ∷ []) ≡ true
+unfolding opens
+d3 = refl
 
 -- a process that goes back waits for its phase at restart, less 1
-unfoldable d4 : Bool
-d4 = stops (at-cut t4 4 (1 ∷ 2 ∷ [])) (1 ∷ []) 1 && completes (at-cut t4 4 (1 ∷ 2 ∷ [])) (0 ∷ 1 ∷ [])
-
-d4-holds : d4 ≡ true
-unfolding opens d4 every
-d4-holds = refl
+d4 : waits t4 4 (1 ∷ 2 ∷ []) (1 ∷ []) (0 ∷ 1 ∷ []) ≡ true
+unfolding opens
+d4 = refl
 
 -- a kept message waits for no more than its own phase
-unfoldable d6 : Bool
-d6 = completes (at-cut t6 5 (1 ∷ 32 ∷ [])) (0 ∷ 128 ∷ 0 ∷ 0 ∷ [])
-
-d6-holds : d6 ≡ true
-unfolding opens d6 every
-d6-holds = refl
+d6 : completes (at-cut t6 5 (1 ∷ 32 ∷ [])) (0 ∷ 128 ∷ 0 ∷ 0 ∷ []) ≡ true
+unfolding opens
+d6 = refl
 
 -- a logged receive raises the phase above the message's
-unfoldable d7 : Bool
-d7 = completes (at-cut t7 7 (2 ∷ 32 ∷ [])) (0 ∷ 128 ∷ 0 ∷ 0 ∷ [])
-
-d7-holds : d7 ≡ true
-unfolding opens d7 every
-d7-holds = refl
+d7 : completes (at-cut t7 7 (2 ∷ 32 ∷ [])) (0 ∷ 128 ∷ 0 ∷ 0 ∷ []) ≡ true
+unfolding opens
+d7 = refl
 
 -- a message in transit at the cut is kept, and a send on its channel waits for it
-unfoldable d8 : Bool
-d8 = stops (at-cut t8 1 (32 ∷ 1 ∷ [])) (0 ∷ []) 1 && completes (at-cut t8 1 (32 ∷ 1 ∷ [])) (65 ∷ 0 ∷ 1 ∷ [])
-
-d8-holds : d8 ≡ true
-unfolding opens d8 every
-d8-holds = refl
+d8 : waits t8 1 (32 ∷ 1 ∷ []) (0 ∷ []) (65 ∷ 0 ∷ 1 ∷ []) ≡ true
+unfolding opens
+d8 = refl
 
 -- a message of equal epochs is lost, and a record that has another in its place differs, though the value is the same
-unfoldable d9 : Bool
-d9 = differs (at-cut t8 3 (32 ∷ 1 ∷ [])) (65 ∷ 1 ∷ [])
-
-d9-holds : d9 ≡ true
-unfolding opens d9 every
-d9-holds = refl
+d9 : differs (at-cut t8 3 (32 ∷ 1 ∷ [])) (65 ∷ 1 ∷ []) ≡ true
+unfolding opens
+d9 = refl
 
 -- an orphan that is sent again is dropped
-unfoldable d10 : Bool
-d10 = completes (at-cut t10 2 (1 ∷ 32 ∷ [])) (0 ∷ 0 ∷ 1 ∷ [])
-
-d10-holds : d10 ≡ true
-unfolding opens d10 every
-d10-holds = refl
+d10 : completes (at-cut t10 2 (1 ∷ 32 ∷ [])) (0 ∷ 0 ∷ 1 ∷ []) ≡ true
+unfolding opens
+d10 = refl
 
 -- the greatest line sends back the sender of a lost message, and not the receiver of an orphan
-unfoldable d11 : Bool
-d11 = eqb (line-of t8 3 2 0) 1 && (eqb (line-of t8 3 2 1) 1 && (eqb (line-of t10 2 1 0) 1 && eqb (line-of t10 2 1 1) 32))
-
-d11-holds : d11 ≡ true
-unfolding opens d11 every
-d11-holds = refl
+d11 : (eqb (line-of t8 3 2 0) 1 && (eqb (line-of t8 3 2 1) 1 && (eqb (line-of t10 2 1 0) 1 && eqb (line-of t10 2 1 1) 32))) ≡ true
+unfolding opens
+d11 = refl
 
 -- a receive needs a message in the channel; kept messages go in oldest first
-unfoldable d12 : Bool
-d12 = stops (at-cut t12 2 (32 ∷ 1 ∷ [])) (1 ∷ []) 1 && completes (at-cut t12 2 (32 ∷ 1 ∷ [])) (65 ∷ 65 ∷ 1 ∷ 1 ∷ [])
-
-d12-holds : d12 ≡ true
-unfolding opens d12 every
-d12-holds = refl
+d12 : waits t12 2 (32 ∷ 1 ∷ []) (1 ∷ []) (65 ∷ 65 ∷ 1 ∷ 1 ∷ []) ≡ true
+unfolding opens
+d12 = refl
 
 -- the formula counts the events after the cut, of a process that stays no others, and every kept message, also one that
 -- nobody receives
-unfoldable d13 : Bool
-d13 = exact (at-cut t10 2 (1 ∷ 32 ∷ [])) (0 ∷ 0 ∷ 1 ∷ []) && exact (at-cut t8 2 (32 ∷ 1 ∷ [])) (65 ∷ 65 ∷ 1 ∷ [])
-
-d13-holds : d13 ≡ true
-unfolding opens d13 every
-d13-holds = refl
+d13 : (exact (at-cut t10 2 (1 ∷ 32 ∷ [])) (0 ∷ 0 ∷ 1 ∷ []) && exact (at-cut t8 2 (32 ∷ 1 ∷ [])) (65 ∷ 65 ∷ 1 ∷ [])) ≡ true
+unfolding opens
+d13 = refl
 
 -- from a line that loses a message a complete order may have fewer steps; that it has as many does not show that none
 -- is lost (row 9); the limit for such lines is twice the events
-unfoldable d14 : Bool
-d14 =
-    inexact (at-cut t10 4 (32 ∷ 1 ∷ [])) []
-    && (exact (at-cut t8 3 (32 ∷ 1 ∷ [])) (65 ∷ 1 ∷ []) && eqb (mostSteps (two t10)) 8)
-
-d14-holds : d14 ≡ true
-unfolding opens d14 every
-d14-holds = refl
-
-rows : List Bool
-rows = fit ∷ d1 ∷ d2 ∷ d3 ∷ d4 ∷ d6 ∷ d7 ∷ d8 ∷ d9 ∷ d10 ∷ d11 ∷ d12 ∷ d13 ∷ d14 ∷ []
-
-table : every rows ≡ true
-unfolding rows every
-table = rw (fit-holds, d1-holds, d2-holds, d3-holds, d4-holds, d6-holds, d7-holds, d8-holds, d9-holds, d10-holds, d11-holds, d12-holds, d13-holds, d14-holds)
+d14 : (inexact (at-cut t10 4 (32 ∷ 1 ∷ [])) [] && (exact (at-cut t8 3 (32 ∷ 1 ∷ [])) (65 ∷ 1 ∷ []) && eqb (mostSteps (two t10)) 8)) ≡ true
+unfolding opens
+d14 = refl

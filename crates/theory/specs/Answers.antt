@@ -1,4 +1,4 @@
--- What an answer holds, as it can be computed: lines, lists of messages, steps, loss, records compared, orders judged.
+-- What an answer holds, as it can be computed: lines, lists of messages, steps.
 use mathlib.Core.Bool.{Bool}
 use mathlib.Core.List.{List, [], _++_, map}
 use Prim.Native.Nat.{ℕ, zero, suc, _+_}

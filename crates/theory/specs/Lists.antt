@@ -1,4 +1,4 @@
--- Small tools: a choice by a test, numbers in a row, what a test keeps or counts of them, sums, one place of a function
+-- Small tools: numbers in a row, what a test keeps or counts of them, sums, one place of a function
 -- changed.
 use mathlib.Core.Bool.{Bool, true, _&&_, not, cond}
 use mathlib.Core.List.{List, [], _∷_}

@@ -15,16 +15,22 @@ wordOf (Send at to val) = at % 64 + 64 * (to % 64) + 4096
 wordOf (Recv at from) = at % 64 + 64 * (from % 64) + 8192
 wordOf (Save at) = at % 64 + 12288
 
--- The same read back: the kind, two bits; the process at which it happens; the other process, the receiver of a send
--- or the sender of a receive.
-abbrev pub kindIn : ℕ → ℕ
-kindIn w = w / 4096 % 4
-
+-- The same read back: the process at which it happens; the other process, the receiver of a send or the sender of a
+-- receive; and all that stands above them. Of an event's word that is its kind. Check 13, to which any word can come,
+-- asks for all of it: a word with a bit above the kind is no event's.
 abbrev pub processIn : ℕ → ℕ
 processIn w = w % 64
 
 abbrev pub peerIn : ℕ → ℕ
 peerIn w = w / 64 % 64
+
+abbrev pub topIn : ℕ → ℕ
+topIn w = w / 4096
+
+-- the kind of an event's word, two bits (1 a send, 2 a receive, 3 a checkpoint), where the area is known to hold a
+-- trace
+abbrev pub kindIn : ℕ → ℕ
+kindIn w = topIn w % 4
 
 -- an event's value as a word (a value of a well-formed trace is below 4294967296)
 abbrev pub valueWord : Event → ℕ

@@ -1,6 +1,6 @@
 -- Events and traces (document 01, "The trace text"). A process is document 01's zone, a checkpoint its save.
 use Prim.Native.Nat.{ℕ, _+_}
-use mathlib.Core.List.{List, [], _∷_}
+use mathlib.Core.List.{List, [], _∷_, _++_}
 use mathlib.Core.Bool.{Bool, true, false, _&&_}
 use lib.Dec.{eqb}
 use Rattle.trace.specs.declared.Event.{Event}
@@ -10,6 +10,18 @@ use Rattle.trace.specs.declared.Event.the-variants.{Send, Recv, Save}
 pub record Trace : Type 0 where
   pub procs : ℕ
   pub events : List Event
+
+-- A trace is built here and, from a table area's words, in table's `held`: nowhere else are its fields listed.
+-- A run of n processes before its first event.
+abbrev pub started : ℕ → Trace
+started n = record { procs = n; events = [] }
+
+-- the same run with other events; with one event more
+abbrev pub withEvents : Trace → List Event → Trace
+withEvents t es = record { procs = t .procs; events = es }
+
+abbrev pub extended : Trace → Event → Trace
+extended t e = withEvents t (t .events ++ e ∷ [])
 
 -- an event's value: that of the message sent, or 0
 abbrev pub valueOf : Event → ℕ

@@ -1,13 +1,13 @@
 // What a trace is, and events judged one after another. The definitions are in specs/: Trace (events and traces), Fit
-// (which traces are well formed), Table (the words of the table area that hold a trace) and Tally (counters that events
-// are judged by). Assumes nothing.
+// (which traces are well formed), Table (the words of the table area that hold a trace); in specs/Inner: Tally
+// (counters that events are judged by). Assumes nothing.
 ghost use mathlib.Core.List.{List};
 ghost use Prim.Native.Nat.{ℕ, _+_, _-_, _*_, _/_, _%_, _≤_, _<_};
 ghost use lib.ListN.{length, getD, set};
 ghost use Rattle.trace.specs.declared.Event.the-variants.{Send, Recv, Save};
 ghost use Rattle.trace.specs.Inner.Tally.{faultBy, tallied, Next};
 ghost use mathlib.Core.Path.{_≡_};
-ghost use Rattle.trace.specs.Table.{wordOf, valueWord, kindIn, processIn, peerIn};
+ghost use Rattle.trace.specs.Table.{wordOf, valueWord, topIn, kindIn, processIn, peerIn};
 
 // An event of a trace: `ev=send at=A to=B val=V`, `ev=recv at=A from=B`, `ev=save at=A`.
 pub enum Event {
@@ -21,6 +21,12 @@ pub enum Event {
 pub const EVENT_BASE: usize = 16;
 
 pub const VALUE_BASE: usize = 2065;
+
+// The kinds of events: that of an event's word is kind(w). Any other is a checkpoint's, 3 in a word that check 13
+// passes.
+pub const SEND: u32 = 1;
+
+pub const RECEIVE: u32 = 2;
 
 // The word of an event in the table area.
 pub fn word(e: Event) -> u32
@@ -44,11 +50,19 @@ pub fn value(e: Event) -> u32
     }
 }
 
+// All that a word of the table area has above the peer: the kind, where the word is an event's. For a word that may be
+// none.
+pub fn top(w: u32) -> u32
+    ensures { λ r. ⌜ r ≡ topIn w ⌝ }
+{
+    w / 4096
+}
+
 // The kind that an event's word in the table area has: 1 send, 2 receive, 3 checkpoint.
 pub fn kind(w: u32) -> u32
     ensures { λ r. ⌜ r ≡ kindIn w ⌝ }
 {
-    w / 4096 % 4
+    top(w) % 4
 }
 
 // The process at which it happens.

@@ -19,11 +19,18 @@ getD-words f i zero k h = absurd (let z : ⊥ = omega arith in z)
 getD-words f i (suc n) zero h = ap f (omega arith)
 getD-words f i (suc n) (suc k) h = getD-words f (suc i) n k (omega arith) ∙ ap f (omega arith)
 
+pub words-at : (f : ℕ → ℕ) (n k : ℕ) → k < n → getD (wordsFrom f 0 n) k 0 ≡ f k
+words-at f n k h = getD-words f 0 n k h ∙ ap f (omega arith)
+
+-- rules that give the same n words agree on each number below n; so what all of them have can be computed
+pub words-agree : (f g : ℕ → ℕ) (n k : ℕ) → wordsFrom f 0 n ≡ wordsFrom g 0 n → k < n → f k ≡ g k
+words-agree f g n k e h = sym (words-at f n k h) ∙ ap (λ (l : List ℕ). getD l k 0) e ∙ words-at g n k h
+
 -- a list is the words by a rule, if its places are
 pub words-ext : (f : ℕ → ℕ) (n : ℕ) (x : List ℕ) → length x ≡ n → ((k : ℕ) → k < n → getD x k 0 ≡ f k) → x ≡ wordsFrom f 0 n
 words-ext f n x e h =
     ext-getD 0 x (wordsFrom f 0 n) (e ∙ sym (length-words f 0 n))
-    (λ i l. h i (omega arith) ∙ sym (getD-words f 0 n i (omega arith) ∙ ap f (omega arith)))
+    (λ i l. h i (omega arith) ∙ sym (words-at f n i (omega arith)))
 
 -- a word of a clear list, and past its end
 pub zero-word : (n k : ℕ) → _≡_ {A = ℕ} (getD (replicate n 0) k 0) 0

@@ -1,3 +1,5 @@
 pub mod Cases
 pub mod Area
+pub mod Written
 pub mod Zeros
+pub mod Lists

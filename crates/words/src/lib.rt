@@ -3,6 +3,7 @@
 // Assumes nothing.
 ghost use mathlib.Core.Path.{_≡_};
 ghost use lib.ListN.{length, replicate};
+ghost use mathlib.Core.Bool.{cond};
 
 // How many words of a lent area are used: an area with fewer is refused, and words past these are never touched.
 pub const AREA_WORDS: usize = 16384;
@@ -16,6 +17,20 @@ pub fn zero(area: &mut [u32])
         area[i] = 0;
         i += 1;
     }
+}
+
+// 1 for yes, 0 for no.
+pub fn one_if(yes: bool) -> u32
+    ensures { λ r. ⌜ r ≡ cond yes 1 0 ⌝ }
+{
+    if yes { 1 } else { 0 }
+}
+
+// A word, or 0 for no.
+pub fn or_zero(yes: bool, v: u32) -> u32
+    ensures { λ r. ⌜ r ≡ cond yes v 0 ⌝ }
+{
+    if yes { v } else { 0 }
 }
 
 // A word as an index.

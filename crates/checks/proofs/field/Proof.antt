@@ -1,7 +1,7 @@
 -- `checks::field` meets its contract: one more blank has been passed with each turn.
 use Prim.Native.Nat.{_-_, _≤_}
 use mathlib.Core.Path.{_≡_, refl}
-use Rattle.checks.specs.Rows.{fieldPlace}
+use Rattle.checks.specs.Inner.Rows.{fieldPlace}
 use Rattle.checks.proofs.Rows.{field-next}
 use native.Mathlib.Omega.{arith}
 use borrow.Author.Needs.{needs}

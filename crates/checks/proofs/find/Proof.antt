@@ -2,7 +2,7 @@
 use Prim.Native.Nat.{_+_, _-_, _≤_}
 use mathlib.Core.Path.{_≡_, refl, sym, _∙_}
 use lib.ListN.{length, drop}
-use Rattle.checks.specs.Rows.{before}
+use Rattle.checks.specs.Inner.Rows.{before}
 use Rattle.checks.proofs.Rows.{place-past, place-from, before-none, before-here, before-next}
 use native.Mathlib.Omega.{arith}
 use borrow.Author.Needs.{needs}

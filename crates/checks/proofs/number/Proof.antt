@@ -1,6 +1,5 @@
 -- `checks::number` meets its contract: what the field begins with, or nothing.
 use Rattle.checks.proofs.Rows.{number-read, number-none}
-use native.Mathlib.Omega.{arith}
 use borrow.Author.Needs.{needs}
 use Rattle.checks.proofs.number.Statement.{statement}
 use Rattle.checks.proofs.number.Tie as tie

@@ -1,7 +1,6 @@
 -- `checks::put_piece` meets its contract: a number, or the byte itself.
 use Rattle.writer.proofs.Buffers.{same-bytes}
 use Rattle.checks.proofs.Filled.{piece-number, piece-byte}
-use native.Mathlib.Omega.{arith}
 use borrow.Author.Needs.{needs}
 use Rattle.checks.proofs.put_piece.Statement.{statement}
 use Rattle.checks.proofs.put_piece.Tie as tie

@@ -1,7 +1,6 @@
 -- `checks::taken` meets its contract: by cases.
 use Rattle.checks.proofs.Filled.{takes-one, takes-none}
 use native.Mathlib.Omega.{arith}
-use borrow.Author.Needs.{needs}
 use Rattle.checks.proofs.taken.Statement.{statement}
 use Rattle.checks.proofs.taken.Tie as tie
 

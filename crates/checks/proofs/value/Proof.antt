@@ -1,7 +1,6 @@
 -- `checks::value` meets its contract: a list has nothing past its end.
 use mathlib.Core.Path.{sym}
 use lib.ListN.{List·getD-eq-default}
-use native.Mathlib.Omega.{arith}
 use borrow.Author.Needs.{needs}
 use Rattle.checks.proofs.value.Statement.{statement}
 use Rattle.checks.proofs.value.Tie as tie

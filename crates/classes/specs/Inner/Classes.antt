@@ -1,25 +1,19 @@
--- What a class is by the theory's definitions, and what is given: the full table of a trace and where each process
--- restarts.
-use Prim.Native.Nat.{ℕ, _-_, _≤_, _<_}
+-- What a class is by the theory's definitions.
+use Prim.Native.Nat.{ℕ}
 use mathlib.Core.Path.{_≡_}
-use mathlib.Core.Bool.{true}
-use mathlib.Core.List.{List}
-use lib.Dec.{eqb}
-use lib.ListN.{length, getD}
-use Rattle.trace.specs.Trace.{Trace}
-use Rattle.trace.specs.Fit.{wellFormed}
-use Rattle.theory.specs.Events.{size}
-use Rattle.theory.specs.Line.{Run, orphan, kept, lost, restartIn}
-use Rattle.columns.specs.Inner.Columns.{Columns}
+use mathlib.Core.Bool.{Bool, _&&_, not}
+use lib.Dec.{ltb, eqb}
+use Rattle.theory.specs.Events.{sendOf}
+use Rattle.theory.specs.Line.{Run, orphan, kept, lost, receivedBefore}
 
--- The full table of a well-formed trace, a cut within it, and for each process the event that it restarts after.
-pub record GivenRestarts (t : Trace) (line : ℕ → ℕ) (full restarts : List ℕ) (cut : ℕ) : Type 0 where
-  pub fit : wellFormed t ≡ true
-  pub columns : Columns t full
-  pub within : cut ≤ size t
-  pub places : 64 ≤ length restarts
-  pub restart : (z : ℕ) → z < t .procs → getD restarts z 0 ≡ restartIn t cut line z
+-- message k from p to q is sent after its sender's restart, be it after the cut, and not received before its
+-- receiver's: it goes through its channel when a replay sends it
+unfoldable pub upcoming : Run → ℕ → ℕ → ℕ → Bool
+upcoming R p q k = ltb (R .restart p) (sendOf (R .trace) p q k) && not (receivedBefore R p q k)
 
--- what a class says of message k from p to q: 1 an orphan, 2 kept, 3 lost, any other number none of them
-abbrev pub Classed : Run → ℕ → ℕ → ℕ → ℕ → Type 0
-Classed R p q k class = (orphan R p q k ≡ eqb class 1) × (kept R p q k ≡ eqb class 2) × (lost R p q k ≡ eqb class 3)
+-- what a class says of message k from p to q: 1 an orphan, 2 kept, 3 lost, 4 upcoming, any other number none of them
+pub record Classed (R : Run) (p q k class : ℕ) : Type 0 where
+  pub is-orphan : orphan R p q k ≡ eqb class 1
+  pub is-kept : kept R p q k ≡ eqb class 2
+  pub is-lost : lost R p q k ≡ eqb class 3
+  pub is-upcoming : upcoming R p q k ≡ eqb class 4

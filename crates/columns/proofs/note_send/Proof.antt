@@ -10,7 +10,7 @@ add-number-2 : tie.Need-add-number-2
 add-number-2 c =
     let event-no = c .before .before .before .event-no in
     let pre = c .before .before .before .before .before .before .before .pre in
-    let q = rw (← (event-no .ensures .0)) at (pre .1 .3) in omega (arith, q)
+    let q = rw (← (event-no .ensures .0)) at ((pre .1) .number-few) in omega (arith, q)
 
 cast-store : tie.Need-cast-store
 cast-store c =
@@ -30,9 +30,6 @@ slice-write-work-2 c = simp length-set (omega arith)
 slice-write-work-3 : tie.Need-slice-write-work-3
 slice-write-work-3 c = simp length-set (omega arith)
 
-slice-write-work-4 : tie.Need-slice-write-work-4
-slice-write-work-4 c = simp length-set (omega arith)
-
 returns : tie.Need-returns
 returns c =
     let store = c .before .before .store in
@@ -43,4 +40,4 @@ returns c =
 pub note-send-spec : {M : Type 1} → statement M
 note-send-spec =
     tie.close
-    (tie.spec (λ c. search needs) (λ c. search needs) (λ c. search needs) (λ c κs. search needs) (λ c. search needs) (λ c. search needs) (λ c. search needs) (λ c. search needs) (λ c κs. search needs) (λ c. search needs) (λ c. search needs) (λ c. search needs) add-number-2 (λ c. search needs) (λ c. search needs) cast-store (λ c. search needs) (λ c. search needs) (λ c. search needs) cast-store-2 (λ c κs. search needs) (λ c. search needs) (λ c. search needs) (λ c. search needs) (λ c. search needs) (λ c. search needs) (λ c. search needs) slice-write-work-2 (λ c. search needs) (λ c. search needs) (λ c. search needs) slice-write-work-3 (λ c. search needs) (λ c. search needs) slice-write-work-4 (λ c. search needs) (λ c. search needs) returns)
+    (tie.spec (λ c. search needs) (λ c. search needs) (λ c. search needs) (λ c κs. search needs) (λ c. search needs) (λ c. search needs) (λ c. search needs) (λ c. search needs) (λ c κs. search needs) (λ c. search needs) (λ c. search needs) (λ c. search needs) add-number-2 (λ c. search needs) (λ c. search needs) cast-store (λ c. search needs) (λ c. search needs) (λ c. search needs) cast-store-2 (λ c κs. search needs) (λ c. search needs) (λ c. search needs) (λ c. search needs) (λ c. search needs) (λ c. search needs) (λ c. search needs) (λ c. search needs) slice-write-work-2 (λ c. search needs) (λ c. search needs) slice-write-work-3 (λ c. search needs) (λ c. search needs) returns)

@@ -1,20 +1,15 @@
--- `columns::store` meets its contract: the stores themselves.
+-- `columns::store` meets its contract: the number, and the stores of `place`.
+use mathlib.Core.Path.{_∙_}
 use lib.ListN.{length-set}
-use native.Mathlib.Omega.{arith}
 use borrow.Author.Needs.{needs}
 use Rattle.columns.proofs.store.Statement.{statement}
 use Rattle.columns.proofs.store.Tie as tie
 
-slice-write-full-2 : tie.Need-slice-write-full-2
-slice-write-full-2 c = simp length-set (omega arith)
-
-slice-write-full-3 : tie.Need-slice-write-full-3
-slice-write-full-3 c = simp length-set (omega arith)
-
-slice-write-full-4 : tie.Need-slice-write-full-4
-slice-write-full-4 c = simp length-set (omega arith)
+same-length : tie.Need-same-length
+same-length c =
+    let place = c .before .before .place in
+    (place .kept .0) ∙ (simp length-set)
 
 pub store-spec : {M : Type 1} → statement M
 store-spec =
-    tie.close
-    (tie.spec (λ c. search needs) (λ c. search needs) (λ c. search needs) (λ c. search needs) (λ c. search needs) slice-write-full-2 (λ c. search needs) (λ c. search needs) slice-write-full-3 (λ c. search needs) (λ c. search needs) slice-write-full-4 (λ c. search needs) (λ c. search needs))
+    tie.close (tie.spec (λ c. search needs) (λ c. search needs) (λ c. search needs) (λ c κs. search needs) same-length (λ c. search needs))

@@ -1,12 +1,11 @@
 -- The full table: the words of a trace and what the protocol derives from it, a plane of words for each column
--- (docs/LAYOUT.md). `Columns` says what each column means, by the theory's definitions; everything above cites it.
--- `Others` says what the other words are.
+-- (docs/LAYOUT.md). `Columns` says what each column means, by the theory's definitions, `Flagged` which messages are
+-- logged; everything above cites them. `Others` says what the other words are.
 use Prim.Native.Nat.{ℕ, _+_, _<_, _≤_}
 use mathlib.Core.Path.{_≡_}
-use mathlib.Core.Bool.{true}
+use mathlib.Core.Bool.{Bool, true, cond}
 use mathlib.Core.List.{List}
 use lib.ListN.{length, getD}
-use Rattle.words.specs.Area.{areaWords}
 use Rattle.trace.specs.Trace.{Trace}
 use Rattle.trace.specs.Fit.{wellFormed}
 use Rattle.trace.specs.Table.{tableWord}
@@ -26,17 +25,25 @@ phaseBase = 10261
 abbrev pub matchBase : ℕ
 matchBase = 12310
 
--- the words up to here are those of the trace
+-- a receive has no number of its own (it is that of the send it is matched with): its word there says whether the
+-- message that it takes is logged
+abbrev pub loggedBase : ℕ
+loggedBase = 6163
+
+-- the words up to here are those of the trace; the words between them and the first column are free
 abbrev pub traceWords : ℕ
-traceWords = 6163
+traceWords = 4114
+
+-- how many words there are: it is no lent area, and has a size of its own
+abbrev pub fullWords : ℕ
+fullWords = 14359
 
 pub record Columns (t : Trace) (full : List ℕ) : Type 0 where
-  pub whole : length full ≡ areaWords
+  pub whole : length full ≡ fullWords
   -- the trace's own words
   pub words : (k : ℕ) → k < traceWords → getD full k 0 ≡ tableWord t k
-  -- the number of the message that an event sends or receives
+  -- the number of the message that an event sends (that of a receive's is at the send it is matched with)
   pub number-send : (p q e : ℕ) → sends t p q e ≡ true → 0 < e → e ≤ size t → getD full (numberBase + e) 0 ≡ sent t p q e
-  pub number-recv : (p q e : ℕ) → recvs t p q e ≡ true → 0 < e → e ≤ size t → getD full (numberBase + e) 0 ≡ rcvd t p q e
   -- the epoch and the phase of an event's process after the event
   pub epoch : (e : ℕ) → 0 < e → e ≤ size t → getD full (epochBase + e) 0 ≡ epochAt t (ruleOf t) (at t e) e
   pub phase : (e : ℕ) → 0 < e → e ≤ size t → getD full (phaseBase + e) 0 ≡ phaseAt t (ruleOf t) (at t e) e
@@ -44,16 +51,22 @@ pub record Columns (t : Trace) (full : List ℕ) : Type 0 where
   pub match-send : (p q e : ℕ) → sends t p q e ≡ true → 0 < e → e ≤ size t → getD full (matchBase + e) 0 ≡ recvOf t p q (sent t p q e)
   pub match-recv : (p q e : ℕ) → recvs t p q e ≡ true → 0 < e → e ≤ size t → getD full (matchBase + e) 0 ≡ sendOf t p q (rcvd t p q e)
 
--- The words that `Columns` does not name, where the columns of the first x events are filled in a table that was
--- `before`. With x = size t both records together name every word (`one-table` of crate protocol).
+-- Which received messages are logged: the word of a receive is 1 if the message that it takes is, else 0. `L` says it
+-- of message k from p to q: the trace's own rule, or any other marking (the layers above hold for any).
+abbrev pub Flagged : Trace → (ℕ → ℕ → ℕ → Bool) → List ℕ → Type 0
+Flagged t L full = (p q e : ℕ) → recvs t p q e ≡ true → 0 < e → e ≤ size t → getD full (loggedBase + e) 0 ≡ cond (L p q (rcvd t p q e)) 1 0
+
+-- The words that `Columns` and `Flagged` do not name, where the columns of the first x events are filled in a table
+-- that was `before`. With x = size t the three together name every word (`one-table` of crate protocol).
 pub record Others (t : Trace) (x : ℕ) (before after : List ℕ) : Type 0 where
   -- a checkpoint has no message
   pub number-checkpoint : (z e : ℕ) → checkpoints t z e ≡ true → 0 < e → e ≤ x → getD after (numberBase + e) 0 ≡ 0
   pub match-checkpoint : (z e : ℕ) → checkpoints t z e ≡ true → 0 < e → e ≤ x → getD after (matchBase + e) 0 ≡ 0
+  -- the free words are as they were
+  pub free : (k : ℕ) → traceWords ≤ k → k < numberBase → getD after k 0 ≡ getD before k 0
   -- there is no event 0; its word is 0, and a channel's first message gets one more
   pub number-none : getD after numberBase 0 ≡ 0
-  -- the others are as they were: in each column those after event x, up to the next column's event 0, and all words
-  -- after the last column
+  -- the others are as they were: in each column those after event x, up to the next column's event 0
   pub after-number : (k : ℕ) → numberBase + x < k → k ≤ epochBase → getD after k 0 ≡ getD before k 0
   pub after-epoch : (k : ℕ) → epochBase + x < k → k ≤ phaseBase → getD after k 0 ≡ getD before k 0
   pub after-phase : (k : ℕ) → phaseBase + x < k → k ≤ matchBase → getD after k 0 ≡ getD before k 0

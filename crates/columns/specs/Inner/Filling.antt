@@ -2,18 +2,17 @@
 -- and the working words hold after some events. No public contract cites these.
 use Prim.Native.Nat.{ℕ, suc, _+_, _*_, _<_, _≤_}
 use mathlib.Core.Path.{_≡_}
-use mathlib.Core.Bool.{true, cond}
+use mathlib.Core.Bool.{Bool, true, cond}
 use mathlib.Core.List.{List}
 use lib.Dec.{ltb, leb, eqb}
 use lib.ListN.{length, getD, set}
-use Rattle.words.specs.Area.{areaWords}
 use Rattle.trace.specs.declared.Event.{Event}
 use Rattle.trace.specs.declared.Event.the-variants.{Send, Recv, Save}
 use Rattle.trace.specs.Trace.{Trace}
 use Rattle.trace.specs.Table.{tableWord}
 use Rattle.theory.specs.Events.{at, sends, recvs, sent, rcvd, sendOf, recvOf}
-use Rattle.theory.specs.Epochs.{joined, epochAt, phaseAt, ruleOf}
-use Rattle.columns.specs.Inner.Columns.{numberBase, epochBase, phaseBase, matchBase, traceWords}
+use Rattle.theory.specs.Epochs.{joined, epochAt, phaseAt, loggedBy, ruleOf}
+use Rattle.columns.specs.Inner.Columns.{numberBase, epochBase, phaseBase, matchBase, loggedBase, traceWords, fullWords}
 
 -- Working words: process z's epoch at z and its phase at phasesBase + z; of channel c = 64 p + q the oldest send in
 -- transit and the latest send, as events, 0 where there is none; of a send the next send on its channel.
@@ -32,10 +31,12 @@ nextBase = 8320
 abbrev pub workWords : ℕ
 workWords = 10369
 
--- the four columns of an event
+-- the columns of an event; those of one that has a number
+abbrev pub placed : List ℕ → ℕ → ℕ → ℕ → ℕ → List ℕ
+placed full e epoch phase mate = set (set (set full (epochBase + e) epoch) (phaseBase + e) phase) (matchBase + e) mate
+
 abbrev pub stored : List ℕ → ℕ → ℕ → ℕ → ℕ → ℕ → List ℕ
-stored full e number epoch phase mate =
-    set (set (set (set full (numberBase + e) number) (epochBase + e) epoch) (phaseBase + e) phase) (matchBase + e) mate
+stored full e number epoch phase mate = placed (set full (numberBase + e) number) e epoch phase mate
 
 abbrev pub orNew : ℕ → ℕ → ℕ
 orNew old e = cond (eqb old 0) e old
@@ -48,16 +49,23 @@ sendFull full work e a b =
 abbrev pub sendWork : List ℕ → ℕ → ℕ → ℕ → List ℕ
 sendWork work e a b =
     set
-    (set (set (set work (nextBase + getD work (latestBase + (64 * a + b)) 0) e) (nextBase + e) 0) (latestBase + (64 * a + b)) e)
+    (set (set work (nextBase + getD work (latestBase + (64 * a + b)) 0) e) (latestBase + (64 * a + b)) e)
     (oldestBase + (64 * a + b))
     (orNew (getD work (oldestBase + (64 * a + b)) 0) e)
 
--- event e, a receive of a from b: the channel's oldest send d is matched with it
+-- event e, a receive of a from b: the channel's oldest send d is matched with it; whether its message is logged
+abbrev pub recvLogged : List ℕ → List ℕ → ℕ → ℕ → Bool
+recvLogged full work d a = ltb (getD full (epochBase + d) 0) (getD work a 0)
+
 abbrev pub recvPhase : List ℕ → List ℕ → ℕ → ℕ → ℕ
-recvPhase full work d a = joined (ltb (getD full (epochBase + d) 0) (getD work a 0)) (getD work (phasesBase + a) 0) (getD full (phaseBase + d) 0)
+recvPhase full work d a = joined (recvLogged full work d a) (getD work (phasesBase + a) 0) (getD full (phaseBase + d) 0)
 
 abbrev pub recvFull : List ℕ → List ℕ → ℕ → ℕ → ℕ → List ℕ
-recvFull full work e d a = set (stored full e (getD full (numberBase + d) 0) (getD work a 0) (recvPhase full work d a) d) (matchBase + d) e
+recvFull full work e d a =
+    set
+    (set (placed full e (getD work a 0) (recvPhase full work d a) d) (matchBase + d) e)
+    (loggedBase + e)
+    (cond (recvLogged full work d a) 1 0)
 
 abbrev pub recvWork : List ℕ → List ℕ → ℕ → ℕ → ℕ → List ℕ
 recvWork full work d a b = set (set work (phasesBase + a) (recvPhase full work d a)) (oldestBase + (64 * b + a)) (getD work (nextBase + d) 0)
@@ -84,17 +92,17 @@ noteWork full work e (Save a) = saveWork work a
 
 -- the full table after x events
 pub record Filled (t : Trace) (x : ℕ) (full : List ℕ) : Type 0 where
-  pub whole : length full ≡ areaWords
+  pub whole : length full ≡ fullWords
   pub words : (k : ℕ) → k < traceWords → getD full k 0 ≡ tableWord t k
   pub number-none : getD full numberBase 0 ≡ 0
   pub number-send : (p q e : ℕ) → sends t p q e ≡ true → 0 < e → e ≤ x → getD full (numberBase + e) 0 ≡ sent t p q e
-  pub number-recv : (p q e : ℕ) → recvs t p q e ≡ true → 0 < e → e ≤ x → getD full (numberBase + e) 0 ≡ rcvd t p q e
   pub epoch : (e : ℕ) → 0 < e → e ≤ x → getD full (epochBase + e) 0 ≡ epochAt t (ruleOf t) (at t e) e
   pub phase : (e : ℕ) → 0 < e → e ≤ x → getD full (phaseBase + e) 0 ≡ phaseAt t (ruleOf t) (at t e) e
   -- a send is matched once its message is received
   pub match-send : (p q e : ℕ) → sends t p q e ≡ true → 0 < e → e ≤ x
       → getD full (matchBase + e) 0 ≡ cond (leb (sent t p q e) (rcvd t p q x)) (recvOf t p q (sent t p q e)) 0
   pub match-recv : (p q e : ℕ) → recvs t p q e ≡ true → 0 < e → e ≤ x → getD full (matchBase + e) 0 ≡ sendOf t p q (rcvd t p q e)
+  pub flags : (p q e : ℕ) → recvs t p q e ≡ true → 0 < e → e ≤ x → getD full (loggedBase + e) 0 ≡ cond (loggedBy t (ruleOf t) p q (rcvd t p q e)) 1 0
 
 -- the working words after x events
 pub record Working (t : Trace) (x : ℕ) (work : List ℕ) : Type 0 where
@@ -106,15 +114,35 @@ pub record Working (t : Trace) (x : ℕ) (work : List ℕ) : Type 0 where
   pub latest : (p q : ℕ) → p < 64 → q < 64 → getD work (latestBase + (64 * p + q)) 0 ≡ sendOf t p q (sent t p q x)
   pub next : (p q d : ℕ) → sends t p q d ≡ true → 0 < d → d ≤ x
       → getD work (nextBase + d) 0 ≡ cond (ltb (sent t p q d) (sent t p q x)) (sendOf t p q (suc (sent t p q d))) 0
+  -- nothing is linked to an event that is to come
+  pub fresh : (d : ℕ) → x < d → getD work (nextBase + d) 0 ≡ 0
 
 -- the words that an event reads are in their range, so that no index is past its end, no sum wraps and 16 bits are
 -- enough
+pub record SendNotable (full work : List ℕ) (a b : ℕ) : Type 0 where
+  pub at-lt : a < 64
+  pub to-lt : b < 64
+  pub latest-most : getD work (latestBase + (64 * a + b)) 0 ≤ 2048
+  pub number-few : getD full (numberBase + getD work (latestBase + (64 * a + b)) 0) 0 < 4294967295
+
+pub record RecvNotable (full work : List ℕ) (a b : ℕ) : Type 0 where
+  pub at-lt : a < 64
+  pub from-lt : b < 64
+  pub oldest-most : oldestOf work a b ≤ 2048
+  pub phase-few : getD full (phaseBase + oldestOf work a b) 0 < 65535
+
+pub record SaveNotable (work : List ℕ) (a : ℕ) : Type 0 where
+  pub at-lt : a < 64
+  pub epoch-few : getD work a 0 < 65535
+  pub phase-few : getD work (phasesBase + a) 0 < 65535
+
 abbrev pub Notable : List ℕ → List ℕ → Event → Type 0
-Notable full work (Send a b v) =
-    (a < 64) × (b < 64) × (getD work (latestBase + (64 * a + b)) 0 ≤ 2048) × (getD full (numberBase + getD work (latestBase + (64 * a + b)) 0) 0 < 4294967295)
-Notable full work (Recv a b) = (a < 64) × (b < 64) × (oldestOf work a b ≤ 2048) × (getD full (phaseBase + oldestOf work a b) 0 < 65535)
-Notable full work (Save a) = (a < 64) × (getD work a 0 < 65535) × (getD work (phasesBase + a) 0 < 65535)
+Notable full work (Send a b v) = SendNotable full work a b
+Notable full work (Recv a b) = RecvNotable full work a b
+Notable full work (Save a) = SaveNotable work a
 
 -- both tables have their sizes, and the event its place in them
-abbrev pub Storable : List ℕ → List ℕ → ℕ → Type 0
-Storable full work e = (length full ≡ areaWords) × (length work ≡ workWords) × (e ≤ 2048)
+pub record Storable (full work : List ℕ) (e : ℕ) : Type 0 where
+  pub full-long : length full ≡ fullWords
+  pub work-long : length work ≡ workWords
+  pub event-most : e ≤ 2048

@@ -1,5 +1,5 @@
 -- `faults::failure_fault` meets its contract: each way out gives the number that the theory gives.
-use Rattle.recovery_line.proofs.Table.{procs-most, size-most}
+use Rattle.columns.proofs.Full.{procs-most, size-most}
 use Rattle.faults.proofs.Faults.{fault-8, fault-empty, fault-beyond, fault-none}
 use native.Mathlib.Omega.{arith}
 use borrow.Author.Needs.{needs}

@@ -1,26 +1,27 @@
--- The gates of a line, by the theory's definitions.
-use Prim.Native.Nat.{ℕ, _+_, _-_}
-use lib.Dec.{ltb}
-use Rattle.trace.specs.Trace.{Trace}
+-- What the gates of a line are made from.
+use Prim.Native.Nat.{ℕ, _-_, _<_, _≤_}
+use mathlib.Core.Path.{_≡_}
+use mathlib.Core.Logic.{_⊎_}
 use mathlib.Core.Bool.{cond}
-use Rattle.theory.specs.Line.{staysIn, restartIn, runAt}
-use Rattle.theory.specs.Replay.{gate}
-use Rattle.recovery_line.specs.Given.{each, restartPhaseIn}
+use mathlib.Core.List.{List}
+use lib.Dec.{eqb}
+use Rattle.trace.specs.Trace.{Trace}
+use Rattle.theory.specs.Events.{size}
+use Rattle.theory.specs.Epochs.{ruleOf}
+use Rattle.theory.specs.Line.{current}
+use Rattle.columns.specs.Inner.Columns.{Tabled}
+use Rattle.recovery_line.specs.declared.Line.{Line}
+use Rattle.recovery_line.specs.Given.{lineIn}
+use Rattle.positions.specs.Inner.Positions.{Linked}
 
--- ---- The words of each process in `gates`: word z its phase at the restart or its gate, word 64 + z the event that it
--- restarts after, word 128 + z 1 if it stays
+-- a gate, by the line's number and the phase at the restart
+abbrev pub gateBy : ℕ → ℕ → ℕ
+gateBy number phase = cond (eqb number 32) phase (phase - 1)
 
-abbrev pub planes : (ℕ → ℕ) → (ℕ → ℕ) → (ℕ → ℕ) → ℕ → ℕ
-planes a b c k = cond (ltb k 64) (a k) (cond (ltb k 128) (b (k - 64)) (c (k - 128)))
-
-abbrev pub stayWord : (ℕ → ℕ) → ℕ → ℕ
-stayWord line z = cond (staysIn line z) 1 0
-
--- with the phase at the restart
-abbrev pub restartWord : Trace → ℕ → (ℕ → ℕ) → ℕ → ℕ
-restartWord t cut line =
-    planes (each t (restartPhaseIn t cut line)) (each t (restartIn t cut line)) (each t (stayWord line))
-
--- with the gate
-abbrev pub gateWord : Trace → ℕ → (ℕ → ℕ) → ℕ → ℕ
-gateWord t cut line = planes (each t (gate (runAt t cut line))) (each t (restartIn t cut line)) (each t (stayWord line))
+-- the full table of a trace with its events linked, and a line that may be taken
+pub record Settable (t : Trace) (full earlier latest : List ℕ) (line : Line) (cut : ℕ) : Type 0 where
+  pub tabled : Tabled t full
+  pub within : cut ≤ size t
+  pub linked : Linked full cut earlier latest
+  pub count-is : line .count ≡ t .procs
+  pub numbers : (z : ℕ) → z < t .procs → (lineIn line z ≡ 32) ⊎ ((1 ≤ lineIn line z) × (lineIn line z ≤ current t (ruleOf t) cut z))

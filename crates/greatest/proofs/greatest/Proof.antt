@@ -3,9 +3,11 @@
 use mathlib.Core.Path.{_≡_, _∙_}
 use lib.ListN.{length}
 use Rattle.words.proofs.Area.{zero-word}
-use Rattle.recovery_line.proofs.Table.{procs-most, sized}
-use Rattle.lowering.proofs.Worklist.{looking-begins, pending}
-use Rattle.greatest.proofs.Newest.{phases-few, Done, line-done, means-done, epochs-done, phases-done}
+use Rattle.columns.proofs.Full.{procs-most}
+use Rattle.recovery_line.proofs.Table.{sized}
+use Rattle.positions.proofs.Newest.{phases-few}
+use Rattle.lowering.proofs.Worklist.{looking-begins, ranged}
+use Rattle.greatest.proofs.Done.{Done, line-done, means-done, epochs-done, phases-done}
 use native.Mathlib.Omega.{arith}
 use borrow.Author.Needs.{needs}
 use Rattle.greatest.proofs.greatest.Statement.{statement}
@@ -14,25 +16,25 @@ use Rattle.greatest.proofs.greatest.Tie as tie
 processes-requires : tie.Need-processes-requires
 processes-requires c κs =
     let pre = c .before .before .before .pre in
-    ((pre .2 .1 .columns .whole), procs-most (pre .2 .0) _ (pre .2 .1))
+    ((pre .2 .2 .marked .tabled .columns .whole), procs-most (pre .2 .0) _ (pre .2 .2 .marked .tabled))
 
 link-requires : tie.Need-link-requires
 link-requires c κs =
     let pre = c .before .before .before .before .before .before .pre in
-    let S = sized (pre .2 .0) _ (pre .2 .1) _ (pre .2 .2) in (S, search needs, search needs, λ z. zero-word 64 z)
+    let S = sized (pre .2 .0) _ (pre .2 .2 .marked .tabled) _ (pre .2 .2 .cut-in) in record { sized = S; long = search needs; wide = search needs; none = λ z. zero-word 64 z }
 
-newest-epochs-requires : tie.Need-newest-epochs-requires
-newest-epochs-requires c κs =
+epochs-at-requires : tie.Need-epochs-at-requires
+epochs-at-requires c κs =
     let pre = c .before .before .before .before .before .before .before .before .before .before .before .pre in
     let link = c .before .before .before .before .link in
-    let S = sized (pre .2 .0) _ (pre .2 .1) _ (pre .2 .2) in pending _ _ _ _ (looking-begins _ _ _ _ _ (pre .0) (link .ensures)) S
+    let S = sized (pre .2 .0) _ (pre .2 .2 .marked .tabled) _ (pre .2 .2 .cut-in) in ranged _ _ _ _ (looking-begins _ _ _ _ _ (pre .0) (link .ensures)) S
 
 lower-requires : tie.Need-lower-requires
 lower-requires c κs =
     let pre = c .before .before .before .before .before .before .before .before .before .before .before .before .before .before .before .before .before .before .before .before .before .pre in
     let args = c .before .before .before .before .before .before .before .before .before .before .before .before .before .before .before .before .before .before .before .before .before .args in
     let link = c .before .before .before .before .before .before .before .before .before .before .before .before .before .before .link in
-    let S = sized (pre .2 .0) _ (pre .2 .1) _ (pre .2 .2) in (search needs, ((args .cut), S, (link .ensures)))
+    let S = sized (pre .2 .0) _ (pre .2 .2 .marked .tabled) _ (pre .2 .2 .cut-in) in (search needs, ((args .cut), S, (link .ensures)))
 
 restart-phases-requires : tie.Need-restart-phases-requires
 restart-phases-requires c κs =
@@ -41,11 +43,11 @@ restart-phases-requires c κs =
     let args = c .before .before .before .before .before .before .before .before .before .before .before .before .before .before .before .before .before .before .before .before .before .before .before .before .before .before .before .args in
     let link = c .before .before .before .before .before .before .before .before .before .before .before .before .before .before .before .before .before .before .before .before .link in
     let processes = c .before .before .before .before .before .before .before .before .before .before .before .before .before .before .before .before .before .before .before .before .before .before .before .processes in
-    let S = sized (pre .2 .0) _ (pre .2 .1) _ (pre .2 .2) in let B = (lower .ensures .1) (args .cut) S (link .ensures) in (record { whole = S .whole; long = (pre .1); wide = search needs; few = λ z l. omega (arith, B .within z l, S .cut-few) }, search needs, phases-few (pre .2 .0) _ (pre .2 .1) _ (pre .2 .2) _ (processes .ensures .0) _ _ B)
+    let S = sized (pre .2 .0) _ (pre .2 .2 .marked .tabled) _ (pre .2 .2 .cut-in) in let B = (lower .ensures .1) (args .cut) S (link .ensures) in (record { whole = S .whole; long = (pre .1); wide = search needs; few = λ z l. omega (arith, B .within z l, S .cut-few) }, search needs, phases-few (pre .2 .0) _ (pre .2 .2 .marked .tabled) _ (pre .2 .2 .cut-in) _ (processes .ensures .0) _ _ B)
 
 returns : tie.Need-returns
 returns c =
-    let newest-epochs = c .before .before .before .before .before .before .before .before .before .before .before .before .before .before .before .before .before .before .newest-epochs in
+    let epochs-at = c .before .before .before .before .before .before .before .before .before .before .before .before .before .before .before .before .before .before .epochs-at in
     let first-line = c .before .before .before .before .before .before .before .before .before .before .before .before .before .first-line in
     let restart-phases = c .before .before .restart-phases in
     let processes = c .before .before .before .before .before .before .before .before .before .before .before .before .before .before .before .before .before .before .before .before .before .before .before .before .before .before .processes in
@@ -53,13 +55,13 @@ returns c =
     let lower = c .before .before .before .before .before .before .before .before .lower in
     let args = c .before .before .before .before .before .before .before .before .before .before .before .before .before .before .before .before .before .before .before .before .before .before .before .before .before .before .before .before .before .before .args in
     let pre = c .before .before .before .before .before .before .before .before .before .before .before .before .before .before .before .before .before .before .before .before .before .before .before .before .before .before .before .before .before .before .pre in
-    let S = sized (pre .2 .0) _ (pre .2 .1) _ (pre .2 .2) in
+    let S = sized (pre .2 .0) _ (pre .2 .2 .marked .tabled) _ (pre .2 .2 .cut-in) in
     let m : length (first-line .last .1 .1 .1 .0) ≡ 64 = search needs in
     let D : Done (args .full .now) (args .cut) (args .set) (processes .result) _ _ _ _ _ _ _ = record {
       counted = processes .ensures .0;
       linked = link .ensures;
-      epochs-long = (newest-epochs .kept .1 .1 .1 .0) ∙ (pre .0);
-      epochs = newest-epochs .ensures;
+      epochs-long = (epochs-at .kept .1 .1 .1 .0) ∙ (pre .0);
+      epochs = epochs-at .ensures;
       first-long = m;
       first = first-line .ensures .0;
       others = λ z l. (first-line .ensures .1) z l ∙ zero-word 64 z;
@@ -68,9 +70,9 @@ returns c =
       phases-long = (restart-phases .kept .1 .1 .1 .1 .0) ∙ (pre .1);
       phases = restart-phases .ensures;
     } in
-    (λ t g h. line-done t g h D, (λ t g h. means-done t g h D, (λ t g h. epochs-done t g h D, λ t g h. phases-done t g h D)))
+    (λ t u m h. line-done t u m h D, (λ t u m h. means-done t u m h D, (λ t u m h. epochs-done t u m h D, λ t u m h. phases-done t u m h D)))
 
 pub greatest-spec : {M : Type 1} → statement M
 greatest-spec =
     tie.close
-    (tie.spec processes-requires (λ c. search needs) (λ c. search needs) link-requires (λ c. search needs) newest-epochs-requires (λ c. search needs) (λ c κs. search needs) (λ c. search needs) (λ c. search needs) (λ c. search needs) lower-requires (λ c. search needs) (λ c. search needs) restart-phases-requires (λ c. search needs) (λ c. search needs) returns)
+    (tie.spec processes-requires (λ c. search needs) (λ c. search needs) link-requires (λ c. search needs) epochs-at-requires (λ c. search needs) (λ c κs. search needs) (λ c. search needs) (λ c. search needs) (λ c. search needs) lower-requires (λ c. search needs) (λ c. search needs) restart-phases-requires (λ c. search needs) (λ c. search needs) returns)

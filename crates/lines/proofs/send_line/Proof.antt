@@ -1,6 +1,6 @@
 -- `lines::send_line` meets its contract: each way out follows what was read up to there.
 use mathlib.Core.Path.{sym, _∙_}
-use borrow.Author.Tests.{not-true, not-false, eq-eqb, ne-eqb}
+use borrow.Author.Tests.{not-true, not-false}
 use Rattle.text.proofs.Keys.{field-1, field-2, key-within}
 use Rattle.lines.specs.Line.{kTo, kVal, most, sendSaid}
 use native.Mathlib.Omega.{arith}
@@ -96,26 +96,10 @@ returns-6 c =
     let key2 = c .before .before .before .before .before .before .key2 in
     let if2 = c .before .before .before .before .before .if2 in
     let v = c .before .before .v in
-    let if3 = c .if3 in
-    rw (sym (number .ensures) ∙ (a .given .1), sym ((number2 .ensures) ∙ field-1 _ _ kTo _ _ (key .ensures) (not-false _ (if1 .left))) ∙ (b .given .1), sym ((number3 .ensures) ∙ field-1 _ _ kVal _ _ (key2 .ensures) (not-false _ (if2 .left))) ∙ (v .given .1), eq-eqb _ _ (if3 .taken))
-
-returns-7 : tie.Need-returns-7
-unfolding sendSaid
-returns-7 c =
-    let number = c .before .before .before .before .before .before .before .before .before .before .before .before .before .before .before .before .before .before .number in
-    let a = c .before .before .before .before .before .before .before .before .before .before .before .before .before .before .before .before .a in
-    let number2 = c .before .before .before .before .before .before .before .before .before .before .before .number2 in
-    let key = c .before .before .before .before .before .before .before .before .before .before .before .before .before .key in
-    let if1 = c .before .before .before .before .before .before .before .before .before .before .before .before .if1 in
-    let b = c .before .before .before .before .before .before .before .before .before .b in
-    let number3 = c .before .before .before .before .number3 in
-    let key2 = c .before .before .before .before .before .before .key2 in
-    let if2 = c .before .before .before .before .before .if2 in
-    let v = c .before .before .v in
-    let if3 = c .if3 in
-    rw (sym (number .ensures) ∙ (a .given .1), sym ((number2 .ensures) ∙ field-1 _ _ kTo _ _ (key .ensures) (not-false _ (if1 .left))) ∙ (b .given .1), sym ((number3 .ensures) ∙ field-1 _ _ kVal _ _ (key2 .ensures) (not-false _ (if2 .left))) ∙ (v .given .1), ne-eqb _ _ (if3 .left))
+    let when-end = c .when-end in
+    rw (sym (number .ensures) ∙ (a .given .1), sym ((number2 .ensures) ∙ field-1 _ _ kTo _ _ (key .ensures) (not-false _ (if1 .left))) ∙ (b .given .1), sym ((number3 .ensures) ∙ field-1 _ _ kVal _ _ (key2 .ensures) (not-false _ (if2 .left))) ∙ (v .given .1)) (when-end .ensures)
 
 pub send-line-spec : {M : Type 1} → statement M
 send-line-spec =
     tie.close
-    (tie.spec (λ c κs. search needs) (λ c. search needs) (λ c. search needs) returns (λ c. search needs) (λ c κs. search needs) returns-2 add-number (λ c κs. search needs) (λ c. search needs) (λ c. search needs) returns-3 (λ c. search needs) (λ c κs. search needs) returns-4 add-number-2 (λ c κs. search needs) (λ c. search needs) (λ c. search needs) returns-5 returns-6 returns-7)
+    (tie.spec (λ c κs. search needs) (λ c. search needs) (λ c. search needs) returns (λ c. search needs) (λ c κs. search needs) returns-2 add-number (λ c κs. search needs) (λ c. search needs) (λ c. search needs) returns-3 (λ c. search needs) (λ c κs. search needs) returns-4 add-number-2 (λ c κs. search needs) (λ c. search needs) (λ c. search needs) returns-5 (λ c κs. search needs) returns-6)

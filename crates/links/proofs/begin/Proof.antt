@@ -1,5 +1,5 @@
 -- `links::begin` meets its contract: the pass, then the least phase by the area that it leaves.
-use mathlib.Core.Path.{sym, _∙_}
+use mathlib.Core.Path.{sym}
 use Rattle.links.proofs.Beginning.{low-set}
 use borrow.Author.Needs.{needs}
 use Rattle.links.proofs.begin.Statement.{statement}
@@ -9,14 +9,14 @@ link-all-requires : tie.Need-link-all-requires
 link-all-requires c κs =
     let wide = c .before .before .wide in
     let pre = c .before .before .before .before .before .before .before .before .pre in
-    (rw (wide .ensures) ((pre .4) .1), (pre .0), (pre .1), (pre .2), (pre .3), rw (wide .ensures) ((pre .4) .2), ((pre .4) .3))
+    rw (wide .ensures) (pre .events)
 
 lowest-phase-requires : tie.Need-lowest-phase-requires
 lowest-phase-requires c κs =
     let wide2 = c .before .wide2 in
     let pre = c .before .before .before .before .before .before .before .before .before .before .before .before .before .before .before .before .pre in
     let link-all = c .before .before .before .before .before .before .before .link-all in
-    (rw (wide2 .ensures) ((pre .4) .0), (pre .0), (link-all .kept .1 .1 .1 .0) ∙ (pre .3), ((link-all .ensures .1) .1))
+    (rw (wide2 .ensures) (pre .procs-few), record { full-long = (pre .events .full-long); pointed = (link-all .ensures .1 .1) })
 
 returns : tie.Need-returns
 returns c =

@@ -1,5 +1,4 @@
 -- `links::mark` meets its contract: a case for each value of the test.
-use mathlib.Core.Path.{_≡_}
 use Rattle.links.proofs.Passing.{chain-yes, chain-no}
 use borrow.Author.Needs.{needs}
 use Rattle.links.proofs.mark.Statement.{statement}

@@ -1,5 +1,4 @@
 -- `links::mark_record` meets its contract: a case for each value of the test.
-use mathlib.Core.Path.{_≡_}
 use lib.ListN.{length-set}
 use Rattle.links.specs.Inner.Linking.{chainA}
 use native.Mathlib.Omega.{arith}
@@ -7,11 +6,11 @@ use borrow.Author.Needs.{needs}
 use Rattle.links.proofs.mark_record.Statement.{statement}
 use Rattle.links.proofs.mark_record.Tie as tie
 
-pair-requires : tie.Need-pair-requires
-pair-requires c κs =
+matched-requires : tie.Need-matched-requires
+matched-requires c κs =
     let pre = c .before .before .before .pre in
     let if1 = c .if1 in
-    ((pre .0), (pre .1), (pre .3) (if1 .taken))
+    ((pre .full-long), omega (arith, (pre .event-lt)), omega (arith, (pre .matched) (if1 .taken)))
 
 slice-write-area-2 : tie.Need-slice-write-area-2
 slice-write-area-2 c = simp length-set (omega arith)
@@ -20,8 +19,8 @@ returns : tie.Need-returns
 unfolding chainA
 returns c =
     let if1 = c .before .before .before .if1 in
-    let pair = c .before .before .pair in
-    rw ((if1 .taken), (pair .ensures .0))
+    let matched = c .before .before .matched in
+    rw ((if1 .taken), (matched .ensures .0))
 
 returns-2 : tie.Need-returns-2
 unfolding chainA
@@ -32,4 +31,4 @@ returns-2 c =
 pub mark-record-spec : {M : Type 1} → statement M
 mark-record-spec =
     tie.close
-    (tie.spec pair-requires (λ c. search needs) (λ c. search needs) (λ c. search needs) (λ c. search needs) (λ c. search needs) (λ c. search needs) (λ c. search needs) (λ c. search needs) (λ c. search needs) (λ c. search needs) slice-write-area-2 (λ c. search needs) returns returns-2)
+    (tie.spec matched-requires (λ c. search needs) (λ c. search needs) (λ c. search needs) (λ c. search needs) (λ c. search needs) (λ c. search needs) (λ c. search needs) (λ c. search needs) (λ c. search needs) (λ c. search needs) slice-write-area-2 (λ c. search needs) returns returns-2)

@@ -1,5 +1,5 @@
--- What the pass of specs/Linking has done when it has come down to event x: every event after x is linked. Definitions
--- only.
+-- What the pass of specs/Inner/Linking has done when it has come down to event x: every event after x is linked.
+-- Definitions only.
 use mathlib.Core.Path.{_≡_}
 use mathlib.Core.Bool.{Bool, true, _&&_, cond}
 use mathlib.Core.List.{List}

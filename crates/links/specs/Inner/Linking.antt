@@ -1,35 +1,35 @@
 -- What sets the links and the first state of a replay, by words: one pass over the events, from the last to the first.
 -- Definitions only. At an event the pass writes where a test of the full table and the gates holds; `proofs/` says what
 -- the tests mean.
-use mathlib.Core.Bool.{Bool, true, false, cond}
+use mathlib.Core.Bool.{Bool, false, _||_, cond}
 use mathlib.Core.List.{List}
 use Prim.Native.Nat.{ℕ, zero, suc, _+_, _-_, _*_}
 use lib.ListN.{getD, set}
 use lib.Dec.{leb, ltb, eqb}
 use Rattle.machine.specs.Taken.{takenBase}
 use Rattle.machine.specs.Inner.Words.{currentBase, orphanBase, takeBase, putBase, lowPlace, curW, orpW, putW, lowOf}
-use Rattle.columns.specs.Inner.Full.{kindW, peerW, valueW, numberW, atW, epochW, matchW}
-
--- the message that event e sends was received before its receiver's restart; by the cut
-unfoldable pub backW : List ℕ → List ℕ → ℕ → Bool
-backW t g e = cond (eqb (matchW t e) 0) false (leb (matchW t e) (getD g (64 + peerW t e) 0))
-
-unfoldable pub doneW : List ℕ → ℕ → ℕ → Bool
-doneW t cut e = cond (eqb (matchW t e) 0) false (leb (matchW t e) cut)
+use Rattle.columns.specs.Inner.Full.{kindW, peerW, valueW, numberW, atW, matchW}
+use Rattle.classes.specs.Inner.Words.{classW}
 
 -- event e is after the restart of its process
 abbrev pub mineW : List ℕ → List ℕ → ℕ → Bool
 mineW t g e = ltb (getD g (64 + atW t e) 0) e
 
--- event e sends an orphan again
-unfoldable pub orphanW : List ℕ → List ℕ → ℕ → Bool
-orphanW t g e = cond (eqb (kindW t e) 1) (cond (mineW t g e) (backW t g e) false) false
+-- the class of the message that event e sends, 0 where it sends none
+unfoldable pub sentClass : List ℕ → List ℕ → ℕ → ℕ → ℕ
+sentClass t g cut e = cond (eqb (kindW t e) 1) (classW t g cut e) 0
 
--- event e sends a message that goes through its channel: not received before the receiver's restart; and sent after the
--- sender's restart, or not received by the cut, or logged
-unfoldable pub goesW : List ℕ → List ℕ → ℕ → ℕ → Bool
-goesW t g cut e = cond (eqb (kindW t e) 1)
-    (cond (backW t g e) false (cond (mineW t g e) true (cond (doneW t cut e) (ltb (epochW t e) (epochW t (matchW t e))) true))) false
+-- event e sends an orphan again
+abbrev pub orphanW : List ℕ → List ℕ → ℕ → ℕ → Bool
+orphanW t g cut e = eqb (sentClass t g cut e) 1
+
+-- a message of this class goes through its channel: it is kept, or sent after its sender's restart and not received
+-- before its receiver's
+unfoldable pub goesClass : ℕ → Bool
+goesClass c = eqb c 2 || eqb c 4
+
+abbrev pub goesW : List ℕ → List ℕ → ℕ → ℕ → Bool
+goesW t g cut e = goesClass (sentClass t g cut e)
 
 -- event e is a receive before the restart of its process
 unfoldable pub earlyW : List ℕ → List ℕ → ℕ → Bool
@@ -39,19 +39,27 @@ earlyW t g e = cond (eqb (kindW t e) 2) (leb e (getD g (64 + atW t e) 0)) false
 unfoldable pub chainA : Bool → List ℕ → ℕ → ℕ → List ℕ
 chainA b a k v = cond b (set a k v) a
 
+-- the links and the run area with event e of process z on channel c, by the class of the message that it sends
+unfoldable pub sentL : List ℕ → List ℕ → ℕ → ℕ → ℕ → ℕ → List ℕ
+sentL l a z c e class = chainA (goesClass class) (chainA (eqb class 1) l (4 * e + 2) (orpW a z)) (4 * e + 1) (putW a c)
+
+unfoldable pub sentA : List ℕ → ℕ → ℕ → ℕ → ℕ → List ℕ
+sentA a z c e class =
+    chainA (goesClass class) (chainA (goesClass class) (chainA (eqb class 1) a (orphanBase + z) e) (putBase + c) e) (takeBase + c) e
+
 -- the links after event e; the run area after it
 unfoldable pub linkL : List ℕ → List ℕ → ℕ → List ℕ → List ℕ → ℕ → List ℕ
 linkL t g cut l a e =
-    chainA (goesW t g cut e) (chainA (orphanW t g e) (chainA (mineW t g e) l (4 * e) (curW a (atW t e))) (4 * e + 2) (orpW a (atW t e)))
+    chainA (goesW t g cut e) (chainA (orphanW t g cut e) (chainA (mineW t g e) l (4 * e) (curW a (atW t e))) (4 * e + 2) (orpW a (atW t e)))
     (4 * e + 1) (putW a (64 * atW t e + peerW t e))
 
 unfoldable pub linkA : List ℕ → List ℕ → ℕ → List ℕ → ℕ → List ℕ
 linkA t g cut a e =
     chainA (earlyW t g e) (chainA (earlyW t g e)
     (chainA (goesW t g cut e) (chainA (goesW t g cut e)
-    (chainA (orphanW t g e) (chainA (mineW t g e) a (currentBase + atW t e) e) (orphanBase + atW t e) e)
+    (chainA (orphanW t g cut e) (chainA (mineW t g e) a (currentBase + atW t e) e) (orphanBase + atW t e) e)
     (putBase + (64 * atW t e + peerW t e)) e) (takeBase + (64 * atW t e + peerW t e)) e)
-    e (numberW t e)) (takenBase + e) (valueW t (matchW t e))
+    e (numberW t (matchW t e))) (takenBase + e) (valueW t (matchW t e))
 
 -- the run area and the links after the last d of n events
 unfoldable pub linkedA : List ℕ → List ℕ → ℕ → ℕ → ℕ → List ℕ → List ℕ

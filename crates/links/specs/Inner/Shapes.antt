@@ -1,10 +1,14 @@
--- Sizes and ranges of the words that the pass over the events reads and writes, which index safety needs.
+-- Sizes and ranges of the words that the pass over the events reads and writes, which index safety needs: the
+-- preconditions of its functions.
 use Prim.Native.Nat.{ℕ, _≤_, _<_}
 use mathlib.Core.Path.{_≡_}
+use mathlib.Core.Bool.{Bool, true}
 use mathlib.Core.List.{List}
-use lib.ListN.{getD}
-use Rattle.columns.specs.Inner.Full.{kindW, matchW}
-use Rattle.machine.specs.Inner.Words.{Bounded}
+use lib.ListN.{length, getD}
+use Rattle.words.specs.Area.{areaWords}
+use Rattle.columns.specs.Inner.Full.{eventsW, kindW, matchW}
+use Rattle.machine.specs.Inner.Words.{currentBase, lowPlace}
+use Rattle.machine.specs.Inner.Shapes.{FullLong, Pointed}
 
 -- the event that a send's or a receive's message is matched with is one of the trace, or 0
 abbrev pub Paired : List ℕ → ℕ → Type 0
@@ -13,6 +17,47 @@ Paired full e = (kindW full e ≡ 1 → matchW full e < 2049) × (kindW full e �
 unfoldable pub PairedTo : List ℕ → ℕ → Type 0
 PairedTo full n = (e : ℕ) → 0 < e → e ≤ n → Paired full e
 
--- the counts of the table, the matched events and the pointers are in their ranges
-abbrev pub Linkable : List ℕ → List ℕ → Type 0
-Linkable full area = (getD full 0 0 ≤ 64) × (getD full 1 0 < 2049) × PairedTo full (getD full 1 0) × Bounded area
+-- the words that tell an event, and what becomes of the message that it sends
+pub record SendReadable (full gates : List ℕ) (e : ℕ) : Type 0 where
+  pub event-lt : e < 2049
+  pub full-long : FullLong full
+  pub gates-long : 128 ≤ length gates
+  pub paired : Paired full e
+
+-- a link has its place, and so has the pointer that it becomes
+pub record SlotLinkable (links area : List ℕ) (slot k : ℕ) : Type 0 where
+  pub slot-lt : slot < length links
+  pub pointer-le : currentBase ≤ k
+  pub pointer-lt : k < lowPlace
+  pub pointed : Pointed area
+
+-- a process, a channel and an event have theirs
+pub record Placed (z c e : ℕ) : Type 0 where
+  pub process-lt : z < 64
+  pub channel-lt : c < 4096
+  pub event-lt : e < 2049
+
+-- the record of event e has its place, and its message is there where it is asked
+pub record Recordable (full area : List ℕ) (e : ℕ) (before : Bool) : Type 0 where
+  pub event-lt : e < 2049
+  pub full-long : FullLong full
+  pub area-long : length area ≡ areaWords
+  pub matched : before ≡ true → matchW full e < 2049
+
+-- event e can be linked; all n events can; those of the table, and their processes are few
+pub record EventLinkable (full gates links area : List ℕ) (e : ℕ) : Type 0 where
+  pub readable : SendReadable full gates e
+  pub links-long : 8197 ≤ length links
+  pub pointed : Pointed area
+
+pub record AllLinkable (full gates links area : List ℕ) (n : ℕ) : Type 0 where
+  pub count-lt : n < 2049
+  pub full-long : FullLong full
+  pub gates-long : 128 ≤ length gates
+  pub links-long : 8197 ≤ length links
+  pub paired : PairedTo full n
+  pub pointed : Pointed area
+
+pub record Linkable (full gates links area : List ℕ) : Type 0 where
+  pub events : AllLinkable full gates links area (eventsW full)
+  pub procs-few : getD full 0 0 ≤ 64

@@ -7,9 +7,10 @@ use Prim.Native.Nat.{ℕ, _+_, _*_, _^_, _<_}
 use Rattle.words.proofs.Cases.{clash}
 use Rattle.sets.proofs.Sets.{everyone-in, first-lt, rest-less, rest-outside}
 use Rattle.recovery_line.specs.Inner.Words.{Sized}
-use Rattle.lowering.specs.Inner.Lowering.{Linked, undoneW}
+use Rattle.lowering.specs.Inner.Lowering.{undoneW}
+use Rattle.positions.specs.Inner.Positions.{Linked}
 use Rattle.lowering.specs.Inner.Lowering.Lowers.{same}
-use Rattle.lowering.proofs.Worklist.{Working, sumL, looking-begins, pending, look-fits, look-lowers, look-less, looking-next, looking-stops, looking-ends, look-idle, joined-lt, working-ends}
+use Rattle.lowering.proofs.Worklist.{Working, sumL, looking-begins, ranged, look-fits, look-lowers, look-less, looking-next, looking-stops, looking-ends, look-idle, joined-lt, working-ends}
 use native.Mathlib.Omega.{arith}
 use borrow.Author.Needs.{needs}
 use Rattle.lowering.proofs.lower.Statement.{statement}
@@ -34,7 +35,7 @@ undoes-requires c κs =
     let loop = c .before .before .before .before .loop in
     let loop-test = c .before .before .before .loop-test in
     let first = c .before .before .first in
-    let S = (pre .1 .1) in let K = (pre .1 .2) in let W = (loop .inv .1) (pre .1 .0) S K in let p : 0 < (loop .pending) = omega (arith, (loop-test .taken)) in let lz : (first .result) < 64 = omega (arith, (first .ensures), first-lt (loop .pending) p (loop .inv .0)) in (pending _ _ _ _ (W .looking) S, lz)
+    let S = (pre .1 .1) in let K = (pre .1 .2) in let W = (loop .inv .1) (pre .1 .0) S K in let p : 0 < (loop .pending) = omega (arith, (loop-test .taken)) in let lz : (first .result) < 64 = omega (arith, (first .ensures), first-lt (loop .pending) p (loop .inv .0)) in (ranged _ _ _ _ (W .looking) S, lz)
 
 look-requires : tie.Need-look-requires Inv-loop μ-loop
 look-requires c κs =
@@ -45,7 +46,7 @@ look-requires c κs =
     let args = c .before .before .before .before .before .before .before .before .before .before .before .before .before .args in
     let undoes = c .before .before .before .undoes in
     let if1 = c .before .before .if1 in
-    let S = (pre .1 .1) in let K = (pre .1 .2) in let W = (loop .inv .1) (pre .1 .0) S K in let p : 0 < (loop .pending) = omega (arith, (loop-test .taken)) in let lz : (first .result) < 64 = omega (arith, (first .ensures), first-lt (loop .pending) p (loop .inv .0)) in let u : undoneW (args .full .now) (loop .epochs) (loop .latest) (first .result) ≡ true = sym (undoes .ensures) ∙ (if1 .taken) in (K .long, W .looking .wide, lz, look-fits _ _ _ _ (W .looking) _ _ _ S K lz u)
+    let S = (pre .1 .1) in let K = (pre .1 .2) in let W = (loop .inv .1) (pre .1 .0) S K in let p : 0 < (loop .pending) = omega (arith, (loop-test .taken)) in let lz : (first .result) < 64 = omega (arith, (first .ensures), first-lt (loop .pending) p (loop .inv .0)) in let u : undoneW (args .full .now) (loop .epochs) (loop .latest) (first .result) ≡ true = sym (undoes .ensures) ∙ (if1 .taken) in record { long = K .long; wide = W .looking .wide; process = lz; fits = look-fits _ _ _ _ (W .looking) _ _ _ S K lz u }
 
 loop-less : tie.Need-loop-less Inv-loop μ-loop
 loop-less c =

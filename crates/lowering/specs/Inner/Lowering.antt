@@ -1,18 +1,18 @@
 -- A line in words, lowered at one event after another.
-use Prim.Native.Nat.{ℕ, _-_, _<_, _≤_}
+use Prim.Native.Nat.{ℕ, _<_, _≤_}
 use mathlib.Core.Path.{_≡_}
 use mathlib.Core.Bool.{Bool, false, _&&_, not, cond}
 use mathlib.Core.List.{List}
 use lib.ListN.{length, getD, set}
 use lib.Dec.{leb, ltb, eqb}
-use Rattle.words.specs.Area.{areaWords}
 use Rattle.sets.specs.Inner.Sets.{withIn}
-use Rattle.columns.specs.Inner.Full.{atW, peerW, kindW, epochW, matchW}
+use Rattle.columns.specs.Inner.Columns.{fullWords}
+use Rattle.columns.specs.Inner.Full.{atW, peerW, kindW, epochW, matchW, loggedW}
 
 -- Does the line lose a message from p to q, sent by event d and received by event e: q restarts in no later epoch than
 -- the receive's, p in a later one than the send's, and the message is not logged.
 unfoldable pub lostE : List ℕ → List ℕ → ℕ → ℕ → ℕ → ℕ → Bool
-lostE t m p q d e = leb (getD m q 0) (epochW t e) && (ltb (epochW t d) (getD m p 0) && not (ltb (epochW t d) (epochW t e)))
+lostE t m p q d e = leb (getD m q 0) (epochW t e) && (ltb (epochW t d) (getD m p 0) && not (eqb (loggedW t e) 1))
 
 -- does event e receive a message that the line loses
 unfoldable pub lostW : List ℕ → List ℕ → ℕ → Bool
@@ -24,10 +24,17 @@ lowerAt t m e = cond (lostW t m e) (set m (peerW t e) (epochW t (matchW t e))) m
 
 -- the words that are read for that are in their range
 pub record Lowerable (t m : List ℕ) (e : ℕ) : Type 0 where
-  pub whole : length t ≡ areaWords
+  pub whole : length t ≡ fullWords
   pub long : length m ≡ 64
   pub few : e ≤ 2048
   pub matched : kindW t e ≡ 2 → matchW t e ≤ 2048
+
+-- what a look at the newest event of process z reads
+pub record Lookable (t earlier m latest : List ℕ) (z : ℕ) : Type 0 where
+  pub long : length earlier ≡ 2049
+  pub wide : length latest ≡ 64
+  pub process : z < 64
+  pub fits : Lowerable t m (getD latest z 0)
 
 -- the lines that lowering a line at events up to the cut leads to
 pub data Lowers (t : List ℕ) (cut : ℕ) (m : List ℕ) : List ℕ → Type 0 where
@@ -43,26 +50,6 @@ pub record Lowered (t : List ℕ) (cut : ℕ) (m r : List ℕ) : Type 0 where
   pub steps : Lowers t cut m r
   pub none-lost : Rising t cut → (e : ℕ) → 0 < e → e ≤ cut → lostW t r e ≡ false
 
--- e is the newest event of process z up to event x, or 0 where there is none
-pub record Newest (t : List ℕ) (z x e : ℕ) : Type 0 where
-  pub within : e ≤ x
-  pub own : 0 < e → atW t e ≡ z
-  pub others : (y : ℕ) → e < y → y ≤ x → atW t y ≡ z → ⊥
-
--- the events of each process up to event x, linked from the newest back
-pub record Linked (t : List ℕ) (x : ℕ) (earlier latest : List ℕ) : Type 0 where
-  pub long : length earlier ≡ 2049
-  pub wide : length latest ≡ 64
-  pub before : (e : ℕ) → 0 < e → e ≤ x → Newest t (atW t e) (e - 1) (getD earlier e 0)
-  pub last : (z : ℕ) → z < 64 → Newest t z x (getD latest z 0)
-
--- a table, 64 words of a line or the like, and newest events, in their ranges
-pub record Pending (t m latest : List ℕ) : Type 0 where
-  pub whole : length t ≡ areaWords
-  pub long : length m ≡ 64
-  pub wide : length latest ≡ 64
-  pub few : (z : ℕ) → z < 64 → getD latest z 0 ≤ 2048
-
 -- does the line undo the newest event of process z that was not looked at yet
 abbrev pub undoneW : List ℕ → List ℕ → List ℕ → ℕ → Bool
 undoneW t m latest z = ltb 0 (getD latest z 0) && leb (getD m z 0) (epochW t (getD latest z 0))
@@ -71,11 +58,3 @@ undoneW t m latest z = ltb 0 (getD latest z 0) && leb (getD m z 0) (epochW t (ge
 -- have one more
 abbrev pub joinedBy : List ℕ → List ℕ → ℕ → ℕ → ℕ
 joinedBy t m e pending = cond (lostW t m e) (withIn pending (peerW t e)) pending
-
--- of each process the newest event before its restart, 0 where there is none: its epoch is below the line's number, and
--- all later events up to the cut are undone
-pub record Before (t : List ℕ) (cut : ℕ) (m latest : List ℕ) : Type 0 where
-  pub within : (z : ℕ) → z < 64 → getD latest z 0 ≤ cut
-  pub own : (z : ℕ) → z < 64 → 0 < getD latest z 0 → atW t (getD latest z 0) ≡ z
-  pub done : (z : ℕ) → z < 64 → 0 < getD latest z 0 → epochW t (getD latest z 0) < getD m z 0
-  pub undone : (e : ℕ) → 0 < e → e ≤ cut → getD latest (atW t e) 0 < e → getD m (atW t e) 0 ≤ epochW t e

@@ -1,5 +1,4 @@
 -- `machine::allowed` meets its contract: a case for each kind of choice.
-use mathlib.Core.Path.{_≡_}
 use Rattle.machine.proofs.Steps.{allowed-process, allowed-hand, allowed-none}
 use borrow.Author.Needs.{needs}
 use Rattle.machine.proofs.allowed.Statement.{statement}

@@ -1,5 +1,4 @@
 -- `machine::hand_ok` meets its contract.
-use mathlib.Core.Path.{_≡_}
 use native.Mathlib.Omega.{arith}
 use Rattle.machine.proofs.Steps.{hand-kept}
 use borrow.Author.Needs.{needs}

@@ -1,5 +1,4 @@
 -- `machine::kept_phase` meets its contract: a case for each way out.
-use mathlib.Core.Path.{_≡_}
 use Rattle.machine.proofs.Steps.{kept-none, kept-some}
 use borrow.Author.Needs.{needs}
 use Rattle.machine.proofs.kept_phase.Statement.{statement}

@@ -22,8 +22,8 @@ loop-again : tie.Need-loop-again Inv-loop μ-loop
 loop-again c =
     let pointer = c .before .pointer in
     let loop = c .before .before .before .loop in
-    let lower = c .lower in
-    (omega arith, low-next _ _ _ _ _ _ (pointer .ensures .0) (loop .inv .1) (lower .ensures))
+    let least-with = c .least-with in
+    (omega arith, low-next _ _ _ _ _ _ (pointer .ensures .0) (loop .inv .1) (least-with .ensures))
 
 returns : tie.Need-returns Inv-loop μ-loop
 returns c =

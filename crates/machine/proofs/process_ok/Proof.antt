@@ -1,5 +1,4 @@
 -- `machine::process_ok` meets its contract: a case for each way out.
-use mathlib.Core.Path.{_≡_}
 use Rattle.machine.proofs.Steps.{process-none, process-shut, process-open}
 use borrow.Author.Needs.{needs}
 use Rattle.machine.proofs.process_ok.Statement.{statement}

@@ -1,7 +1,5 @@
 -- `machine::send_ok` meets its contract: a case for each way out.
-use mathlib.Core.Path.{_≡_}
 use borrow.Author.Tests.{eq-eqb, ne-eqb}
-use borrow.Author.Needs.{needs}
 use Rattle.machine.proofs.send_ok.Statement.{statement}
 use Rattle.machine.proofs.send_ok.Tie as tie
 

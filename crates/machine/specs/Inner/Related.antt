@@ -6,14 +6,14 @@ use Prim.Native.Nat.{ℕ, _+_, _-_, _*_, _≤_, _<_}
 use lib.ListN.{length, getD}
 use lib.Dec.{leb, ltb}
 use Rattle.theory.specs.Lists.{iv, keep}
-use Rattle.theory.specs.Events.{Kind, send, recv, other, size, at, kind, sends, sent, rcvd, value}
+use Rattle.theory.specs.Events.{Kind, send, recv, other, size, at, kind, sends, sent, rcvd}
 use Rattle.theory.specs.Line.{Run, kept}
-use Rattle.theory.specs.Replay.{State, listed, ready, gate, start}
+use Rattle.theory.specs.Replay.{State, listed, ready, start}
 use Rattle.theory.specs.Inner.Laws.{Laws}
 use Rattle.theory.specs.Inner.Flow.{ahead}
 use Rattle.machine.specs.Taken.{takenBase, recordEnd, takenNumber, takenValue}
-use Rattle.machine.specs.Inner.Words.{currentBase, lowPlace, noPhase, kindBy, curW, orpW, takeW, putW, lowW}
-use Rattle.columns.specs.Inner.Full.{kindW, peerW, valueW, phaseW, numberW}
+use Rattle.machine.specs.Inner.Words.{currentBase, lowPlace, noPhase, curW, orpW, takeW, putW, lowW}
+use Rattle.columns.specs.Inner.Given.{Tells, Gated}
 use Rattle.theory.specs.Inner.Lists.{head0}
 
 module _ (R : Run) where
@@ -36,28 +36,10 @@ module _ (R : Run) where
   abbrev pub orph : ℕ → ℕ → Bool
   orph z e = drops z e (kind (R .trace) e)
 
-  -- The gates are those of the run. Only its own processes are told of: no gate of another is asked, since its pointers
-  -- are 0.
-  pub record Gated (g : List ℕ) : Type 0 where
-    pub gates : (z : ℕ) → z < R .trace .procs → getD g z 0 ≡ gate R z
-    pub places : (z : ℕ) → z < R .trace .procs → getD g (64 + z) 0 ≡ R .restart z
-
-  -- the columns of the table and the gates are those of the run
-  pub record Base (t g : List ℕ) : Type 0 where
-    pub few : size (R .trace) ≤ 2048
-    pub procs-is : getD t 0 0 ≡ R .trace .procs
-    pub kinds : (e : ℕ) → 0 < e → e ≤ size (R .trace) → kind (R .trace) e ≡ kindBy (kindW t e) (peerW t e)
-    pub numbers : (e q : ℕ) → 0 < e → e ≤ size (R .trace) → kind (R .trace) e ≡ send q → numberW t e ≡ sent (R .trace) (at (R .trace) e) q e
-    pub values : (e q : ℕ) → 0 < e → e ≤ size (R .trace) → kind (R .trace) e ≡ send q
-        → valueW t e ≡ value (R .trace) (at (R .trace) e) q (sent (R .trace) (at (R .trace) e) q e)
-    pub phases : (e : ℕ) → 0 < e → e ≤ size (R .trace) → phaseW t e ≡ R .phase (at (R .trace) e) e
-    pub phase-lt : (e : ℕ) → 0 < e → e ≤ size (R .trace) → R .phase (at (R .trace) e) e < noPhase
-    pub gated : Gated g
-    pub gate-lt : (z : ℕ) → z < R .trace .procs → gate R z < noPhase
-
-  -- and the links are
+  -- the table, the gates and the links are those of the run
   pub record Cols (t l g : List ℕ) : Type 0 where
-    pub base : Base t g
+    pub tells : Tells R t
+    pub gated : Gated R g
     pub spread : 8197 ≤ length l
     pub next : (e : ℕ) → 0 < e → e ≤ size (R .trace) → R .restart (at (R .trace) e) < e → getD l (4 * e) 0 ≡ head0 (listed R (at (R .trace) e) e)
     pub next-message : (p q e : ℕ) → 0 < e → e ≤ size (R .trace) → goes p q e ≡ true → getD l (4 * e + 1) 0 ≡ head0 (evs p q e)

@@ -7,7 +7,6 @@ use mathlib.Core.List.{List}
 use Prim.Native.Nat.{ℕ, zero, suc, _+_, _-_, _*_, _/_, _≤_, _<_}
 use lib.ListN.{getD, set}
 use lib.Dec.{ltb, eqb}
-use Rattle.theory.specs.Events.{Kind, send, recv, other}
 use Rattle.columns.specs.Inner.Full.{peerW, kindW, phaseW, valueW, numberW}
 use Rattle.machine.specs.Taken.{takenBase}
 
@@ -31,9 +30,6 @@ lowPlace = 14467
 
 abbrev pub noPhase : ℕ
 noPhase = 4294967295
-
-unfoldable pub kindBy : ℕ → ℕ → Kind
-kindBy k p = cond (eqb k 1) (send p) (cond (eqb k 2) (recv p) other)
 
 -- of the area: the process's next event, its next unsent orphan; the channel's next message to take, to put in; the
 -- least phase of an unsent orphan
@@ -74,12 +70,12 @@ allowedW t g a c = cond (ltb c 64) (processOk t g a c) (cond (ltb c 4160) (handO
 abbrev pub lesser : ℕ → ℕ → ℕ
 lesser x y = cond (ltb x y) x y
 
-abbrev pub lowerW : List ℕ → ℕ → ℕ → ℕ
-lowerW t o low = cond (eqb o 0) low (lesser (phaseW t o) low)
+abbrev pub leastWith : List ℕ → ℕ → ℕ → ℕ
+leastWith t o low = cond (eqb o 0) low (lesser (phaseW t o) low)
 
 unfoldable pub lowOf : List ℕ → List ℕ → ℕ → ℕ
 lowOf t a zero = noPhase
-lowOf t a (suc z) = lowerW t (orpW a z) (lowOf t a z)
+lowOf t a (suc z) = leastWith t (orpW a z) (lowOf t a z)
 
 unfoldable pub movedW : List ℕ → List ℕ → ℕ → ℕ → List ℕ
 movedW l a z e = set a (currentBase + z) (getD l (4 * e) 0)

@@ -3,8 +3,6 @@
 use mathlib.Core.Path.{sym}
 use lib.Seq.{length-take-le}
 use Rattle.words.specs.Area.{areaWords}
-use Rattle.table.specs.Held.{held}
-use Rattle.recovery_line.specs.Given.{lineIn}
 use Rattle.messages.proofs.Listing.{clear-length, front-long, front-clear, back-kept, refuses-messages, lists}
 use borrow.Author.Needs.{needs}
 use Rattle.messages.proofs.messages.Statement.{statement}
@@ -22,14 +20,14 @@ slice-relend-prefix-zero : tie.Need-slice-relend-prefix-zero
 slice-relend-prefix-zero c =
     let prepare = c .before .before .before .prepare in
     let if1 = c .if1 in
-    let P = (prepare .ensures .1) (if1 .left) in P .enough
+    let P = (prepare .ensures .1) (if1 .left) in P .opened .enough
 
 slice-aggregate-zero : tie.Need-slice-aggregate-zero
 slice-aggregate-zero c =
     let prepare = c .before .before .before .before .prepare in
     let if1 = c .before .if1 in
     let args = c .before .before .before .before .before .before .before .before .before .args in
-    let P = (prepare .ensures .1) (if1 .left) in sym (length-take-le areaWords (args .area .now) (P .enough))
+    let P = (prepare .ensures .1) (if1 .left) in sym (length-take-le areaWords (args .area .now) (P .opened .enough))
 
 slice-relend-prefix-list-from : tie.Need-slice-relend-prefix-list-from
 slice-relend-prefix-list-from c =
@@ -37,7 +35,7 @@ slice-relend-prefix-list-from c =
     let if1 = c .before .before .before .before .before .before .if1 in
     let args = c .before .before .before .before .before .before .before .before .before .before .before .before .before .before .args in
     let zero = c .before .before .before .before .zero in
-    let P = (prepare .ensures .1) (if1 .left) in front-long (args .area .now) _ (P .enough) (zero .ensures)
+    let P = (prepare .ensures .1) (if1 .left) in front-long (args .area .now) _ (P .opened .enough) (zero .ensures)
 
 slice-aggregate-list-from-3 : tie.Need-slice-aggregate-list-from-3
 slice-aggregate-list-from-3 c =
@@ -45,7 +43,7 @@ slice-aggregate-list-from-3 c =
     let if1 = c .before .before .before .before .before .before .before .if1 in
     let args = c .before .before .before .before .before .before .before .before .before .before .before .before .before .before .before .args in
     let zero = c .before .before .before .before .before .zero in
-    let P = (prepare .ensures .1) (if1 .left) in sym (clear-length _ (front-clear (args .area .now) _ (P .enough) (zero .ensures)))
+    let P = (prepare .ensures .1) (if1 .left) in sym (clear-length _ (front-clear (args .area .now) _ (P .opened .enough) (zero .ensures)))
 
 list-from-requires : tie.Need-list-from-requires
 list-from-requires c κs =
@@ -54,7 +52,7 @@ list-from-requires c κs =
     let args = c .before .before .before .before .before .before .before .before .before .before .before .before .before .before .before .args in
     let zero = c .before .before .before .before .before .zero in
     let P = (prepare .ensures .1) (if1 .left) in
-    (front-clear (args .area .now) _ (P .enough) (zero .ensures), search needs, (held (args .table .now), lineIn (args .line), P .given))
+    (front-clear (args .area .now) _ (P .opened .enough) (zero .ensures), (_, P .given))
 
 returns-2 : tie.Need-returns-2
 returns-2 c =
@@ -64,7 +62,7 @@ returns-2 c =
     let zero = c .before .before .before .before .before .before .before .before .zero in
     let list-from = c .before .before .list-from in
     let P = (prepare .ensures .1) (if1 .left) in
-    rw (back-kept (args .area .now) _ (P .enough) (zero .ensures)) (lists (args .table .now) (args .area .now) (args .step) (args .set) (args .line) _ _ _ (prepare .ensures .0) (if1 .left) ((list-from .ensures .0) (held (args .table .now)) (lineIn (args .line)) (P .given)) ((list-from .ensures .1 .0) (held (args .table .now)) (lineIn (args .line)) (P .given)) (list-from .ensures .1 .1))
+    rw (back-kept (args .area .now) _ (P .opened .enough) (zero .ensures)) (lists (args .table .now) (args .area .now) (args .step) (args .set) (args .line) _ _ _ (prepare .ensures .0) (if1 .left) ((list-from .ensures .0) _ (P .given)) ((list-from .ensures .1 .0) _ (P .given)) (list-from .ensures .1 .1))
 
 pub messages-spec : {M : Type 1} → statement M
 messages-spec =

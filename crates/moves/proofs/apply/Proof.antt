@@ -1,5 +1,4 @@
 -- `moves::apply` meets its contract: a case for each kind of choice.
-use mathlib.Core.Path.{_≡_}
 use Rattle.moves.proofs.Steps.{apply-process, apply-hand}
 use borrow.Author.Needs.{needs}
 use Rattle.moves.proofs.apply.Statement.{statement}

@@ -3,7 +3,6 @@
 use Prim.Native.Nat.{_-_, _≤_}
 use Rattle.machine.proofs.Steps.{low-found}
 use Rattle.machine.specs.Inner.Words.{lowOf}
-use native.Mathlib.Omega.{arith}
 use borrow.Author.Needs.{needs}
 use Rattle.moves.proofs.lowest_phase_from.Statement.{statement}
 use Rattle.moves.proofs.lowest_phase_from.Tie as tie
@@ -17,28 +16,23 @@ abbrev μ-loop : tie.MeasureT-loop
 loop-holds : tie.Need-loop-holds Inv-loop μ-loop
 loop-holds c =
     let pre = c .before .before .pre in
-    (pre .4)
+    (pre .2)
 
 returns : tie.Need-returns Inv-loop μ-loop
 returns c =
     let loop = c .before .before .before .before .loop in
     let args = c .before .before .before .before .before .before .before .args in
     let pointer = c .before .before .pointer in
-    let lower = c .before .lower in
+    let least-with = c .before .least-with in
     let loop-test = c .before .before .before .loop-test in
     let if1 = c .if1 in
     let pre = c .before .before .before .before .before .before .before .pre in
-    low-found _ _ (loop .z) (args .procs) (pointer .result) (lower .result) (args .least) (loop-test .taken) (pointer .ensures .0) (lower .ensures) (if1 .taken) (pre .4)
+    low-found _ _ (loop .z) (args .procs) (pointer .result) (least-with .result) (args .least) (loop-test .taken) (pointer .ensures .0) (least-with .ensures) (if1 .taken) (pre .2)
 
 loop-again : tie.Need-loop-again Inv-loop μ-loop
 loop-again c =
     let loop = c .before .before .before .before .loop in
     (loop .inv)
-
-lowest-phase-requires : tie.Need-lowest-phase-requires Inv-loop μ-loop
-lowest-phase-requires c κs =
-    let pre = c .before .before .before .before .pre in
-    ((pre .0), (pre .1), (pre .2), (pre .3))
 
 returns-2 : tie.Need-returns-2 Inv-loop μ-loop
 returns-2 c =
@@ -48,4 +42,4 @@ returns-2 c =
 pub lowest-phase-from-spec : {M : Type 1} → statement M
 lowest-phase-from-spec =
     tie.close
-    (tie.spec Inv-loop μ-loop loop-holds (λ c. search needs) (λ c κs. search needs) (λ c κs. search needs) returns (λ c. search needs) (λ c. search needs) loop-again lowest-phase-requires returns-2)
+    (tie.spec Inv-loop μ-loop loop-holds (λ c. search needs) (λ c κs. search needs) (λ c κs. search needs) returns (λ c. search needs) (λ c. search needs) loop-again (λ c κs. search needs) returns-2)

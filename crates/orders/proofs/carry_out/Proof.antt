@@ -5,7 +5,7 @@ use Prim.Native.Nat.{_-_, _≤_}
 use native.Mathlib.Omega.{arith}
 use lib.ListN.{length}
 use Rattle.machine.proofs.Steps.{allowed-lt}
-use Rattle.orders.proofs.Ordering.{run-starts, live-bound, procs-few, links-long, run-bad, run-next, run-end, low-is}
+use Rattle.orders.proofs.Ordering.{readable, movable, run-starts, run-bad, run-next, run-end}
 use Rattle.orders.specs.Inner.Left.{Live}
 use Rattle.theory.specs.Line.{Run}
 use Rattle.theory.specs.Order.{run}
@@ -25,17 +25,19 @@ loop-holds c = (omega arith, refl, λ R S. run-starts R _ _ _ _ S _)
 
 allowed-requires : tie.Need-allowed-requires Inv-loop μ-loop
 allowed-requires c κs =
-    let pre = c .before .before .before .before .before .before .before .before .before .before .pre in
     let loop = c .before .before .before .before .loop in
-    ((pre .0), (pre .1), (loop .inv .1) ∙ (pre .2), live-bound _ _ _ _ _ ((pre .4) .1) _ _ _ _ ((loop .inv .2) ((pre .4) .0) ((pre .4) .1)))
+    let pre = c .before .before .before .before .before .before .before .before .before .before .pre in
+    let live = (loop .inv .2) (pre .run) (pre .started) in
+    readable _ _ _ _ pre _ (loop .inv .1) (live .state) (live .rel) (live .inv)
 
 apply-requires : tie.Need-apply-requires Inv-loop μ-loop
 apply-requires c κs =
+    let loop = c .before .before .before .before .before .before .before .loop in
+    let pre = c .before .before .before .before .before .before .before .before .before .before .before .before .before .pre in
     let allowed = c .before .before .allowed in
     let if1 = c .before .if1 in
-    let pre = c .before .before .before .before .before .before .before .before .before .before .before .before .before .pre in
-    let loop = c .before .before .before .before .before .before .before .loop in
-    (allowed-lt _ _ _ _ (sym (allowed .ensures) ∙ (if1 .taken)), ((pre .0), procs-few _ _ _ _ _ ((pre .4) .1), links-long _ _ _ _ _ ((pre .4) .1), (pre .3), (loop .inv .1) ∙ (pre .2), live-bound _ _ _ _ _ ((pre .4) .1) _ _ _ _ ((loop .inv .2) ((pre .4) .0) ((pre .4) .1)), (let v = (loop .inv .2) ((pre .4) .0) ((pre .4) .1) in low-is _ _ _ _ _ ((pre .4) .1) _ _ (v .1) (v .2))))
+    let live = (loop .inv .2) (pre .run) (pre .started) in
+    (allowed-lt _ _ _ _ (sym (allowed .ensures) ∙ (if1 .taken)), movable _ _ _ _ pre _ (loop .inv .1) (live .state) (live .rel) (live .inv))
 
 loop-again : tie.Need-loop-again Inv-loop μ-loop
 loop-again c =

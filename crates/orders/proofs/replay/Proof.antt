@@ -1,8 +1,7 @@
 -- `orders::replay` meets its contract: the words that it begins with stand for every run that is given.
-use mathlib.Core.Path.{_≡_, refl, _∙_}
-use Rattle.theory.specs.Line.{runAt}
-use Rattle.links.proofs.Beginning.{zeros, links-long, linkable, begun-in, small-in}
-use native.Mathlib.Omega.{arith}
+use mathlib.Core.Path.{refl, _∙_}
+use Rattle.links.proofs.Beginning.{zeros, linkable}
+use Rattle.orders.proofs.Begun.{started, begun}
 use borrow.Author.Needs.{needs}
 use Rattle.orders.proofs.replay.Statement.{statement}
 use Rattle.orders.proofs.replay.Tie as tie
@@ -12,24 +11,26 @@ begin-requires c κs =
     let pre = c .before .before .before .before .before .before .before .before .before .before .pre in
     let zero = c .before .before .before .before .zero in
     let args = c .before .before .before .before .before .before .before .before .before .before .args in
-    ((pre .2) .2 .columns .whole, (pre .1), links-long, (zero .kept .0) ∙ (pre .0), linkable ((pre .2) .0) ((pre .2) .1) _ _ _ ((pre .2) .2) _ _ refl (zeros (args .area .now) _ (pre .0) (zero .ensures)))
+    let H = (pre .1) .1 in
+    linkable ((pre .1) .0) _ _ _ H _ _ refl (zeros (args .area .now) _ (pre .0) (zero .ensures))
 
 replay-in-requires : tie.Need-replay-in-requires
 replay-in-requires c κs =
-    let pre = c .before .before .before .before .before .before .before .before .before .before .before .before .before .before .before .before .pre in
-    let begin = c .before .before .before .before .before .begin in
-    let zero = c .before .before .before .before .before .before .before .before .before .before .zero in
     let args = c .before .before .before .before .before .before .before .before .before .before .before .before .before .before .before .before .args in
-    ((pre .2) .2 .columns .whole, (pre .1), (begin .kept .1 .1 .1 .0) ∙ (zero .kept .0) ∙ (pre .0), small-in ((pre .2) .0) ((pre .2) .1) _ _ _ ((pre .2) .2) _ _ refl (zeros (args .area .now) _ (pre .0) (zero .ensures)) _ (begin .ensures .0), (runAt ((pre .2) .0) (args .cut) ((pre .2) .1), begun-in ((pre .2) .0) ((pre .2) .1) _ _ _ ((pre .2) .2) _ _ refl (zeros (args .area .now) _ (pre .0) (zero .ensures)) _ _ (begin .ensures .0) (begin .ensures .1)))
+    let pre = c .before .before .before .before .before .before .before .before .before .before .before .before .before .before .before .before .pre in
+    let zero = c .before .before .before .before .before .before .before .before .before .before .zero in
+    let begin = c .before .before .before .before .before .begin in
+    begun _ _ _ _ _ _ _ refl (zeros (args .area .now) _ (pre .0) (zero .ensures)) (begin .ensures .0) (begin .ensures .1) ((pre .1) .0) ((pre .1) .1) ((begin .kept .1 .1 .1 .0) ∙ (zero .kept .0) ∙ (pre .0))
 
 returns : tie.Need-returns
 returns c =
-    let replay-in = c .before .before .replay-in in
     let args = c .before .before .before .before .before .before .before .before .before .before .before .before .before .before .before .before .before .before .before .args in
     let pre = c .before .before .before .before .before .before .before .before .before .before .before .before .before .before .before .before .before .before .before .pre in
     let zero = c .before .before .before .before .before .before .before .before .before .before .before .before .before .zero in
     let begin = c .before .before .before .before .before .before .before .before .begin in
-    (λ t line H. (replay-in .ensures .0) (runAt t (args .cut) line) (begun-in t line _ _ _ H _ _ refl (zeros (args .area .now) _ (pre .0) (zero .ensures)) _ _ (begin .ensures .0) (begin .ensures .1)), λ t line H. (replay-in .ensures .1) (runAt t (args .cut) line) (begun-in t line _ _ _ H _ _ refl (zeros (args .area .now) _ (pre .0) (zero .ensures)) _ _ (begin .ensures .0) (begin .ensures .1)))
+    let replay-in = c .before .before .replay-in in
+    let begun = started _ _ _ _ _ _ _ refl (zeros (args .area .now) _ (pre .0) (zero .ensures)) (begin .ensures .0) (begin .ensures .1) in
+    (λ R H. (replay-in .ensures .0) R (begun R H), λ R H. (replay-in .ensures .1) R (begun R H))
 
 pub replay-spec : {M : Type 1} → statement M
 replay-spec =

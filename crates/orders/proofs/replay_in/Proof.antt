@@ -1,6 +1,6 @@
 -- `orders::replay_in` meets its contract: refused, or carried out and finished.
-use mathlib.Core.Path.{_≡_, _∙_}
-use Rattle.orders.proofs.Ordering.{stop-answer, stop-words, went-bound, went-answer, went-words}
+use mathlib.Core.Path.{_∙_}
+use Rattle.orders.proofs.Ordering.{stop-answer, stop-words, went-readable, went-answer, went-words}
 use borrow.Author.Needs.{needs}
 use Rattle.orders.proofs.replay_in.Statement.{statement}
 use Rattle.orders.proofs.replay_in.Tie as tie
@@ -11,20 +11,20 @@ returns c =
     let if1 = c .before .before .before .before .if1 in
     let pre = c .before .before .before .before .before .before .before .before .before .before .before .before .before .before .pre in
     let zero = c .before .before .zero in
-    (λ R S. stop-answer R _ _ _ _ S _ _ _ _ ((carry-out .ensures) R S) (if1 .taken), λ R S. stop-words R _ _ _ _ S _ _ _ _ ((carry-out .ensures) R S) (if1 .taken) ((carry-out .kept .1 .1 .1 .1 .0) ∙ (pre .2)) (zero .ensures))
+    (λ R S. stop-answer R _ _ _ _ S _ _ _ _ ((carry-out .ensures) R S) (if1 .taken), λ R S. stop-words R _ _ _ _ S _ _ _ _ ((carry-out .ensures) R S) (if1 .taken) ((carry-out .kept .1 .1 .1 .1 .0) ∙ (pre .area-long)) (zero .ensures))
 
 complete-requires : tie.Need-complete-requires
 complete-requires c κs =
     let pre = c .before .before .before .before .before .before .before .before .before .before .before .pre in
     let carry-out = c .before .before .before .before .carry-out in
     let if1 = c .before .if1 in
-    ((pre .0), (pre .1), (carry-out .kept .1 .1 .1 .1 .0) ∙ (pre .2), went-bound _ _ _ _ _ ((pre .4) .1) _ _ _ ((carry-out .ensures) ((pre .4) .0) ((pre .4) .1)) (if1 .left))
+    went-readable _ _ _ _ pre _ (carry-out .kept .1 .1 .1 .1 .0) _ _ ((carry-out .ensures) (pre .run) (pre .started)) (if1 .left)
 
 finish-requires : tie.Need-finish-requires
 finish-requires c κs =
     let carry-out = c .before .before .before .before .before .before .carry-out in
     let pre = c .before .before .before .before .before .before .before .before .before .before .before .before .before .pre in
-    (carry-out .kept .1 .1 .1 .1 .0) ∙ (pre .2)
+    (carry-out .kept .1 .1 .1 .1 .0) ∙ (pre .area-long)
 
 returns-2 : tie.Need-returns-2
 returns-2 c =
@@ -33,7 +33,7 @@ returns-2 c =
     let complete = c .before .before .before .before .complete in
     let finish = c .before .before .finish in
     let pre = c .before .before .before .before .before .before .before .before .before .before .before .before .before .before .before .before .pre in
-    (λ R S. went-answer R _ _ _ _ S _ _ _ _ _ _ ((carry-out .ensures) R S) (if1 .left) (complete .ensures) (finish .ensures .0), λ R S. went-words R _ _ _ _ S _ _ _ _ ((carry-out .ensures) R S) (if1 .left) ((finish .kept .0) ∙ (carry-out .kept .1 .1 .1 .1 .0) ∙ (pre .2)) ((finish .ensures .1) .0) ((finish .ensures .1) .1))
+    (λ R S. went-answer R _ _ _ _ S _ _ _ _ _ _ ((carry-out .ensures) R S) (if1 .left) (complete .ensures) (finish .ensures .0), λ R S. went-words R _ _ _ _ S _ _ _ _ ((carry-out .ensures) R S) (if1 .left) ((finish .kept .0) ∙ (carry-out .kept .1 .1 .1 .1 .0) ∙ (pre .area-long)) ((finish .ensures .1) .0) ((finish .ensures .1) .1))
 
 pub replay-in-spec : {M : Type 1} → statement M
 replay-in-spec =

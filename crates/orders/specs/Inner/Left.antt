@@ -16,5 +16,8 @@ Left R a (refused i) r = (r ≡ i) × (0 < i)
 
 module _ (R : Run) where
   -- what is still to do of an order, i of its choices done: from the state that the area stands for it comes to w
-  abbrev pub Live : List ℕ → ℕ → List ℕ → Outcome → Type 0
-  Live a i ns w = (s : State) × Rel R a s × Inv R s × (carry R s (suc i) (drop i ns) ≡ w)
+  pub record Live (a : List ℕ) (i : ℕ) (ns : List ℕ) (w : Outcome) : Type 0 where
+    pub state : State
+    pub rel : Rel R a state
+    pub inv : Inv R state
+    pub rest : carry R state (suc i) (drop i ns) ≡ w

@@ -13,7 +13,7 @@ use Rattle.protocol.proofs.tabulate.Tie as tie
 returns : tie.Need-returns
 returns c =
     let if1 = c .if1 in
-    (rw (ne-eqb _ _ (if1 .taken)), (λ e. clash {b = false} e refl, (λ _. refl, λ e. clash {b = false} e refl)))
+    (rw (ne-eqb _ _ (if1 .taken)), (λ e. clash {b = false} e refl, (λ e. clash {b = false} e refl, (λ _. refl, λ e. clash {b = false} e refl))))
 
 copy-requires : tie.Need-copy-requires
 copy-requires c κs =
@@ -39,14 +39,14 @@ returns-2 c =
     let if2 = c .before .before .before .before .before .before .before .before .before .before .before .before .before .if2 in
     let copy = c .before .before .before .before .before .before .before .before .before .before .before .copy in
     let fill = c .before .before .before .fill in
-    (rw (eq-eqb _ _ (if1 .left), (sym (holds-trace .ensures) ∙ (if2 .taken))), (λ e. (fill .ensures .0), (λ e. clash {b = true} refl e, λ e. copied-others _ _ _ (copy .last .1 .0) _ (λ k h. (copy .ensures .1) k (omega arith)) (fill .ensures .1))))
+    (rw (eq-eqb _ _ (if1 .left), (sym (holds-trace .ensures) ∙ (if2 .taken))), (λ e. (fill .ensures .0), (λ e. (fill .ensures .1 .0), (λ e. clash {b = true} refl e, λ e. copied-others _ _ _ (copy .last .1 .0) _ (λ k h. (copy .ensures .1) k (omega arith)) (fill .ensures .1 .1)))))
 
 returns-3 : tie.Need-returns-3
 returns-3 c =
     let if1 = c .before .before .if1 in
     let holds-trace = c .before .holds-trace in
     let if2 = c .if2 in
-    (rw (eq-eqb _ _ (if1 .left), sym (holds-trace .ensures) ∙ (if2 .left)), (λ e. clash {b = false} e refl, (λ _. refl, λ e. clash {b = false} e refl)))
+    (rw (eq-eqb _ _ (if1 .left), sym (holds-trace .ensures) ∙ (if2 .left)), (λ e. clash {b = false} e refl, (λ e. clash {b = false} e refl, (λ _. refl, λ e. clash {b = false} e refl))))
 
 pub tabulate-spec : {M : Type 1} → statement M
 tabulate-spec =

@@ -8,13 +8,13 @@ returns : tie.Need-returns
 returns c =
     let fault = c .before .fault in
     let if1 = c .if1 in
-    λ es t l. judge-fit _ _ _ ((fault .ensures) es t l) (if1 .taken)
+    λ t h. judge-fit _ _ _ ((fault .ensures) t h) (if1 .taken)
 
 returns-2 : tie.Need-returns-2
 returns-2 c =
     let fault = c .before .fault in
     let if1 = c .if1 in
-    λ es t l. judge-unfit _ _ _ ((fault .ensures) es t l) (if1 .left)
+    λ t h. judge-unfit _ _ _ ((fault .ensures) t h) (if1 .left)
 
 pub judge-event-spec : {M : Type 1} → statement M
 judge-event-spec = tie.close (tie.spec (λ c κs. search needs) returns returns-2)

@@ -8,40 +8,40 @@ returns : tie.Need-returns
 unfolding judge
 returns c =
     let enum-told = c .enum-told in
-    λ es t l. rw (enum-told .given .1)
+    λ t h. rw (enum-told .given .1)
 
 returns-2 : tie.Need-returns-2
 unfolding judge
 returns-2 c =
     let line = c .before .before .line in
     let judge-event = c .judge-event in
-    λ es t l. rw (line .given .1) ((judge-event .ensures) es t l)
+    λ t h. rw (line .given .1) ((judge-event .ensures) t h)
 
 returns-3 : tie.Need-returns-3
 unfolding judge
 returns-3 c =
     let line2 = c .before .before .line2 in
     let judge-event2 = c .judge-event2 in
-    λ es t l. rw (line2 .given .1) ((judge-event2 .ensures) es t l)
+    λ t h. rw (line2 .given .1) ((judge-event2 .ensures) t h)
 
 returns-4 : tie.Need-returns-4
 unfolding judge
 returns-4 c =
     let line3 = c .before .before .line3 in
     let judge-event3 = c .judge-event3 in
-    λ es t l. rw (line3 .given .1) ((judge-event3 .ensures) es t l)
+    λ t h. rw (line3 .given .1) ((judge-event3 .ensures) t h)
 
 returns-5 : tie.Need-returns-5
 unfolding judge
 returns-5 c =
     let line4 = c .before .line4 in
-    λ es t l. rw (line4 .given .1)
+    λ t h. rw (line4 .given .1)
 
 returns-6 : tie.Need-returns-6
 unfolding judge
 returns-6 c =
     let enum-told2 = c .enum-told2 in
-    λ es t l. rw (enum-told2 .given .1)
+    λ t h. rw (enum-told2 .given .1)
 
 pub judge-line-spec : {M : Type 1} → statement M
 judge-line-spec =

@@ -2,14 +2,12 @@
 -- far, and what the lines from here give is what they give from the start.
 use Prim.Native.Nat.{ℕ, _≤_, _-_, _+_}
 use mathlib.Core.Path.{_≡_, refl, sym, ap, _∙_}
-use mathlib.Core.List.{List, [], _∷_, _++_}
+use mathlib.Core.List.{List}
 use lib.ListN.{length, drop, length-append}
-use Rattle.trace.specs.declared.Event.{Event}
-use Rattle.trace.specs.Trace.{Trace}
+use Rattle.trace.specs.Trace.{Trace, started, extended}
 use Rattle.reader.specs.Verdict.{judge, pieces, linesFrom}
-use Rattle.trace.specs.Inner.Tally.{Tally}
-use Rattle.reader.specs.Inner.Reading.{Holds}
-use Rattle.reader.proofs.Judging.{fit-line, fit-few}
+use Rattle.reader.specs.Inner.Reading.{Holds, Tallied}
+use Rattle.reader.proofs.Judging.{fit-judged}
 use Rattle.trace.proofs.Counting.{next-tally}
 use Rattle.reader.proofs.Cutting.{line-cut}
 use Rattle.reader.proofs.Storing.{next-holds}
@@ -19,13 +17,18 @@ use borrow.Author.Needs.{needs}
 use Rattle.reader.proofs.read_events.Statement.{statement}
 use Rattle.reader.proofs.read_events.Tie as tie
 
-abbrev run : ℕ → List Event → Trace
-run n es = record { procs = n; events = es }
+-- Between two lines: the trace so far, which the counters count and the table holds; after it the lines from here on
+-- give what all lines give.
+pub record Between (text : List ℕ) (from procs : ℕ) (table counts : List ℕ) (at n : ℕ) : Type 0 where
+  pub run : Trace
+  pub counted : Tallied counts procs n run
+  pub few : n ≤ 2048
+  pub within : at ≤ length text
+  pub holds : Holds table run
+  pub rest : linesFrom run (n + 2) (pieces (drop at text)) ≡ linesFrom (started procs) 2 (pieces (drop from text))
 
 abbrev Inv-loop : tie.InvT-loop
-Inv-loop text from procs table₀ counts₀ at₀ n₀ table counts at n =
-    (es : List Event) × (n ≡ length es) × (n ≤ 2048) × (at ≤ length text) × Holds table (run procs es) × Tally counts es
-    × (linesFrom (run procs es) (n + 2) (pieces (drop at text)) ≡ linesFrom (run procs []) 2 (pieces (drop from text)))
+Inv-loop text from procs table₀ counts₀ at₀ n₀ table counts at n = Between text from procs table counts at n
 
 abbrev μ-loop : tie.MeasureT-loop
 μ-loop text from procs table₀ counts₀ at₀ n₀ table counts at n = length text - at
@@ -33,12 +36,19 @@ abbrev μ-loop : tie.MeasureT-loop
 loop-holds : tie.Need-loop-holds Inv-loop μ-loop
 loop-holds c =
     let pre = c .before .before .before .pre in
-    ([], refl, omega arith, omega arith, (pre .2), (pre .3), refl)
+    record {
+      run = started _;
+      counted = record { procs-is = refl; tally = pre .tally; size-is = refl };
+      few = omega arith;
+      within = pre .within;
+      holds = pre .holds;
+      rest = refl;
+    }
 
 add-t14 : tie.Need-add-t14 Inv-loop μ-loop
 add-t14 c =
     let loop = c .before .before .before .before .loop in
-    omega (arith, (loop .inv .2))
+    omega (arith, (loop .inv .few))
 
 returns : tie.Need-returns Inv-loop μ-loop
 returns c =
@@ -46,7 +56,7 @@ returns c =
     let loop-test = c .before .before .before .loop-test in
     let line-end = c .before .before .line-end in
     let enum-told = c .enum-told in
-    out-refused _ _ _ _ _ (sym (loop .inv .6) ∙ turn-missing _ _ _ _ (loop-test .taken) (sym (line-end .ensures) ∙ (enum-told .given .1))) ((loop .inv .4) .size)
+    out-refused _ _ _ _ _ (sym (loop .inv .rest) ∙ turn-missing _ _ _ _ (loop-test .taken) (sym (line-end .ensures) ∙ (enum-told .given .1))) (loop .inv .holds .size)
 
 sub-read-line : tie.Need-sub-read-line Inv-loop μ-loop
 sub-read-line c =
@@ -69,12 +79,12 @@ part-read-line-end c =
 judge-line-requires : tie.Need-judge-line-requires Inv-loop μ-loop
 judge-line-requires c κs =
     let loop = c .before .before .before .before .before .before .before .before .loop in
-    (omega arith, (loop .inv .5) .size)
+    (omega arith, loop .inv .counted .tally .size)
 
 add-stop : tie.Need-add-stop Inv-loop μ-loop
 add-stop c =
     let loop = c .before .before .before .before .before .before .before .before .before .before .loop in
-    omega (arith, (loop .inv .2))
+    omega (arith, (loop .inv .few))
 
 add-stop-2 : tie.Need-add-stop-2 Inv-loop μ-loop
 add-stop-2 c =
@@ -90,28 +100,37 @@ returns-2 c =
     let line-end = c .before .before .before .before .before .before .before .before .before .line-end in
     let end = c .before .before .before .before .before .before .before .end in
     let judge-line = c .before .before .judge-line in
-    let args = c .before .before .before .before .before .before .before .before .before .before .before .before .before .before .before .args in
     let read-line = c .before .before .before .read-line in
     let match2 = c .before .match2 in
-    out-same _ _ _ _ _ (loop .inv .6) (rw (stop .ensures) (turn-stop _ _ _ _ _ (sym (line-end .ensures) ∙ (end .given .1)) _ ((judge-line .ensures) (loop .inv .0) (loop .inv .5) (loop .inv .1) ∙ ap (judge (run (args .procs) (loop .inv .0))) (read-line .ensures)) _ (omega (arith, (loop .inv .2))) (loop .inv .4) (match2 .keys2)))
+    out-same _ _ _ _ _ (loop .inv .rest) (rw (stop .ensures) (turn-stop _ _ _ _ _ (sym (line-end .ensures) ∙ (end .given .1)) _ ((judge-line .ensures) (loop .inv .run) (loop .inv .counted) ∙ ap (judge (loop .inv .run)) (read-line .ensures)) _ (omega (arith, (loop .inv .few))) (loop .inv .holds) (match2 .keys2)))
 
 append-requires : tie.Need-append-requires Inv-loop μ-loop
 append-requires c κs =
-    let args = c .before .before .before .before .before .before .before .before .before .before .before .before .before .before .before .before .before .args in
     let loop = c .before .before .before .before .before .before .before .before .before .before .before .before .before .loop in
     let judge-line = c .before .before .before .before .judge-line in
     let read-line = c .before .before .before .before .before .read-line in
     let j = c .before .before .j in
-    let f = fit-few (run (args .procs) (loop .inv .0)) _ (fit-line (run (args .procs) (loop .inv .0)) _ _ (sym ((judge-line .ensures) (loop .inv .0) (loop .inv .5) (loop .inv .1) ∙ ap (judge (run (args .procs) (loop .inv .0))) (read-line .ensures)) ∙ (j .given .1))) in (omega (arith, f .0, (loop .inv .1)), (loop .inv .4) .size)
+    let said = (judge-line .ensures) (loop .inv .run) (loop .inv .counted) ∙ ap (judge (loop .inv .run)) (read-line .ensures) in
+    let f = fit-judged (loop .inv .run) _ _ _ said (j .given .1) in
+    (omega (arith, f .0, loop .inv .counted .size-is), loop .inv .holds .size)
 
 tally-requires : tie.Need-tally-requires Inv-loop μ-loop
 tally-requires c κs =
-    let args = c .before .before .before .before .before .before .before .before .before .before .before .before .before .before .before .before .before .before .before .before .before .args in
+    let pre = c .before .before .before .before .before .before .before .before .before .before .before .before .before .before .before .before .before .before .before .before .before .pre in
     let loop = c .before .before .before .before .before .before .before .before .before .before .before .before .before .before .before .before .before .loop in
     let judge-line = c .before .before .before .before .before .before .before .before .judge-line in
     let read-line = c .before .before .before .before .before .before .before .before .before .read-line in
     let j = c .before .before .before .before .before .before .j in
-    let f = fit-few (run (args .procs) (loop .inv .0)) _ (fit-line (run (args .procs) (loop .inv .0)) _ _ (sym ((judge-line .ensures) (loop .inv .0) (loop .inv .5) (loop .inv .1) ∙ ap (judge (run (args .procs) (loop .inv .0))) (read-line .ensures)) ∙ (j .given .1))) in record { procs = (args .procs); events = (loop .inv .0); procs-most = omega arith; events-few = f .0; tally = (loop .inv .5); fit = f .1 }
+    let said = (judge-line .ensures) (loop .inv .run) (loop .inv .counted) ∙ ap (judge (loop .inv .run)) (read-line .ensures) in
+    let f = fit-judged (loop .inv .run) _ _ _ said (j .given .1) in
+    record {
+      procs = loop .inv .run .procs;
+      events = loop .inv .run .events;
+      procs-most = omega (arith, pre .procs-most, loop .inv .counted .procs-is);
+      events-few = f .0;
+      tally = loop .inv .counted .tally;
+      fit = f .1;
+    }
 
 add-at : tie.Need-add-at Inv-loop μ-loop
 add-at c =
@@ -128,7 +147,6 @@ loop-less c =
 
 loop-again : tie.Need-loop-again Inv-loop μ-loop
 loop-again c =
-    let args = c .before .before .before .before .before .before .before .before .before .before .before .before .before .before .before .before .before .before .before .before .before .before .before .before .args in
     let loop = c .before .before .before .before .before .before .before .before .before .before .before .before .before .before .before .before .before .before .before .before .loop in
     let judge-line = c .before .before .before .before .before .before .before .before .before .before .before .judge-line in
     let read-line = c .before .before .before .before .before .before .before .before .before .before .before .before .read-line in
@@ -138,18 +156,34 @@ loop-again c =
     let append = c .before .before .before .before .before .before .append in
     let tally = c .before .before .tally in
     let pre = c .before .before .before .before .before .before .before .before .before .before .before .before .before .before .before .before .before .before .before .before .before .before .before .before .pre in
-    let f = fit-few (run (args .procs) (loop .inv .0)) _ (fit-line (run (args .procs) (loop .inv .0)) _ _ (sym ((judge-line .ensures) (loop .inv .0) (loop .inv .5) (loop .inv .1) ∙ ap (judge (run (args .procs) (loop .inv .0))) (read-line .ensures)) ∙ (j .given .1))) in let q = line-cut _ _ _ (sym (line-end .ensures) ∙ (end .given .1)) in let k : (loop .n) + 2 + 1 ≡ (loop .n) + 1 + 2 = omega arith in ((loop .inv .0) ++ (j .given .0 .0) ∷ [], rw (length-append, (loop .inv .1)), omega (arith, f .0, (loop .inv .1)), omega (arith, q .1), rw ((append .ensures), (loop .inv .1)) (next-holds (run (args .procs) (loop .inv .0)) _ _ (loop .inv .4) (f .0)), rw (tally .ensures) (next-tally (args .procs) (loop .inv .0) _ (pre .0) (loop .inv .5) _ (f .1)), rw (← k) (sym (turn-fit _ _ _ _ _ (sym (line-end .ensures) ∙ (end .given .1)) _ ((judge-line .ensures) (loop .inv .0) (loop .inv .5) (loop .inv .1) ∙ ap (judge (run (args .procs) (loop .inv .0))) (read-line .ensures)) _ (j .given .1)) ∙ (loop .inv .6)))
+    let said = (judge-line .ensures) (loop .inv .run) (loop .inv .counted) ∙ ap (judge (loop .inv .run)) (read-line .ensures) in
+    let f = fit-judged (loop .inv .run) _ _ _ said (j .given .1) in
+    let q = line-cut _ _ _ (sym (line-end .ensures) ∙ (end .given .1)) in
+    let k : (loop .n) + 2 + 1 ≡ (loop .n) + 1 + 2 = omega arith in
+    let most : loop .inv .run .procs ≤ 64 = omega (arith, pre .procs-most, loop .inv .counted .procs-is) in
+    record {
+      run = extended (loop .inv .run) (j .given .0 .0);
+      counted = record {
+        procs-is = loop .inv .counted .procs-is;
+        tally = rw (tally .ensures) (next-tally (loop .inv .run .procs) (loop .inv .run .events) _ most (loop .inv .counted .tally) _ (f .1));
+        size-is = rw (length-append, loop .inv .counted .size-is);
+      };
+      few = omega (arith, f .0, loop .inv .counted .size-is);
+      within = omega (arith, q .1);
+      holds = rw (append .ensures, loop .inv .counted .size-is) (next-holds (loop .inv .run) _ _ (loop .inv .holds) (f .0));
+      rest = rw (← k) (sym (turn-fit _ _ _ _ _ (sym (line-end .ensures) ∙ (end .given .1)) _ said _ (j .given .1)) ∙ loop .inv .rest);
+    }
 
 add-t28 : tie.Need-add-t28 Inv-loop μ-loop
 add-t28 c =
     let loop = c .before .loop in
-    omega (arith, (loop .inv .2))
+    omega (arith, (loop .inv .few))
 
 returns-3 : tie.Need-returns-3 Inv-loop μ-loop
 returns-3 c =
     let loop = c .before .loop in
     let loop-test = c .loop-test in
-    out-ended _ _ _ _ _ (sym (loop .inv .6) ∙ turn-end _ _ _ _ (loop-test .left)) (loop .inv .4)
+    out-ended _ _ _ _ _ (sym (loop .inv .rest) ∙ turn-end _ _ _ _ (loop-test .left)) (loop .inv .holds)
 
 pub read-events-spec : {M : Type 1} → statement M
 read-events-spec =

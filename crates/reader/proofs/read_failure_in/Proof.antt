@@ -1,5 +1,4 @@
 -- `reader::read_failure_in` meets its contract, one law for each outcome of the scan.
-use Prim.Native.Nat.{_≤_}
 use Rattle.reader.proofs.Verdicts.{told-stopped, failing-refused, failing-ended, failing-follows, failing-last}
 use native.Mathlib.Omega.{arith}
 use borrow.Author.Needs.{needs}

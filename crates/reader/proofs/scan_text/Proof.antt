@@ -69,7 +69,13 @@ read-events-requires c κs =
     let if2 = c .before .before .before .before .before .before .if2 in
     let zero = c .before .before .before .before .zero in
     let pre = c .before .before .before .before .before .before .before .before .before .before .before .before .before .before .before .before .before .before .before .pre in
-    let q = first-cut _ _ (sym (line-end .ensures) ∙ (end .given .1)) in ((if2 .left), omega (arith, q .0), none-holds _ _ ((zero .ensures) ∙ ap (λ (n : ℕ). replicate n 0) pre), none-tally)
+    let q = first-cut _ _ (sym (line-end .ensures) ∙ (end .given .1)) in
+    record {
+      procs-most = if2 .left;
+      within = omega (arith, q .0);
+      holds = none-holds _ _ ((zero .ensures) ∙ ap (λ (n : ℕ). replicate n 0) pre);
+      tally = none-tally;
+    }
 
 same-length : tie.Need-same-length
 same-length c =

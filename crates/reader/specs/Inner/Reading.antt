@@ -2,11 +2,12 @@
 -- what it makes of the first line. No public contract cites these.
 use Prim.Native.Nat.{ℕ, _+_, _<_, _≤_}
 use mathlib.Core.Path.{_≡_}
-use mathlib.Core.List.{List}
+use mathlib.Core.List.{List, []}
 use lib.ListN.{length, getD, set, drop}
 use Rattle.words.specs.Area.{areaWords}
 use Rattle.trace.specs.declared.Event.{Event}
-use Rattle.trace.specs.Trace.{Trace}
+use Rattle.trace.specs.Trace.{Trace, started}
+use Rattle.trace.specs.Inner.Tally.{Tally}
 use Rattle.trace.specs.Table.{wordOf, valueWord, eventBase, valueBase, tableWord}
 use Rattle.lines.specs.declared.Line.{Line}
 use Rattle.lines.specs.declared.Line.the-variants.{Procs, Send, Recv, Save, Failure, Malformed}
@@ -30,6 +31,19 @@ pub record Holds (table : List ℕ) (t : Trace) : Type 0 where
   pub size : length table ≡ areaWords
   pub words : (k : ℕ) → k < areaWords → getD table k 0 ≡ tableWord t k
 
+-- what the code has of a trace when it judges the next line: its process count, its counters and its event count
+pub record Tallied (counts : List ℕ) (procs n : ℕ) (t : Trace) : Type 0 where
+  pub procs-is : procs ≡ t .procs
+  pub tally : Tally counts (t .events)
+  pub size-is : n ≡ length (t .events)
+
+-- what reading the events begins with: the place after the first line, and a table and counters without an event
+pub record Opened (text : List ℕ) (from procs : ℕ) (table counts : List ℕ) : Type 0 where
+  pub procs-most : procs ≤ 64
+  pub within : from ≤ length text
+  pub holds : Holds table (started procs)
+  pub tally : Tally counts []
+
 -- the table after event n + 1 is stored
 abbrev pub appended : List ℕ → ℕ → Event → List ℕ
 appended table n e = set (set (set table 1 (n + 1)) (eventBase + (n + 1)) (wordOf e)) (valueBase + (n + 1)) (valueWord e)
@@ -40,8 +54,17 @@ stopOf (Fit e) k next = Refused 0 k
 stopOf (Fails step set) k next = Stopped step set k next
 stopOf (Unfit n) k next = Refused n k
 
+-- the loop stopped at a failure line: its outcome with the place after that line, what follows there, and the table;
+-- the line is one of the first 2,050
+pub record StoppedAt (text : List ℕ) (t : Trace) (step set k : ℕ) (rest : List (List ℕ)) (r : Scanned) (table : List ℕ) : Type 0 where
+  pub next : ℕ
+  pub outcome : r ≡ Stopped step set k next
+  pub follows : rest ≡ pieces (drop next text)
+  pub holds : Holds table t
+  pub few : k ≤ 2050
+
 -- the loop's outcome and table are those of a scan
 unfoldable pub ScanOutcome : List ℕ → Scan → Scanned → List ℕ → Type 0
 ScanOutcome text (refused n k) r table = (r ≡ Refused n k) × (length table ≡ areaWords)
 ScanOutcome text (ended t k) r table = (r ≡ Ended k) × Holds table t
-ScanOutcome text (stopped t step set k rest) r table = (at : ℕ) × (r ≡ Stopped step set k at) × (rest ≡ pieces (drop at text)) × Holds table t × (k ≤ 2050)
+ScanOutcome text (stopped t step set k rest) r table = StoppedAt text t step set k rest r table

@@ -2,9 +2,7 @@
 use mathlib.Core.Path.{sym}
 use lib.Seq.{length-take-le}
 use Rattle.words.specs.Area.{areaWords}
-use Rattle.table.specs.Held.{held}
 use Rattle.theory.specs.Order.{lowestOrder}
-use Rattle.recovery_line.specs.Given.{lineIn}
 use Rattle.preparing.specs.Faults.{runOf}
 use Rattle.recovery.proofs.Replaying.{refuses, not-completed, carried, completed}
 use borrow.Author.Needs.{needs}
@@ -26,21 +24,21 @@ slice-relend-prefix-lowest c =
     let args = c .before .before .before .before .before .before .before .before .before .before .args in
     let if1 = c .before .before .if1 in
     let prepare = c .before .before .before .before .before .prepare in
-    ((prepare .ensures .1) (if1 .left)) .enough
+    ((prepare .ensures .1) (if1 .left)) .opened .enough
 
 slice-aggregate-lowest-3 : tie.Need-slice-aggregate-lowest-3
 slice-aggregate-lowest-3 c =
     let args = c .before .before .before .before .before .before .before .before .before .before .before .args in
     let if1 = c .before .before .before .if1 in
     let prepare = c .before .before .before .before .before .before .prepare in
-    sym (length-take-le areaWords (args .area .now) (((prepare .ensures .1) (if1 .left)) .enough))
+    sym (length-take-le areaWords (args .area .now) (((prepare .ensures .1) (if1 .left)) .opened .enough))
 
 lowest-requires : tie.Need-lowest-requires
 lowest-requires c κs =
     let args = c .before .before .before .before .before .before .before .before .before .before .before .args in
     let if1 = c .before .before .before .if1 in
     let prepare = c .before .before .before .before .before .before .prepare in
-    (length-take-le areaWords (args .area .now) (((prepare .ensures .1) (if1 .left)) .enough), search needs, (held (args .table .now), lineIn (args .line), ((prepare .ensures .1) (if1 .left)) .given))
+    (length-take-le areaWords (args .area .now) (((prepare .ensures .1) (if1 .left)) .opened .enough), (_, ((prepare .ensures .1) (if1 .left)) .given))
 
 returns-2 : tie.Need-returns-2
 returns-2 c =
@@ -50,10 +48,10 @@ returns-2 c =
     let lowest = c .before .before .lowest in
     let order = lowestOrder (runOf (args .table .now) (args .step) (args .line)) in
     let P = (prepare .ensures .1) (if1 .left) in
-    let answer = (lowest .ensures .0) (held (args .table .now)) (lineIn (args .line)) (P .given) in
-    let words = (lowest .ensures .1) (held (args .table .now)) (lineIn (args .line)) (P .given) in
-    let x = carried (args .table .now) (args .area .now) (args .step) (args .set) (args .line) order (P .holds) (P .given .cut-le) _ _ _ (prepare .ensures .0) (if1 .left) answer words in
-    (x .0, (x .1 .0, (x .1 .1 .0, (x .1 .1 .1 .0, (x .1 .1 .1 .1 .0, (x .1 .1 .1 .1 .1, completed (args .table .now) (args .area .now) (args .step) (args .set) (args .line) order (P .holds) (P .given .cut-le) _ answer))))))
+    let answer = (lowest .ensures .0) _ (P .given) in
+    let words = (lowest .ensures .1) _ (P .given) in
+    let x = carried (args .table .now) (args .area .now) (args .step) (args .set) (args .line) order (P .opened .holds) (P .given .tells .laws .cut-le) _ _ _ (prepare .ensures .0) (if1 .left) answer words in
+    (x .0, (x .1 .0, (x .1 .1 .0, (x .1 .1 .1 .0, (x .1 .1 .1 .1 .0, (x .1 .1 .1 .1 .1, completed (args .table .now) (args .area .now) (args .step) (args .set) (args .line) order (P .opened .holds) (P .given .tells .laws .cut-le) _ answer))))))
 
 pub lowest-spec : {M : Type 1} → statement M
 lowest-spec =

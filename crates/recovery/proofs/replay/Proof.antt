@@ -2,8 +2,6 @@
 use mathlib.Core.Path.{sym}
 use lib.Seq.{length-take-le}
 use Rattle.words.specs.Area.{areaWords}
-use Rattle.table.specs.Held.{held}
-use Rattle.recovery_line.specs.Given.{lineIn}
 use Rattle.recovery.proofs.Replaying.{refuses, carried}
 use borrow.Author.Needs.{needs}
 use Rattle.recovery.proofs.replay.Statement.{statement}
@@ -22,21 +20,21 @@ slice-relend-prefix-replay c =
     let args = c .before .before .before .before .before .before .before .before .before .before .before .args in
     let if1 = c .before .before .if1 in
     let prepare = c .before .before .before .before .before .prepare in
-    ((prepare .ensures .1) (if1 .left)) .enough
+    ((prepare .ensures .1) (if1 .left)) .opened .enough
 
 slice-aggregate-replay-3 : tie.Need-slice-aggregate-replay-3
 slice-aggregate-replay-3 c =
     let args = c .before .before .before .before .before .before .before .before .before .before .before .before .args in
     let if1 = c .before .before .before .if1 in
     let prepare = c .before .before .before .before .before .before .prepare in
-    sym (length-take-le areaWords (args .area .now) (((prepare .ensures .1) (if1 .left)) .enough))
+    sym (length-take-le areaWords (args .area .now) (((prepare .ensures .1) (if1 .left)) .opened .enough))
 
 replay-requires : tie.Need-replay-requires
 replay-requires c κs =
     let args = c .before .before .before .before .before .before .before .before .before .before .before .before .args in
     let if1 = c .before .before .before .if1 in
     let prepare = c .before .before .before .before .before .before .prepare in
-    (length-take-le areaWords (args .area .now) (((prepare .ensures .1) (if1 .left)) .enough), search needs, (held (args .table .now), lineIn (args .line), ((prepare .ensures .1) (if1 .left)) .given))
+    (length-take-le areaWords (args .area .now) (((prepare .ensures .1) (if1 .left)) .opened .enough), (_, ((prepare .ensures .1) (if1 .left)) .given))
 
 returns-2 : tie.Need-returns-2
 returns-2 c =
@@ -44,7 +42,7 @@ returns-2 c =
     let prepare = c .before .before .before .before .before .before .before .before .before .prepare in
     let if1 = c .before .before .before .before .before .before .if1 in
     let replay = c .before .before .replay in
-    carried (args .table .now) (args .area .now) (args .step) (args .set) (args .line) (args .order .now) (((prepare .ensures .1) (if1 .left)) .holds) (((prepare .ensures .1) (if1 .left)) .given .cut-le) _ _ _ (prepare .ensures .0) (if1 .left) ((replay .ensures .0) (held (args .table .now)) (lineIn (args .line)) (((prepare .ensures .1) (if1 .left)) .given)) ((replay .ensures .1) (held (args .table .now)) (lineIn (args .line)) (((prepare .ensures .1) (if1 .left)) .given))
+    carried (args .table .now) (args .area .now) (args .step) (args .set) (args .line) (args .order .now) (((prepare .ensures .1) (if1 .left)) .opened .holds) (((prepare .ensures .1) (if1 .left)) .given .tells .laws .cut-le) _ _ _ (prepare .ensures .0) (if1 .left) ((replay .ensures .0) _ (((prepare .ensures .1) (if1 .left)) .given)) ((replay .ensures .1) _ (((prepare .ensures .1) (if1 .left)) .given))
 
 pub replay-spec : {M : Type 1} → statement M
 replay-spec =

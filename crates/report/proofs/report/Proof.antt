@@ -1,11 +1,8 @@
 -- `report::report` meets its contract, one law for each way out.
-use mathlib.Core.Path.{_∙_}
 use Prim.Native.Nat.{ℕ}
 use lib.ListN.{replicate, length-replicate}
 use Rattle.words.specs.Area.{areaWords}
-use Rattle.report.proofs.Lengths.{refusal-few}
-use Rattle.report.proofs.Found.{puttable, rows-are, rows-few}
-use Rattle.report.proofs.Ways.{answered, too-long, text-refused, failure-refused, ready, found-printed}
+use Rattle.report.proofs.Ways.{answered, too-long, text-refused, failure-refused, recovered}
 use borrow.Author.Needs.{needs}
 use Rattle.report.proofs.report.Statement.{statement}
 use Rattle.report.proofs.report.Tie as tie
@@ -15,7 +12,7 @@ returns c =
     let args = c .before .before .before .before .before .before .before .args in
     let if1 = c .before .before .before .before .if1 in
     let put-refusal = c .before .before .put-refusal in
-    answered _ (args .text .now) _ _ _ (too-long (args .text .now) (if1 .taken)) (refusal-few _ _) (put-refusal .ensures)
+    answered _ (args .text .now) _ _ _ (too-long (args .text .now) (if1 .taken)) (put-refusal .ensures)
 
 returns-2 : tie.Need-returns-2
 returns-2 c =
@@ -24,7 +21,7 @@ returns-2 c =
     let read-failure = c .before .before .before .before .before .before .before .read-failure in
     let if2 = c .before .before .before .before .if2 in
     let put-refusal2 = c .before .before .put-refusal2 in
-    answered _ (args .text .now) _ _ _ (text-refused (args .text .now) (if1 .left) (replicate areaWords 0) (length-replicate {A = ℕ} areaWords 0) (read-failure .result) (read-failure .ensures .0) (if2 .taken)) (refusal-few _ _) (put-refusal2 .ensures)
+    answered _ (args .text .now) _ _ _ (text-refused (args .text .now) (if1 .left) (replicate areaWords 0) (length-replicate {A = ℕ} areaWords 0) (read-failure .result) (read-failure .ensures .0) (if2 .taken)) (put-refusal2 .ensures)
 
 returns-3 : tie.Need-returns-3
 returns-3 c =
@@ -35,7 +32,7 @@ returns-3 c =
     let recover = c .before .before .before .before .before .before .before .recover in
     let if3 = c .before .before .before .before .if3 in
     let put-refusal3 = c .before .before .put-refusal3 in
-    answered _ (args .text .now) _ _ _ (failure-refused (args .text .now) (if1 .left) (replicate areaWords 0) (length-replicate {A = ℕ} areaWords 0) (read-failure .result) (read-failure .ensures .0) (if2 .left) _ (read-failure .ensures .1) (recover .result .restarted) (recover .ensures .0) (if3 .taken)) (refusal-few _ _) (put-refusal3 .ensures)
+    answered _ (args .text .now) _ _ _ (failure-refused (args .text .now) (if1 .left) (replicate areaWords 0) (length-replicate {A = ℕ} areaWords 0) (read-failure .result) (read-failure .ensures .0) (if2 .left) _ (read-failure .ensures .1) (recover .result .restarted) (recover .ensures .0) (if3 .taken)) (put-refusal3 .ensures)
 
 put-recovery-requires : tie.Need-put-recovery-requires
 put-recovery-requires c κs =
@@ -46,9 +43,8 @@ put-recovery-requires c κs =
     let read-failure = c .before .before .before .before .before .before .before .before .before .before .read-failure in
     let if2 = c .before .before .before .before .before .before .before .if2 in
     let S = (recover .ensures .1 .1 .1 .1) (if3 .left) in
-    let G = ready (args .text .now) (if1 .left) (replicate areaWords 0) (length-replicate {A = ℕ} areaWords 0) (read-failure .result) (read-failure .ensures .0) (if2 .left) _ (read-failure .ensures .1) (recover .result .restarted) (recover .ensures .0) (if3 .left) (S .restarts) in
-    let p = puttable _ _ _ (recover .result .restarted) G (recover .result .replayed) (recover .result .counted) _ (recover .ensures .1 .1 .0) (recover .ensures .1 .1 .1 .0) S in
-    (search needs, p .0, p .1)
+    let w = recovered (args .text .now) (if1 .left) (replicate areaWords 0) (length-replicate {A = ℕ} areaWords 0) (read-failure .result) (read-failure .ensures .0) (if2 .left) _ (read-failure .ensures .1) (recover .result) _ (recover .ensures .0) (if3 .left) (recover .ensures .1 .1 .0) (recover .ensures .1 .1 .1 .0) S in
+    (search needs, w .1 .0, w .1 .1)
 
 returns-4 : tie.Need-returns-4
 returns-4 c =
@@ -60,8 +56,8 @@ returns-4 c =
     let if2 = c .before .before .before .before .before .before .before .before .before .before .if2 in
     let put-recovery = c .before .before .put-recovery in
     let S = (recover .ensures .1 .1 .1 .1) (if3 .left) in
-    let G = ready (args .text .now) (if1 .left) (replicate areaWords 0) (length-replicate {A = ℕ} areaWords 0) (read-failure .result) (read-failure .ensures .0) (if2 .left) _ (read-failure .ensures .1) (recover .result .restarted) (recover .ensures .0) (if3 .left) (S .restarts) in
-    answered _ (args .text .now) _ _ _ (rows-are _ _ _ (recover .result .restarted) G (recover .result .replayed) (recover .result .counted) _ (recover .ensures .1 .1 .0) (recover .ensures .1 .1 .1 .0) S ∙ found-printed (args .text .now) (if1 .left) (replicate areaWords 0) (length-replicate {A = ℕ} areaWords 0) (read-failure .result) (read-failure .ensures .0) (if2 .left) _ (read-failure .ensures .1) (recover .result .restarted) (recover .ensures .0) (if3 .left)) (rows-few _ _ _ (recover .result .restarted) G (recover .result .replayed) (recover .result .counted) _ (recover .ensures .1 .1 .0) (recover .ensures .1 .1 .1 .0) S) (put-recovery .ensures)
+    let w = recovered (args .text .now) (if1 .left) (replicate areaWords 0) (length-replicate {A = ℕ} areaWords 0) (read-failure .result) (read-failure .ensures .0) (if2 .left) _ (read-failure .ensures .1) (recover .result) _ (recover .ensures .0) (if3 .left) (recover .ensures .1 .1 .0) (recover .ensures .1 .1 .1 .0) S in
+    answered _ (args .text .now) _ _ _ (w .0) (put-recovery .ensures)
 
 pub report-spec : {M : Type 1} → statement M
 report-spec =

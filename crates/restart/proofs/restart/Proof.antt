@@ -1,6 +1,6 @@
 -- `restart::restart` meets its contract, one law for each way out.
 use Rattle.table.specs.Held.{held}
-use Rattle.preparing.proofs.Filling.{step-within}
+use Rattle.preparing.proofs.Preparing.{no-room, step-within}
 use Rattle.restart.proofs.Restarting.{refuses-restart, answers-restart}
 use borrow.Author.Needs.{needs}
 use Rattle.restart.proofs.restart.Statement.{statement}
@@ -9,28 +9,28 @@ use Rattle.restart.proofs.restart.Tie as tie
 returns : tie.Need-returns
 returns c =
     let args = c .before .before .before .before .before .before .args in
-    let fill-table = c .before .before .before .fill-table in
+    let open-failure = c .before .before .before .open-failure in
     let if1 = c .before .if1 in
     let no-restart = c .no-restart in
-    refuses-restart (args .table .now) (args .step) (args .set) _ _ (fill-table .ensures .0) (if1 .taken) (no-restart .ensures)
+    refuses-restart (args .table .now) (args .step) (args .set) _ _ (no-room (args .table .now) (args .step) (args .set) _ (open-failure .ensures .0)) (if1 .taken) (no-restart .ensures)
 
 restart-from-requires : tie.Need-restart-from-requires
 restart-from-requires c κs =
-    let fill-table = c .before .before .before .fill-table in
+    let open-failure = c .before .before .before .open-failure in
     let if1 = c .before .if1 in
     let args = c .before .before .before .before .before .before .args in
-    let F = (fill-table .ensures .1) (if1 .left) in
-    (held (args .table .now), F .tabled, step-within (args .table .now) _ (args .step) (args .set) _ F)
+    let F = (open-failure .ensures .1) (if1 .left) in
+    (held (args .table .now), F .opened .marked, step-within (args .table .now) _ (args .step) (args .set) _ F)
 
 returns-2 : tie.Need-returns-2
 returns-2 c =
-    let fill-table = c .before .before .before .before .fill-table in
+    let open-failure = c .before .before .before .before .open-failure in
     let if1 = c .before .before .if1 in
     let args = c .before .before .before .before .before .before .before .args in
     let restart-from = c .restart-from in
-    let F = (fill-table .ensures .1) (if1 .left) in
+    let F = (open-failure .ensures .1) (if1 .left) in
     let s = step-within (args .table .now) _ (args .step) (args .set) _ F in
-    answers-restart (args .table .now) (args .step) (args .set) _ _ (fill-table .ensures .0) (if1 .left) ((restart-from .ensures .0) (held (args .table .now)) (F .tabled) s) ((restart-from .ensures .1) (held (args .table .now)) (F .tabled) s)
+    answers-restart (args .table .now) (args .step) (args .set) _ _ (no-room (args .table .now) (args .step) (args .set) _ (open-failure .ensures .0)) (if1 .left) ((restart-from .ensures .0) (held (args .table .now)) (F .opened .marked) s) ((restart-from .ensures .1) (held (args .table .now)) (F .opened .marked) s)
 
 pub restart-spec : {M : Type 1} → statement M
 restart-spec =

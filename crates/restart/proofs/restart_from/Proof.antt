@@ -4,26 +4,31 @@ use borrow.Author.Needs.{needs}
 use Rattle.restart.proofs.restart_from.Statement.{statement}
 use Rattle.restart.proofs.restart_from.Tie as tie
 
+greatest-requires : tie.Need-greatest-requires
+greatest-requires c κs =
+    let pre = c .before .before .before .pre in
+    (search needs, search needs, ((pre .0), _, record { marked = (pre .1); cut-in = (pre .2) }))
+
 back-set-requires : tie.Need-back-set-requires
 back-set-requires c κs =
     let pre = c .before .before .before .before .before .before .pre in
     let greatest = c .before .before .greatest in
-    count-few (pre .0) _ (pre .1) _ _ (pre .2) _ ((greatest .ensures .0) (pre .0) (pre .1) (pre .2))
+    count-few (pre .0) _ (pre .1) _ _ (pre .2) _ ((greatest .ensures .0) (pre .0) _ (pre .1) (pre .2))
 
 back-requires : tie.Need-back-requires
 back-requires c κs =
     let pre = c .before .before .before .before .before .before .before .pre in
     let greatest = c .before .before .before .greatest in
-    count-few (pre .0) _ (pre .1) _ _ (pre .2) _ ((greatest .ensures .0) (pre .0) (pre .1) (pre .2))
+    count-few (pre .0) _ (pre .1) _ _ (pre .2) _ ((greatest .ensures .0) (pre .0) _ (pre .1) (pre .2))
 
 returns : tie.Need-returns
 returns c =
     let greatest = c .before .before .before .before .greatest in
     let back-set = c .before .back-set in
     let back = c .back in
-    (λ t G h. made t _ G _ _ h _ ((greatest .ensures .0) t G h) _ _ _ _ (back-set .ensures .0) (back .ensures .0) ((greatest .ensures .1 .1 .0) t G h) ((greatest .ensures .1 .1 .1) t G h), λ t G h. means t _ G _ _ h _ ((greatest .ensures .0) t G h) _ _ _ _ ((greatest .ensures .1 .0) t G h) (back-set .ensures .0) (back-set .ensures .1) (back .ensures .0) (back .ensures .1))
+    (λ t G h. made t _ G _ _ h _ ((greatest .ensures .0) t _ G h) _ _ _ _ (back-set .ensures .0) (back .ensures .0) ((greatest .ensures .1 .1 .0) t _ G h) ((greatest .ensures .1 .1 .1) t _ G h), λ t G h. means t _ G _ _ h _ ((greatest .ensures .0) t _ G h) _ _ _ _ ((greatest .ensures .1 .0) t _ G h) (back-set .ensures .0) (back-set .ensures .1) (back .ensures .0) (back .ensures .1))
 
 pub restart-from-spec : {M : Type 1} → statement M
 restart-from-spec =
     tie.close
-    (tie.spec (λ c. search needs) (λ c. search needs) (λ c κs. search needs) back-set-requires back-requires returns)
+    (tie.spec (λ c. search needs) (λ c. search needs) greatest-requires back-set-requires back-requires returns)

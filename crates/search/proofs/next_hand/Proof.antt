@@ -1,8 +1,7 @@
 -- `search::next_hand` meets its contract: no kept message of a sender that is not left so far.
-use mathlib.Core.Path.{_≡_, refl, _∙_}
+use mathlib.Core.Path.{_≡_, refl, sym, _∙_}
 use Prim.Native.Nat.{_+_, _*_, _/_, _^_, _<_}
-use lib.ListN.{length}
-use Rattle.search.specs.Inner.Lowest.{Shut, Under, Keeps}
+use Rattle.search.specs.Inner.Lowest.{Shut, SendersKnown}
 use Rattle.sets.proofs.Sets.{first-lt, first-in, rest-less}
 use Rattle.search.proofs.Searching.{shut-to, shut-all, shut-rest}
 use native.Mathlib.Omega.{arith}
@@ -11,7 +10,7 @@ use Rattle.search.proofs.next_hand.Statement.{statement}
 use Rattle.search.proofs.next_hand.Tie as tie
 
 abbrev Inv-loop : tie.InvT-loop
-Inv-loop full gates area senders phases₀ keeping₀ left₀ phases keeping left = (left < 2 ^ 64) × (length phases ≡ length phases₀) × (length keeping ≡ length keeping₀) × Shut full gates area left × Under full gates area phases × Keeps full gates area keeping
+Inv-loop full gates area senders phases₀ keeping₀ left₀ phases keeping left = (left < 2 ^ 64) × Shut full gates area left × SendersKnown full gates area phases keeping
 
 abbrev μ-loop : tie.MeasureT-loop
 μ-loop full gates area senders phases₀ keeping₀ left₀ phases keeping left = left
@@ -19,15 +18,14 @@ abbrev μ-loop : tie.MeasureT-loop
 loop-holds : tie.Need-loop-holds Inv-loop μ-loop
 loop-holds c =
     let pre = c .before .before .before .before .before .pre in
-    (search needs, refl, refl, (pre .3), (pre .4), (pre .5))
+    (search needs, (pre .1), (pre .0))
 
 next-receiver-requires : tie.Need-next-receiver-requires Inv-loop μ-loop
 next-receiver-requires c κs =
     let first = c .before .before .first in
     let loop = c .before .before .before .before .loop in
     let loop-test = c .before .before .before .loop-test in
-    let pre = c .before .before .before .before .before .before .before .before .before .before .pre in
-    (omega (arith, (first .ensures), first-lt (loop .left) (omega (arith, (loop-test .taken))) (loop .inv .0)), (loop .inv .1) ∙ (pre .0), (loop .inv .2) ∙ (pre .1), (pre .2), (loop .inv .4), (loop .inv .5))
+    (omega (arith, (first .ensures), first-lt (loop .left) (omega (arith, (loop-test .taken))) (loop .inv .0)), (loop .inv .2))
 
 mul-t15 : tie.Need-mul-t15 Inv-loop μ-loop
 mul-t15 c =
@@ -48,13 +46,15 @@ same-length : tie.Need-same-length Inv-loop μ-loop
 same-length c =
     let next-receiver = c .before .before .before .before .before .next-receiver in
     let loop = c .before .before .before .before .before .before .before .before .before .before .loop in
-    (next-receiver .kept .1 .1 .1 .1 .0) ∙ (loop .inv .1)
+    let pre = c .before .before .before .before .before .before .before .before .before .before .before .before .before .before .before .before .pre in
+    (next-receiver .kept .1 .1 .1 .1 .0) ∙ (loop .inv .2 .phases-long) ∙ sym (pre .0 .phases-long)
 
 same-length-2 : tie.Need-same-length-2 Inv-loop μ-loop
 same-length-2 c =
     let next-receiver = c .before .before .before .before .before .next-receiver in
     let loop = c .before .before .before .before .before .before .before .before .before .before .loop in
-    (next-receiver .kept .1 .1 .1 .1 .1 .0) ∙ (loop .inv .2)
+    let pre = c .before .before .before .before .before .before .before .before .before .before .before .before .before .before .before .before .pre in
+    (next-receiver .kept .1 .1 .1 .1 .1 .0) ∙ (loop .inv .2 .keeping-long) ∙ sym (pre .0 .keeping-long)
 
 returns : tie.Need-returns Inv-loop μ-loop
 returns c =
@@ -67,10 +67,16 @@ returns c =
     let e : (64 * (first .result) + (next-receiver .result)) / 64 ≡ (first .result) = omega (arith, (if1 .taken)) in
     let f = (next-receiver .ensures .1 .0) .1 (if1 .taken) in
     let m = first-in (loop .left) (omega (arith, (loop-test .taken))) (loop .inv .0) in (
-      shut-to _ _ _ (loop .left) (first .result) (next-receiver .result) (first .ensures) (omega (arith, (first .ensures), lt)) ((next-receiver .ensures .1 .0) .0) (loop .inv .3) (next-receiver .ensures .0),
+      shut-to _ _ _ (loop .left) (first .result) (next-receiver .result) (first .ensures) (omega (arith, (first .ensures), lt)) ((next-receiver .ensures .1 .0) .0) (loop .inv .1) (next-receiver .ensures .0),
       (
-        (λ n. (omega (arith, (first .ensures), lt, (if1 .taken)), rw e (f .0), rw e (f .1), rw e (f .2), rw (e, (first .ensures)) m)),
-        ((loop .inv .3), ((next-receiver .ensures .1 .1 .0), (next-receiver .ensures .1 .1 .1))),
+        (λ n. record {
+          channel = omega (arith, (first .ensures), lt, (if1 .taken));
+          ready = rw e (f .0);
+          kept = rw e (f .1);
+          unknown = rw e (f .2);
+          member = rw (e, (first .ensures)) m;
+        }),
+        ((loop .inv .1), ((next-receiver .ensures .1 .1 .0), (next-receiver .ensures .1 .1 .1))),
       ),
     )
 
@@ -86,34 +92,40 @@ loop-again c =
     let rest = c .rest in
     let loop = c .before .before .before .before .before .before .before .before .before .before .before .loop in
     let loop-test = c .before .before .before .before .before .before .before .before .before .before .loop-test in
-    let next-receiver = c .before .before .before .before .before .before .next-receiver in
     let first = c .before .before .before .before .before .before .before .before .before .first in
-    let if1 = c .before .if1 in (
+    let next-receiver = c .before .before .before .before .before .before .next-receiver in
+    let if1 = c .before .if1 in
+    let pre = c .before .before .before .before .before .before .before .before .before .before .before .before .before .before .before .before .before .pre in (
       omega (arith, (rest .ensures), (loop .inv .0), rest-less (loop .left) (omega (arith, (loop-test .taken)))),
-      (next-receiver .kept .1 .1 .1 .1 .0) ∙ (loop .inv .1),
-      (next-receiver .kept .1 .1 .1 .1 .1 .0) ∙ (loop .inv .2),
-      shut-rest _ _ _ (loop .left) (first .result) (rest .result) (omega (arith, (loop-test .taken))) (loop .inv .0) (first .ensures) (rest .ensures) (λ q h. (next-receiver .ensures .0) q (omega (arith, h, (if1 .left)))) (loop .inv .3),
-      (next-receiver .ensures .1 .1 .0),
-      (next-receiver .ensures .1 .1 .1),
+      shut-rest _ _ _ (loop .left) (first .result) (rest .result) (omega (arith, (loop-test .taken))) (loop .inv .0) (first .ensures) (rest .ensures) (λ q h. (next-receiver .ensures .0) q (omega (arith, h, (if1 .left)))) (loop .inv .1),
+      (record {
+        readable = (pre .0 .readable);
+        phases-long = (next-receiver .kept .1 .1 .1 .1 .0) ∙ (loop .inv .2 .phases-long);
+        under = (next-receiver .ensures .1 .1 .0);
+        keeping-long = (next-receiver .kept .1 .1 .1 .1 .1 .0) ∙ (loop .inv .2 .keeping-long);
+        keeps = (next-receiver .ensures .1 .1 .1);
+      }),
     )
 
 same-length-3 : tie.Need-same-length-3 Inv-loop μ-loop
 same-length-3 c =
     let loop = c .before .loop in
-    (loop .inv .1)
+    let pre = c .before .before .before .before .before .before .before .pre in
+    (loop .inv .2 .phases-long) ∙ sym (pre .0 .phases-long)
 
 same-length-4 : tie.Need-same-length-4 Inv-loop μ-loop
 same-length-4 c =
     let loop = c .before .loop in
-    (loop .inv .2)
+    let pre = c .before .before .before .before .before .before .before .pre in
+    (loop .inv .2 .keeping-long) ∙ sym (pre .0 .keeping-long)
 
 returns-2 : tie.Need-returns-2 Inv-loop μ-loop
 returns-2 c =
     let loop = c .before .loop in
     let loop-test = c .loop-test in
     let e : (loop .left) ≡ 0 = omega (arith, (loop-test .left)) in
-    let k = rw e at (loop .inv .3) in
-    (shut-all _ _ _ k, ((λ n. absurd (n refl)), (k, ((loop .inv .4), (loop .inv .5)))))
+    let k = rw e at (loop .inv .1) in
+    (shut-all _ _ _ k, ((λ n. absurd (n refl)), (k, ((loop .inv .2 .under), (loop .inv .2 .keeps)))))
 
 pub next-hand-spec : {M : Type 1} → statement M
 next-hand-spec =

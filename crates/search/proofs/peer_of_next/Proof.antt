@@ -5,9 +5,11 @@ use Rattle.search.proofs.peer_of_next.Tie as tie
 
 returns : tie.Need-returns
 returns c =
-    let pointer = c .before .pointer in
-    rw ((pointer .ensures .0))
+    let pointer = c .before .before .pointer in
+    let peer = c .peer in
+    rw (← (pointer .ensures .0)) (peer .ensures .0)
 
 pub peer-of-next-spec : {M : Type 1} → statement M
 peer-of-next-spec =
-    tie.close (tie.spec (λ c. search needs) (λ c κs. search needs) (λ c. search needs) (λ c. search needs) (λ c. search needs) (λ c. search needs) returns)
+    tie.close
+    (tie.spec (λ c. search needs) (λ c κs. search needs) (λ c. search needs) (λ c. search needs) (λ c. search needs) (λ c κs. search needs) returns)

@@ -8,7 +8,7 @@ peer-of-next-requires : tie.Need-peer-of-next-requires
 peer-of-next-requires c κs =
     let first = c .before .first in
     let pre = c .before .before .before .before .before .pre in
-    (omega (arith, (first .ensures), (pre .0)), (pre .1 .0), (pre .1 .4), (pre .1 .5))
+    (omega (arith, (first .ensures), (pre .0)), (pre .1 .ranged))
 
 do-process-requires : tie.Need-do-process-requires
 do-process-requires c κs =

@@ -1,8 +1,6 @@
 -- `search::unless_new` meets its contract.
 use borrow.Author.Tests.{eq-eqb, ne-eqb}
 use Rattle.search.specs.Inner.Lowest.{unlessNew}
-use native.Mathlib.Omega.{arith}
-use borrow.Author.Needs.{needs}
 use Rattle.search.proofs.unless_new.Statement.{statement}
 use Rattle.search.proofs.unless_new.Tie as tie
 

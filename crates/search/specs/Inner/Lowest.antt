@@ -2,17 +2,18 @@
 -- contract cites these.
 use Prim.Native.Nat.{ℕ, _/_, _<_, _+_, _*_, _≤_}
 use mathlib.Core.Path.{_≡_}
-use mathlib.Core.Bool.{false, cond}
+use mathlib.Core.Bool.{true, false, cond}
 use mathlib.Core.List.{List}
 use lib.ListN.{length, getD}
 use lib.Dec.{eqb}
 use Rattle.sets.specs.Inner.Sets.{Outside}
-use Rattle.theory.specs.Line.{Run}
+use Rattle.theory.specs.Line.{Run, inSet}
 use Rattle.theory.specs.Replay.{State, start}
 use Rattle.theory.specs.Order.{carriedOut, run, lowestFrom}
 use Rattle.theory.specs.Inner.Flow.{Inv}
 use Rattle.machine.specs.Inner.Words.{noPhase, curW, processOk, handOk, allowedW, keptPhase}
 use Rattle.machine.specs.Inner.Related.{Rel}
+use Rattle.machine.specs.Inner.Shapes.{Readable}
 
 -- the choices are the numbers before this
 abbrev pub noChoice : ℕ
@@ -26,6 +27,23 @@ module _ (t g a : List ℕ) where
   -- of each sender a set of receivers outside of which it keeps no message for anyone
   unfoldable pub Keeps : List ℕ → Type 0
   Keeps ks = (p : ℕ) → p < 64 → Outside (λ q. noPhase ≤ keptPhase t g a p (64 * p + q)) (getD ks p 0)
+
+  -- what the search knows of the senders: both, in words that may be read
+  pub record SendersKnown (ls ks : List ℕ) : Type 0 where
+    pub readable : Readable t g a
+    pub phases-long : length ls ≡ 64
+    pub under : Under ls
+    pub keeping-long : length ks ≡ 64
+    pub keeps : Keeps ks
+
+  -- a channel whose oldest kept message may be handed over: its sender is of the set, and nothing is known of its
+  -- phase, since that message leaves
+  pub record ToHand (ls : List ℕ) (senders c : ℕ) : Type 0 where
+    pub channel : c < 4096
+    pub ready : handOk t g a (c / 64) c ≡ true
+    pub kept : keptPhase t g a (c / 64) c < noPhase
+    pub unknown : getD ls (c / 64) 0 ≡ 0
+    pub member : inSet senders (c / 64) ≡ true
 
   -- a set of senders outside of which none keeps a message
   unfoldable pub ToKeep : ℕ → Type 0
@@ -57,6 +75,9 @@ unlessNew was is x y = cond (eqb is was) x y
 
 -- the order of the lowest choices, at most so many, is carried out in n steps, and the area stands for the state that
 -- it comes to
-abbrev pub LowestDone : Run → List ℕ → ℕ → ℕ → Type 0
-LowestDone R a most n =
-    (s : State) × Rel R a s × Inv R s × (run R (lowestFrom R most (start R)) ≡ carriedOut s) × (n ≡ length (lowestFrom R most (start R)))
+pub record LowestDone (R : Run) (a : List ℕ) (most n : ℕ) : Type 0 where
+  pub state : State
+  pub rel : Rel R a state
+  pub inv : Inv R state
+  pub carried : run R (lowestFrom R most (start R)) ≡ carriedOut state
+  pub steps : n ≡ length (lowestFrom R most (start R))

@@ -12,7 +12,7 @@ use Rattle.table.proofs.counted.Tie as tie
 fault-requires : tie.Need-fault-requires
 fault-requires c κs =
     let pre = c .before .before .pre in
-    ((pre .0), ((pre .1 .2)) .size)
+    (pre .procs-most, pre .tally .size)
 
 returns : tie.Need-returns
 returns c =
@@ -27,12 +27,12 @@ tally-requires c κs =
     let fault = c .before .before .fault in
     let if1 = c .before .if1 in
     record {
-      procs = (args .procs);
-      events = (pre .1 .0);
-      procs-most = (pre .0);
-      events-few = (pre .1 .1);
-      tally = (pre .1 .2);
-      fit = omega (arith, (fault .ensures) ∙ fault-counted (args .procs) (pre .0) _ (pre .1 .0) (pre .1 .2) _, (if1 .left));
+      procs = args .procs;
+      events = pre .events;
+      procs-most = pre .procs-most;
+      events-few = pre .events-few;
+      tally = pre .tally;
+      fit = omega (arith, (fault .ensures) ∙ fault-counted (args .procs) (pre .procs-most) _ (pre .events) (pre .tally) _, (if1 .left));
     }
 
 returns-2 : tie.Need-returns-2

@@ -1,4 +1,5 @@
 -- `table::event` meets its contract, one law for each kind of word.
+use mathlib.Core.Path.{sym, _∙_}
 use Rattle.table.proofs.Turns.{event-send, event-recv, event-save}
 use borrow.Author.Needs.{needs}
 use Rattle.table.proofs.event.Statement.{statement}
@@ -6,20 +7,28 @@ use Rattle.table.proofs.event.Tie as tie
 
 returns : tie.Need-returns
 returns c =
+    let process = c .before .before .process in
+    let peer = c .before .peer in
+    let top = c .before .before .before .top in
     let if1 = c .if1 in
-    event-send _ _ (if1 .taken)
+    rw ((process .ensures .0), (peer .ensures .0)) (event-send _ _ (sym (top .ensures) ∙ (if1 .taken)))
 
 returns-2 : tie.Need-returns-2
 returns-2 c =
+    let process = c .before .before .before .process in
+    let peer = c .before .before .peer in
     let if1 = c .before .if1 in
+    let top = c .before .before .before .before .top in
     let if2 = c .if2 in
-    event-recv _ _ (if1 .left) (if2 .taken)
+    rw ((process .ensures .0), (peer .ensures .0)) (event-recv _ _ (λ q. (if1 .left) ((top .ensures) ∙ q)) (sym (top .ensures) ∙ (if2 .taken)))
 
 returns-3 : tie.Need-returns-3
 returns-3 c =
+    let process = c .before .before .before .process in
     let if1 = c .before .if1 in
+    let top = c .before .before .before .before .top in
     let if2 = c .if2 in
-    event-save _ _ (if1 .left) (if2 .left)
+    rw ((process .ensures .0)) (event-save _ _ (λ q. (if1 .left) ((top .ensures) ∙ q)) (λ q. (if2 .left) ((top .ensures) ∙ q)))
 
 pub event-spec : {M : Type 1} → statement M
-event-spec = tie.close (tie.spec (λ c. search needs) (λ c. search needs) returns returns-2 returns-3)
+event-spec = tie.close (tie.spec (λ c κs. search needs) (λ c κs. search needs) (λ c κs. search needs) returns returns-2 returns-3)

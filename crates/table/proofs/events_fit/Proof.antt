@@ -2,7 +2,7 @@
 -- what the tests from here say is what they say from event 1.
 use mathlib.Core.Path.{_≡_, refl, sym, _∙_}
 use mathlib.Core.List.{List, [], _∷_, _++_}
-use Prim.Native.Nat.{_+_, _-_, _≤_}
+use Prim.Native.Nat.{ℕ, _+_, _-_, _≤_}
 use native.Mathlib.Omega.{arith}
 use lib.ListN.{length, length-append}
 use borrow.Author.Tests.{not-true, not-false}
@@ -18,10 +18,16 @@ use borrow.Author.Needs.{needs}
 use Rattle.table.proofs.events_fit.Statement.{statement}
 use Rattle.table.proofs.events_fit.Tie as tie
 
+-- before event number i: the events before it, which the counters count; the tests from here say what all say
+pub record Before (area : List ℕ) (procs n : ℕ) (counts : List ℕ) (i : ℕ) : Type 0 where
+  pub events : List Event
+  pub count : length events + 1 ≡ i
+  pub within : i ≤ n + 1
+  pub tally : Tally counts events
+  pub rest : fitFrom procs events area i (n + 1 - i) ≡ fitFrom procs [] area 1 n
+
 abbrev Inv-loop : tie.InvT-loop
-Inv-loop area procs n counts₀ i₀ counts i =
-    (es : List Event) × (length es + 1 ≡ i) × (i ≤ n + 1) × Tally counts es
-    × (fitFrom procs es area i (n + 1 - i) ≡ fitFrom procs [] area 1 n)
+Inv-loop area procs n counts₀ i₀ counts i = Before area procs n counts i
 
 abbrev μ-loop : tie.MeasureT-loop
 μ-loop area procs n counts₀ i₀ counts i = n + 1 - i
@@ -29,19 +35,25 @@ abbrev μ-loop : tie.MeasureT-loop
 loop-holds : tie.Need-loop-holds Inv-loop μ-loop
 loop-holds c =
     let args = c .before .args in
-    let q : (args .n) + 1 - 1 ≡ (args .n) = omega arith in ([], refl, omega arith, none-tally, rw q)
+    let q : (args .n) + 1 - 1 ≡ (args .n) = omega arith in
+    record { events = []; count = refl; within = omega arith; tally = none-tally; rest = rw q }
 
 slice-aggregate-word-fits : tie.Need-slice-aggregate-word-fits Inv-loop μ-loop
 slice-aggregate-word-fits c =
     let loop = c .before .before .loop in
-    sym ((loop .inv .3) .size)
+    sym (loop .inv .tally .size)
 
 word-fits-requires : tie.Need-word-fits-requires Inv-loop μ-loop
 word-fits-requires c κs =
     let pre = c .before .before .before .before .before .before .pre in
     let loop = c .before .before .before .before .loop in
     let loop-test = c .before .before .before .loop-test in
-    ((pre .0), ((loop .inv .0), omega (arith, pre, (loop .inv .1), (loop-test .taken)), (loop .inv .3)))
+    record {
+      procs-most = pre .0;
+      events = loop .inv .events;
+      events-few = omega (arith, pre, loop .inv .count, (loop-test .taken));
+      tally = loop .inv .tally;
+    }
 
 returns : tie.Need-returns Inv-loop μ-loop
 returns c =
@@ -51,7 +63,7 @@ returns c =
     let loop = c .before .before .before .before .before .before .before .loop in
     let loop-test = c .before .before .before .before .before .before .loop-test in
     let pre = c .before .before .before .before .before .before .before .before .before .pre in
-    sym (rw (← (word-fits .ensures .0), not-true (word-fits .result) (if1 .taken)) at (events-turn (args .procs) (loop .inv .0) (args .area .now) (loop .i) (args .n) (loop-test .taken) (pre .0) (loop .counts) (loop .inv .3))) ∙ (loop .inv .4)
+    sym (rw (← (word-fits .ensures .0), not-true (word-fits .result) (if1 .taken)) at (events-turn (args .procs) (loop .inv .events) (args .area .now) (loop .i) (args .n) (loop-test .taken) (pre .0) (loop .counts) (loop .inv .tally))) ∙ (loop .inv .rest)
 
 loop-again : tie.Need-loop-again Inv-loop μ-loop
 loop-again c =
@@ -63,19 +75,20 @@ loop-again c =
     let loop-test = c .before .before .before .before .before .before .loop-test in
     let y = not-false _ (if1 .left) in
     let w = sym (word-fits .ensures .0) ∙ y in
-    let f : eventFault (args .procs) (loop .inv .0) (heldEvent (args .area .now) (loop .i)) ≡ 0 = sym (fault-counted (args .procs) (pre .0) _ (loop .inv .0) (loop .inv .3) _) ∙ fits-fault _ _ _ _ w in (
-      (loop .inv .0) ++ heldEvent (args .area .now) (loop .i) ∷ [],
-      rw (length-append, (loop .inv .1)),
-      omega arith,
-      rw ((word-fits .ensures .1) y) (next-tally (args .procs) (loop .inv .0) _ (pre .0) (loop .inv .3) _ f),
-      sym (rw w at (events-turn (args .procs) (loop .inv .0) (args .area .now) (loop .i) (args .n) (loop-test .taken) (pre .0) (loop .counts) (loop .inv .3))) ∙ (loop .inv .4),
-    )
+    let f : eventFault (args .procs) (loop .inv .events) (heldEvent (args .area .now) (loop .i)) ≡ 0 = sym (fault-counted (args .procs) (pre .0) _ (loop .inv .events) (loop .inv .tally) _) ∙ fits-fault _ _ _ _ w in
+    record {
+      events = loop .inv .events ++ heldEvent (args .area .now) (loop .i) ∷ [];
+      count = rw (length-append, loop .inv .count);
+      within = omega arith;
+      tally = rw ((word-fits .ensures .1) y) (next-tally (args .procs) (loop .inv .events) _ (pre .0) (loop .inv .tally) _ f);
+      rest = sym (rw w at (events-turn (args .procs) (loop .inv .events) (args .area .now) (loop .i) (args .n) (loop-test .taken) (pre .0) (loop .counts) (loop .inv .tally))) ∙ loop .inv .rest;
+    }
 
 returns-2 : tie.Need-returns-2 Inv-loop μ-loop
 returns-2 c =
     let loop-test = c .loop-test in
     let loop = c .before .loop in
-    sym (events-end _ _ _ _ _ (loop-test .left)) ∙ (loop .inv .4)
+    sym (events-end _ _ _ _ _ (loop-test .left)) ∙ (loop .inv .rest)
 
 pub events-fit-spec : {M : Type 1} → statement M
 events-fit-spec =

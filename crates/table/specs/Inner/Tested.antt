@@ -1,5 +1,5 @@
 -- What the code tests, one word after another. No public contract cites these.
-use Prim.Native.Nat.{ℕ, zero, suc, _+_, _-_}
+use Prim.Native.Nat.{ℕ, zero, suc, _+_, _-_, _<_, _≤_}
 use mathlib.Core.List.{List, [], _∷_, _++_}
 use mathlib.Core.Bool.{Bool, true, _&&_}
 use lib.ListN.{length, getD}
@@ -8,8 +8,15 @@ use Rattle.words.specs.Area.{areaWords}
 use Rattle.trace.specs.declared.Event.{Event}
 use Rattle.trace.specs.Fit.{eventFault}
 use Rattle.trace.specs.Table.{wordOf, valueWord, eventBase, valueBase}
-use Rattle.trace.specs.Inner.Tally.{faultBy}
+use Rattle.trace.specs.Inner.Tally.{Tally, faultBy}
 use Rattle.table.specs.Held.{eventOf, heldEvent}
+
+-- counters to which one event more can be counted: those of fewer than 2,048 events, in a run of at most 64 processes
+pub record Room (procs : ℕ) (counts : List ℕ) : Type 0 where
+  pub procs-most : procs ≤ 64
+  pub events : List Event
+  pub events-few : length events < 2048
+  pub tally : Tally counts events
 
 -- n words from place i on are 0
 unfoldable pub zerosFrom : List ℕ → ℕ → ℕ → Bool

@@ -1,8 +1,10 @@
--- What a table of runs can compute: orders judged, lists of messages looked into, records compared.
+-- What a table of runs can compute: small traces, orders judged, lists of messages looked into, records compared.
 use mathlib.Core.Bool.{Bool, true, false, _&&_, _||_}
 use mathlib.Core.List.{List, [], _∷_}
 use Prim.Native.Nat.{ℕ}
 use lib.Dec.{eqb}
+use Rattle.trace.specs.declared.Event.{Event}
+use Rattle.trace.specs.Trace.{Trace, started, withEvents}
 use Rattle.theory.specs.Lists.{iv, no-one, all-below}
 use Rattle.theory.specs.Events.{size, sent}
 use Rattle.theory.specs.Line.{Run, lost}
@@ -10,6 +12,10 @@ use Rattle.theory.specs.Replay.{State}
 use Rattle.theory.specs.Inner.Record.{delivered, faultless}
 use Rattle.theory.specs.Order.{Outcome, carriedOut, refused}
 use Rattle.theory.specs.Answers.{Listed}
+
+-- a trace of two processes
+abbrev pub two : List Event → Trace
+two es = withEvents (started 2) es
 
 -- equal lists of numbers and values
 unfoldable pub samePairs : List (ℕ × ℕ) → List (ℕ × ℕ) → Bool

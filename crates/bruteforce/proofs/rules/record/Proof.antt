@@ -1,5 +1,5 @@
 -- `record` meets its contract: no store is at the first word.
-use Prim.Native.Nat.{_+_, _-_, _≤_}
+use Prim.Native.Nat.{_-_, _≤_}
 use mathlib.Core.Path.{_≡_, refl}
 use Rattle.bruteforce.specs.Counts.{firstWord}
 use Rattle.bruteforce.proofs.Counts.{first-kept}

@@ -1,0 +1,230 @@
+-- The one view of the full table: what its words say of the trace (how many processes and events; of each event the
+-- process, the kind, the peer, the value, the match and whether its message is logged), and that they are in their
+-- ranges.
+use mathlib.Core.Path.{_≡_, refl, sym, ap, _∙_}
+use mathlib.Core.Logic.{_≢_}
+use mathlib.Core.Bool.{Bool, true, _&&_, cond}
+use mathlib.Core.List.{List, [], _∷_, _++_}
+use Prim.Native.Nat.{ℕ, zero, suc, _+_, _*_, _%_, _≤_, _<_}
+use native.Mathlib.Omega.{arith}
+use lib.ListN.{length, getD}
+use lib.Dec.{leb, eqb}
+use borrow.Author.Tests.{eqb-true, leb-true}
+use Rattle.words.proofs.Cases.{by-bool, and-left, and-right}
+use Rattle.trace.specs.declared.Event.{Event}
+use Rattle.trace.specs.declared.Event.the-variants.{Send, Recv, Save}
+use Rattle.trace.specs.Trace.{Trace, valueOf}
+use Rattle.trace.specs.Fit.{eventFault, valueFits, allFit, wellFormed}
+use Rattle.trace.specs.Table.{wordOf, valueWord}
+use Rattle.trace.proofs.Places.{column-at, word-procs, word-count, word-event, word-value, word-at, word-peer, word-kind}
+use Rattle.theory.specs.Events.{send, recv, other, size, eventAt, at, kind, sends, recvs, sent, rcvd, sendOf, recvOf, value}
+use Rattle.theory.specs.Epochs.{epochAt, phaseAt, ruleOf}
+use Rattle.theory.proofs.Base.{place-le, place-there}
+use Rattle.theory.proofs.Events.{sends-is, recvs-is, sends-of, recvs-of, sendOf-at, partner}
+use Rattle.theory.proofs.WellFormed.{Valid, valid}
+use Rattle.columns.specs.Inner.Columns.{Flagged, Tabled}
+use Rattle.columns.specs.Inner.Full.{procsW, eventsW, eventW, atW, peerW, kindW, numberW, valueW, matchW, loggedW, kindBy}
+use Rattle.columns.proofs.Bounds.{well-few}
+use Rattle.columns.proofs.Moves.{send-epoch, send-phase, recv-at, recv-epoch, recv-phase-other, save-at, save-epoch-other, save-phase-other}
+
+-- an event changes the epoch and the phase of its own process only
+module _ (t : Trace) (x z : ℕ) (n : z ≢ at t (suc x)) where
+  else-of : (v : Event) → eventAt t (suc x) ≡ v → (epochAt t (ruleOf t) z (suc x) ≡ epochAt t (ruleOf t) z x) × (phaseAt t (ruleOf t) z (suc x) ≡ phaseAt t (ruleOf t) z x)
+  else-of (Send a b v) h = (send-epoch t x a b v h z, send-phase t x a b v h z)
+  else-of (Recv a b) h = (recv-epoch t x a b h z, recv-phase-other t x a b h z (λ i. n (i ∙ sym (recv-at t x a b h))))
+  else-of (Save a) h =
+      let m : z ≢ a = λ i. n (i ∙ sym (save-at t x a h)) in
+      (save-epoch-other t x a h z m, save-phase-other t x a h z m)
+
+  pub else-same : (epochAt t (ruleOf t) z (suc x) ≡ epochAt t (ruleOf t) z x) × (phaseAt t (ruleOf t) z (suc x) ≡ phaseAt t (ruleOf t) z x)
+  else-same = else-of (eventAt t (suc x)) refl
+
+-- the values of fit events are below 4294967296
+fit-values : (n : ℕ) (d : Event) (before es : List Event) → allFit n before es ≡ true → (i : ℕ) → i < length es → valueFits (getD es i d) ≡ true
+unfolding allFit
+fit-values n d before [] h i l = absurd (let z : ⊥ = omega arith in z)
+fit-values n d before (e ∷ es) h zero l = and-left (valueFits e) _ (and-right (eqb (eventFault n before e) 0) _ h)
+fit-values n d before (e ∷ es) h (suc i) l =
+    fit-values n d (before ++ e ∷ []) es (and-right (valueFits e) _ (and-right (eqb (eventFault n before e) 0) _ h)) i (omega arith)
+
+value-lt : (e : Event) → valueFits e ≡ true → valueOf e < 4294967296
+value-lt (Send a b v) h = omega (arith, leb-true v 4294967295 h)
+value-lt (Recv a b) h = omega arith
+value-lt (Save a) h = omega arith
+
+-- no value of a well-formed trace is cut to fit a word
+pub value-word : (t : Trace) → wellFormed t ≡ true → (e : ℕ) → 0 < e → e ≤ size t → valueWord (eventAt t e) ≡ valueOf (eventAt t e)
+unfolding wellFormed eventAt
+value-word t w zero h k = absurd (let z : ⊥ = omega arith in z)
+value-word t w (suc i) h k =
+    let fits = allFit (t .procs) [] (t .events) in
+    let b = and-right (leb 2 (t .procs)) (leb (t .procs) 64 && (leb (size t) 2048 && fits)) w in
+    let c = and-right (leb (size t) 2048) fits (and-right (leb (t .procs) 64) (leb (size t) 2048 && fits) b) in
+    omega (arith, value-lt (getD (t .events) i (Save (t .procs))) (fit-values (t .procs) (Save (t .procs)) [] (t .events) c i k))
+
+-- the kind and the peer of a word that says a send, or a receive
+kind-send-by : (k w q : ℕ) → send q ≡ kindBy k w → (k ≡ 1) × (w ≡ q)
+unfolding kindBy
+kind-send-by k w q i =
+    by-bool (eqb k 1)
+    (λ u. let j : send q ≡ send w = rw u at i in (eqb-true k 1 u, let y : q ≡ w = cc in sym y))
+    (λ u. by-bool (eqb k 2)
+    (λ v. let j : send q ≡ recv w = rw (u, v) at i in let z : _≡_ {A = ℕ} 0 1 = cc in absurd (let y : ⊥ = omega arith in y))
+    (λ v. let j : send q ≡ other = rw (u, v) at i in let z : _≡_ {A = ℕ} 0 1 = cc in absurd (let y : ⊥ = omega arith in y)))
+
+kind-recv-by : (k w p : ℕ) → recv p ≡ kindBy k w → (k ≡ 2) × (w ≡ p)
+unfolding kindBy
+kind-recv-by k w p i =
+    by-bool (eqb k 1)
+    (λ u. let j : recv p ≡ send w = rw u at i in let z : _≡_ {A = ℕ} 0 1 = cc in absurd (let y : ⊥ = omega arith in y))
+    (λ u. by-bool (eqb k 2)
+    (λ v. let j : recv p ≡ recv w = rw (u, v) at i in (eqb-true k 2 v, let y : p ≡ w = cc in sym y))
+    (λ v. let j : recv p ≡ other = rw (u, v) at i in let z : _≡_ {A = ℕ} 0 1 = cc in absurd (let y : ⊥ = omega arith in y)))
+
+module _ (t : Trace) (full : List ℕ) (G : Tabled t full) where
+  pub fit : Valid t
+  fit = valid t (G .formed)
+
+  pub few : size t ≤ 2048
+  few = well-few t (G .formed)
+
+  pub procs-is : procsW full ≡ t .procs
+  procs-is = G .columns .words 0 (omega arith) ∙ word-procs t
+
+  pub size-is : eventsW full ≡ size t
+  size-is = G .columns .words 1 (omega arith) ∙ word-count t
+
+  pub procs-most : procsW full ≤ 64
+  procs-most = omega (arith, procs-is, fit .few)
+
+  pub size-most : eventsW full ≤ 2048
+  size-most = omega (arith, size-is, few)
+
+  -- ---- The words of an event
+
+  pub word-is : (e : ℕ) → 0 < e → e ≤ size t → eventW full e ≡ wordOf (eventAt t e)
+  unfolding eventAt
+  word-is zero a b = absurd (let z : ⊥ = omega arith in z)
+  word-is (suc i) a b =
+      G .columns .words (16 + suc i) (omega (arith, few)) ∙ word-event t i (16 + suc i) (omega arith) (omega (arith, few)) ∙ column-at wordOf (t .events) i _ b
+
+  plane : (e : ℕ) → 0 < e → e ≤ size t → valueW full e ≡ valueWord (eventAt t e)
+  unfolding eventAt
+  plane zero a b = absurd (let z : ⊥ = omega arith in z)
+  plane (suc i) a b =
+      G .columns .words (2065 + suc i) (omega (arith, few)) ∙ word-value t i (2065 + suc i) (omega arith) ∙ column-at valueWord (t .events) i _ b
+
+  value-is : (e : ℕ) → 0 < e → e ≤ size t → valueW full e ≡ valueOf (eventAt t e)
+  value-is e a b = plane e a b ∙ value-word t (G .formed) e a b
+
+  module _ (e : ℕ) (a : 0 < e) (b : e ≤ size t) where
+    process-few : at t e < 64
+    process-few = omega (arith, fit .process-lt e a b, fit .few)
+
+    -- by the event: its kind, its process, its peer
+    of-send : (z q v : ℕ) → eventAt t e ≡ Send z q v → (kindW full e ≡ 1) × (atW full e ≡ z) × (peerW full e ≡ q)
+    unfolding at kind
+    of-send z q v h =
+        let w : eventW full e ≡ z % 64 + 64 * (q % 64) + 4096 * 1 = word-is e a b ∙ ap wordOf h in
+        let l : z < 64 = rw h at process-few in
+        let k : kind t e ≡ send q = rw h in
+        let r : q < 64 = omega (arith, fit .peer-lt e q a b k, fit .few) in
+        (word-kind z q 1 _ l r w (omega arith), word-at z q 1 _ l r w, word-peer z q 1 _ l r w)
+
+    of-recv : (z p : ℕ) → eventAt t e ≡ Recv z p → (kindW full e ≡ 2) × (atW full e ≡ z) × (peerW full e ≡ p)
+    unfolding at kind
+    of-recv z p h =
+        let w : eventW full e ≡ z % 64 + 64 * (p % 64) + 4096 * 2 = word-is e a b ∙ ap wordOf h in
+        let l : z < 64 = rw h at process-few in
+        let i : at t e ≡ z = rw h in
+        let k : kind t e ≡ recv p = rw h in
+        let x = partner t (fit .causal) p z e (recvs-of t p z e i k) a b in
+        let r : p < 64 = omega (arith, (sends-is t p z (x .0) (x .3)) .0, fit .process-lt (x .0) (x .1) (omega (arith, x .2)), fit .few) in
+        (word-kind z p 2 _ l r w (omega arith), word-at z p 2 _ l r w, word-peer z p 2 _ l r w)
+
+    of-save : (z : ℕ) → eventAt t e ≡ Save z → (kindW full e ≡ 3) × (atW full e ≡ z)
+    unfolding at
+    of-save z h =
+        let w : eventW full e ≡ z % 64 + 64 * (0 % 64) + 4096 * 3 = word-is e a b ∙ ap wordOf h ∙ omega arith in
+        let l : z < 64 = rw h at process-few in
+        (word-kind z 0 3 _ l (omega arith) w (omega arith), word-at z 0 3 _ l (omega arith) w)
+
+    told : (v : Event) → eventAt t e ≡ v → (atW full e ≡ at t e) × (kind t e ≡ kindBy (kindW full e) (peerW full e))
+    unfolding at kind kindBy
+    told (Send z q v) h = let w = of-send z q v h in (w .1 ∙ rw h, rw (h, w .0, w .2))
+    told (Recv z p) h = let w = of-recv z p h in (w .1 ∙ rw h, rw (h, w .0, w .2))
+    told (Save z) h = let w = of-save z h in (w .1 ∙ rw h, rw (h, w .0))
+
+    pub at-is : atW full e ≡ at t e
+    at-is = (told (eventAt t e) refl) .0
+
+    pub kind-is : kind t e ≡ kindBy (kindW full e) (peerW full e)
+    kind-is = (told (eventAt t e) refl) .1
+
+    -- kind 1 is a send, kind 2 a receive
+    pub kind-send : kindW full e ≡ 1 → sends t (atW full e) (peerW full e) e ≡ true
+    unfolding kindBy
+    kind-send k = sends-of t (atW full e) (peerW full e) e (sym at-is) (kind-is ∙ rw k)
+
+    pub kind-receive : kindW full e ≡ 2 → recvs t (peerW full e) (atW full e) e ≡ true
+    unfolding kindBy
+    kind-receive k = recvs-of t (peerW full e) (atW full e) e (sym at-is) (kind-is ∙ rw k)
+
+    pub send-kind : (p q : ℕ) → sends t p q e ≡ true → (kindW full e ≡ 1) × (atW full e ≡ p) × (peerW full e ≡ q)
+    send-kind p q s =
+        let h = sends-is t p q e s in
+        let k = kind-send-by (kindW full e) (peerW full e) q (sym (h .1) ∙ kind-is) in
+        (k .0, at-is ∙ h .0, k .1)
+
+    pub receive-kind : (p q : ℕ) → recvs t p q e ≡ true → (kindW full e ≡ 2) × (peerW full e ≡ p) × (atW full e ≡ q)
+    receive-kind p q s =
+        let h = recvs-is t p q e s in
+        let k = kind-recv-by (kindW full e) (peerW full e) p (sym (h .1) ∙ kind-is) in
+        (k .0, k .1, at-is ∙ h .0)
+
+  -- ---- What it is matched with
+
+  module _ (p q e : ℕ) (s : sends t p q e ≡ true) (a : 0 < e) (b : e ≤ size t) where
+    -- the processes of a send
+    pub send-ends : (p < t .procs) × (q < t .procs)
+    send-ends = let h = sends-is t p q e s in (omega (arith, fit .process-lt e a b, h .0), fit .peer-lt e q a b (h .1))
+
+    pub send-value : valueW full e ≡ value t p q (sent t p q e)
+    unfolding value
+    send-value = value-is e a b ∙ ap (λ d. valueOf (eventAt t d)) (sym (sendOf-at t p q e s a b))
+
+    -- the receive of its message, where there is one
+    pub send-match-most : matchW full e ≤ size t
+    unfolding recvOf
+    send-match-most = omega (arith, G .columns .match-send p q e s a b, place-le (recvs t p q) (sent t p q e) (size t))
+
+    pub send-match : 0 < matchW full e → (recvs t p q (matchW full e) ≡ true) × (rcvd t p q (matchW full e) ≡ sent t p q e)
+    unfolding recvOf rcvd
+    send-match h =
+        let m = G .columns .match-send p q e s a b in
+        let r = place-there (recvs t p q) (sent t p q e) (size t) (omega (arith, m)) in
+        rw m (r .0, r .1)
+
+    -- whether it is logged
+    pub send-logged : (L : ℕ → ℕ → ℕ → Bool) → Flagged t L full → 0 < matchW full e → loggedW full (matchW full e) ≡ cond (L p q (sent t p q e)) 1 0
+    send-logged L F h =
+        let r = send-match h in
+        F p q (matchW full e) (r .0) h send-match-most ∙ ap (λ (k : ℕ). cond (L p q k) 1 0) (r .1)
+
+  module _ (p q e : ℕ) (s : recvs t p q e ≡ true) (a : 0 < e) (b : e ≤ size t) where
+    -- the send of the message that it takes, before it
+    pub recv-match : (0 < matchW full e) × (matchW full e < e) × (sends t p q (matchW full e) ≡ true) × (sent t p q (matchW full e) ≡ rcvd t p q e)
+    recv-match =
+        let d = partner t (fit .causal) p q e s a b in
+        let m : matchW full e ≡ d .0 = G .columns .match-recv p q e s a b ∙ ap (sendOf t p q) (sym (d .4)) ∙ sendOf-at t p q (d .0) (d .3) (d .1) (omega (arith, d .2)) in
+        rw m (d .1, d .2, d .3, d .4)
+
+    pub recv-value : valueW full (matchW full e) ≡ value t p q (rcvd t p q e)
+    recv-value =
+        let m = recv-match in
+        send-value p q (matchW full e) (m .2) (m .0) (omega (arith, m .1)) ∙ ap (value t p q) (m .3)
+
+    pub recv-number : numberW full (matchW full e) ≡ rcvd t p q e
+    recv-number =
+        let m = recv-match in
+        G .columns .number-send p q (matchW full e) (m .2) (m .0) (omega (arith, m .1)) ∙ m .3
