@@ -2,7 +2,7 @@
 // Each returns the number of the refusal, or 0, and writes the rest of its answer into a lent slice, as far as that has
 // room (specs/Answers). No function has a `requires`. Assumes nothing.
 ghost use mathlib.Core.Path.{_≡_};
-ghost use Prim.Native.Nat.{_≤_};
+ghost use Prim.Native.Nat.{_+_, _≤_};
 ghost use mathlib.Core.List.{[], _∷_};
 ghost use lib.ListN.{length, getD};
 ghost use mathlib.Core.Bool.{cond};
@@ -40,7 +40,21 @@ fn wide(x: u32) -> u64
     x as u64
 }
 
-fn put_words(answer: &mut [u64], at: usize, words: &[u32]) -> usize
+// Words that all have room.
+fn copy_words(answer: &mut [u64], at: usize, words: &[u32]) -> usize
+    requires { ⌜ at + length (now words) ≤ length (now answer) ⌝ }
+    ensures { λ r. ⌜ Puts (now (words .entry)) (now (answer .entry)) at (now (answer .exit)) r ⌝ }
+{
+    let mut i: usize = 0;
+    while i < words.len() {
+        answer[at + i] = wide(words[i]);
+        i += 1;
+    }
+    at + i
+}
+
+// Words of which perhaps not all have room.
+fn put_each(answer: &mut [u64], at: usize, words: &[u32]) -> usize
     ensures { λ r. ⌜ Puts (now (words .entry)) (now (answer .entry)) at (now (answer .exit)) r ⌝ }
 {
     let mut next = at;
@@ -50,6 +64,19 @@ fn put_words(answer: &mut [u64], at: usize, words: &[u32]) -> usize
         i += 1;
     }
     next
+}
+
+// A full slice is left as it is; where all words have room, one test serves for all of them.
+fn put_words(answer: &mut [u64], at: usize, words: &[u32]) -> usize
+    ensures { λ r. ⌜ Puts (now (words .entry)) (now (answer .entry)) at (now (answer .exit)) r ⌝ }
+{
+    if at >= answer.len() {
+        return at;
+    }
+    if words.len() <= answer.len() - at {
+        return copy_words(answer, at, words);
+    }
+    put_each(answer, at, words)
 }
 
 fn put_three(answer: &mut [u64], a: u64, b: u64, c: u64) -> usize

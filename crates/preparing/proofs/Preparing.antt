@@ -107,7 +107,7 @@ module _ (a : List ℕ) (room step set : ℕ) (l : Line) where
     pub takeable : (n : ℕ) → n ≡ numbersFault (held a) step set (l .count) (lineIn l) → n ≡ 0 → Takeable (held a) full l step
     takeable n e z =
         let q : FitLine (held a) step set (l .count) (lineIn l) = line-fit (held a) step set (l .count) (lineIn l) .0 (sym (fit-rest (T .fit)) ∙ sym e ∙ z) in
-        record { marked = T .opened .marked; within = step-within a room step set full T; count-is = q .count-is; set = set; permitted = q .permitted }
+        record { marked = T .opened .marked; within = step-within a room step set full T; count-is = q .count-is; failed = set; permitted = q .permitted }
 
 -- ---- `gates_of`
 
@@ -124,7 +124,7 @@ module _ (t : Trace) (full : List ℕ) (line : Line) (cut : ℕ) (P : Takeable t
         within = P .within;
         linked = L;
         count-is = P .count-is;
-        numbers = number-of t (ruleOf t) (fit t full G) cut (P .within) (usableAt t cut) (reached-usable t (G .formed) (ruleOf t) cut (P .within)) (inSet (P .set)) (lineIn line) (P .permitted);
+        numbers = number-of t (ruleOf t) (fit t full G) cut (P .within) (usableAt t cut) (reached-usable t (G .formed) (ruleOf t) cut (P .within)) (inSet (P .failed)) (lineIn line) (P .permitted);
       }
 
   -- the full table tells the trace's own run

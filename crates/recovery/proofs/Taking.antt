@@ -31,4 +31,4 @@ module _ (a : List ℕ) (step set : ℕ) (r : Restarted) (G : Ready a step set r
 pub engine-takeable : (t : Trace) (full : List ℕ) → Marked t (ruleOf t) full → (cut set : ℕ) → cut ≤ size t → (r : Restarted) → r ≡ restartOf t cut set → Restarts t cut set r
     → Takeable t full (r .line) cut
 engine-takeable t full M cut set h r e m =
-    record { marked = M; within = h; count-is = count-in t cut set r e; set = set; permitted = m .greatest .permitted }
+    record { marked = M; within = h; count-is = count-in t cut set r e; failed = set; permitted = m .greatest .permitted }

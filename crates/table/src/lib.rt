@@ -65,7 +65,7 @@ fn counted(counts: &mut [u16], procs: u64, e: Event) -> bool
     true
 }
 
-// The word of a checkpoint is this times 64 and its process: kind 3, and no peer, in one test.
+// What the word of a checkpoint has above its process: kind 3, and no peer, in one test.
 const CHECKPOINT_WORD: u32 = 192;
 
 // Whether a word and a value are those of an event that is fit after those that were counted; then counts it. One test
@@ -95,7 +95,7 @@ fn word_fits(counts: &mut [u16], procs: u64, w: u32, v: u32) -> bool
     if top == 2 {
         return counted(counts, procs, Event::Recv { at: at, from: peer });
     }
-    if w / 64 != CHECKPOINT_WORD {
+    if trace::above(w) != CHECKPOINT_WORD {
         return false;
     }
     counted(counts, procs, Event::Save { at: at })

@@ -72,11 +72,18 @@ pub fn process(w: u32) -> usize
     (w % 64) as usize
 }
 
+// All that a word has above its process: the peer, and what stands above that.
+pub fn above(w: u32) -> u32
+    ensures { λ r. ⌜ r ≡ w / 64 ⌝ }
+{
+    w / 64
+}
+
 // The other process: the receiver of a send, the sender of a receive.
 pub fn peer(w: u32) -> usize
     ensures { λ r. ⌜ (r ≡ peerIn w) × (r < 64) ⌝ }
 {
-    (w / 64 % 64) as usize
+    (above(w) % 64) as usize
 }
 
 // How many counters there are: messages in transit, a word for each channel, then checkpoints, a word for each process.

@@ -37,8 +37,8 @@ pub record Takeable (t : Trace) (full : List ℕ) (line : Line) (cut : ℕ) : Ty
   pub marked : Marked t (ruleOf t) full
   pub within : cut ≤ size t
   pub count-is : line .count ≡ t .procs
-  pub set : ℕ
-  pub permitted : Permitted t (ruleOf t) cut (usableAt t cut) (inSet set) (lineIn line)
+  pub failed : ℕ
+  pub permitted : Permitted t (ruleOf t) cut (usableAt t cut) (inSet failed) (lineIn line)
 
 -- the full table and the gates of a line
 pub record Prepared (a : List ℕ) (room step : ℕ) (l : Line) (full gates : List ℕ) : Type 0 where

@@ -47,20 +47,20 @@ returns-3 c =
 
 returns-4 : tie.Need-returns-4
 returns-4 c =
-    let args = c .before .before .before .before .before .before .before .before .args in
-    let if1 = c .before .before .before .if1 in
-    let top = c .before .before .before .before .before .before .top in
-    let if3 = c .before .if3 in
+    let args = c .before .before .before .before .before .before .before .before .before .args in
+    let if1 = c .before .before .before .before .if1 in
+    let top = c .before .before .before .before .before .before .before .top in
+    let if3 = c .before .before .if3 in
     (fits-none (args .procs) (args .counts .now) (args .w) (args .v) (λ q. (if1 .left) ((top .ensures) ∙ q)) (omega arith) (λ q. (if3 .left) ((top .ensures) ∙ q)) (λ q. omega arith), λ z. clash {b = false} z refl)
 
 returns-5 : tie.Need-returns-5
 returns-5 c =
-    let if1 = c .before .before .before .before .before .before .before .if1 in
-    let top = c .before .before .before .before .before .before .before .before .before .before .top in
-    let if3 = c .before .before .before .before .before .if3 in
-    let process = c .before .before .before .before .before .before .before .before .before .process in
+    let if1 = c .before .before .before .before .before .before .before .before .if1 in
+    let top = c .before .before .before .before .before .before .before .before .before .before .before .top in
+    let if3 = c .before .before .before .before .before .before .if3 in
+    let process = c .before .before .before .before .before .before .before .before .before .before .process in
     let counted3 = c .before .before .counted3 in
-    let args = c .before .before .before .before .before .before .before .before .before .before .before .before .args in
+    let args = c .before .before .before .before .before .before .before .before .before .before .before .before .before .args in
     let no-send : topIn (args .w) ≡ 1 → ⊥ = λ q. (if1 .left) ((top .ensures) ∙ q) in
     let no-recv : topIn (args .w) ≡ 2 → ⊥ = λ q. (if3 .left) ((top .ensures) ∙ q) in
     let fault = rw ((process .ensures .0)) at (counted3 .ensures .0) in
@@ -70,4 +70,4 @@ returns-5 c =
 pub word-fits-spec : {M : Type 1} → statement M
 word-fits-spec =
     tie.close
-    (tie.spec (λ c κs. search needs) (λ c κs. search needs) (λ c κs. search needs) (λ c κs. search needs) (λ c. search needs) returns returns-2 (λ c κs. search needs) (λ c. search needs) returns-3 returns-4 (λ c κs. search needs) (λ c. search needs) returns-5)
+    (tie.spec (λ c κs. search needs) (λ c κs. search needs) (λ c κs. search needs) (λ c κs. search needs) (λ c. search needs) returns returns-2 (λ c κs. search needs) (λ c. search needs) returns-3 (λ c κs. search needs) returns-4 (λ c κs. search needs) (λ c. search needs) returns-5)
