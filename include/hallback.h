@@ -12,8 +12,14 @@
    of the failure. A slice is passed as its pointer and its length; a pointer must not be null, not even where the
    length is 0. No two slices of a call may overlap, except two that are only read.
 
-   Calls keep their tables on the stack, up to 170 KB (hallback_report; hallback_write 140 KB, whatever `out` is): give
-   a thread 256 KB. */
+   Threads: the library keeps nothing from one call to the next and has no memory of its own. Calls may run at the same
+   time in any number of threads, as long as no slice that one of them writes is a slice of another; several may read one
+   table area.
+
+   Stack: a call keeps its tables on the stack, no more for a large trace than for a small one. With the thread stacks
+   named below (HALLBACK_STACK_READ and so on, bytes, for pthread_attr_setstacksize) each call comes through; the gate
+   runs them so (tools/c/stack.c), and 256 KB are enough for all. Without enough stack the system ends the program by a
+   signal at the guard page, before anything else is written. */
 #ifndef HALLBACK_H
 #define HALLBACK_H
 
@@ -34,7 +40,13 @@ enum {
     HALLBACK_STAYS = 32,            /* in a line: the process stays */
     HALLBACK_RESTART_NUMBERS = 196, /* of the answer of hallback_restart */
     HALLBACK_REPORT_BYTES = 262144, /* a buffer of so many bytes holds every report */
-    HALLBACK_TEXT_BYTES = 131072    /* a buffer of so many bytes holds every text that hallback_write writes */
+    HALLBACK_TEXT_BYTES = 131072,   /* a buffer of so many bytes holds every text that hallback_write writes */
+    HALLBACK_STACK_READ = 20480,    /* a thread's stack for hallback_read and hallback_read_failure, ... */
+    HALLBACK_STACK_WRITE = 151552,  /* ... for hallback_write, ... */
+    HALLBACK_STACK_RESTART = 98304, /* ... hallback_restart, ... */
+    HALLBACK_STACK_MESSAGES = 102400,
+    HALLBACK_STACK_REPLAY = 118784, /* ... hallback_replay and hallback_lowest, ... */
+    HALLBACK_STACK_REPORT = 167936  /* ... and hallback_report */
 };
 
 /* Reads a trace text without a failure line into the table area. Answer: place. Refusals: 12, then 1 to 7; after 1 to 7
