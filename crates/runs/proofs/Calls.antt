@@ -111,8 +111,9 @@ Recovers step set x t a run =
     × ((y : Replayed) (v : List ℕ) → Replay a run step set (r .line) (lowestOrder (codeRun a step (r .line))) y v
     → Completed a (length run) step set (r .line) y → Done t (x .steps) y v)
 
--- every call refuses the failure, whatever the line and the order: "In a refused answer every other number is 0 and every yes or
--- no is no"; "Other refusals change nothing", neither the run area nor the table area, which `recover` may write to
+-- every call refuses the failure, whatever the line and the order: "In a refused answer every other number is 0 and
+-- every yes or no is no"; "Other refusals change nothing", neither the run area nor the table area, which `recover` may
+-- write to
 pub record AllRefuse (step set n : ℕ) (t : Trace) (a run : List ℕ) : Type 0 where
   pub restart : (r : Restarted) → Restart a step set r → r ≡ restartRefusal n
   pub messages : (l : Line) (c : Counted) (w : List ℕ) → Messages a run step set l c w → (c ≡ messagesRefusal n) × (w ≡ run)
