@@ -16,7 +16,7 @@ use Rattle.words.proofs.Cases.{by-bool, by-lt, getD-any}
 use Rattle.theory.specs.Lists.{keep}
 use Rattle.theory.specs.Line.{inSet, staysIn}
 use Rattle.recovery_line.specs.declared.Line.{Line}
-use Rattle.recovery_line.specs.Given.{lineIn, placesOf, numbersOf, backBit, backOf, backOnes}
+use Rattle.recovery_line.specs.Given.{lineIn, numbersOf, backBit, backOf, backOnes}
 
 bit-lt : (b : Bool) → cond b 0 1 < 2
 bit-lt true = omega arith
@@ -75,7 +75,10 @@ named : (b : Bool) → eqb (cond b 0 1) 1 ≡ not b
 named true = refl
 named false = refl
 
--- a line's numbers are those of its places
+-- how many numbers a line has: its count, of 64 places at most
+abbrev pub placesOf : Line → ℕ
+placesOf l = min (l .count) 64
+
 module _ (l : Line) (len : length (l .epochs) ≡ 64) where
   numbers-length : length (numbersOf l) ≡ placesOf l
   numbers-length = length-take (l .count) (l .epochs) ∙ ap (min (l .count)) len

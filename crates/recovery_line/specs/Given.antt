@@ -1,5 +1,5 @@
 -- A recovery line as a struct: the numbers that it gives to processes, and who goes back.
-use Prim.Native.Nat.{ℕ, _+_, _*_, min}
+use Prim.Native.Nat.{ℕ, _+_, _*_}
 use mathlib.Core.Bool.{not, cond}
 use mathlib.Core.List.{List, [], _∷_}
 use lib.ListN.{getD, take}
@@ -28,10 +28,6 @@ abbrev pub restartPhaseIn : Trace → ℕ → (ℕ → ℕ) → ℕ → ℕ
 restartPhaseIn t cut line z = phaseAt t (ruleOf t) z (restartIn t cut line z)
 
 -- ---- "The zones that go back form a set of the same kind, and back is its size."
-
--- how many numbers a line has: its count, of 64 places at most
-abbrev pub placesOf : Line → ℕ
-placesOf l = min (l .count) 64
 
 -- a line's numbers as a list
 abbrev pub numbersOf : Line → List ℕ

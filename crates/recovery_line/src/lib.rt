@@ -8,7 +8,7 @@ ghost use lib.Dec.{ltb};
 ghost use Prim.Native.Nat.{ℕ, min, _≤_};
 ghost use lib.ListN.{length, set};
 ghost use Rattle.theory.specs.Line.{inSet, staysIn};
-ghost use Rattle.recovery_line.specs.Given.{lineIn, placesOf, numbersOf, backOf, backOnes};
+ghost use Rattle.recovery_line.specs.Given.{lineIn, numbersOf, backOf, backOnes};
 
 // A recovery line: for each process the epoch that it restarts in, or STAYS, and how many processes there are.
 pub struct Line {
@@ -46,7 +46,7 @@ fn places(count: usize) -> usize
 // The set of the processes that go back.
 pub fn back_set(line: Line) -> u64
     ensures set { λ r. ⌜ r ≡ backOf (numbersOf line) ⌝ }
-    ensures bits { λ r. ⌜ ((z : ℕ) → inSet r z ≡ (ltb z (placesOf line) && not (staysIn (lineIn line) z))) ⌝ }
+    ensures bits { λ r. ⌜ ((z : ℕ) → inSet r z ≡ (ltb z (min (line .count) 64) && not (staysIn (lineIn line) z))) ⌝ }
 {
     let numbers = line.epochs;
     let count = places(line.count);

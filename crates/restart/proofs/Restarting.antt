@@ -18,7 +18,8 @@ use Rattle.theory.proofs.Claims.{floor-failed}
 use Rattle.recovery_line.specs.declared.Line.{Line}
 use Rattle.columns.specs.Inner.Given.{Marked}
 use Rattle.columns.proofs.Full.{fit}
-use Rattle.recovery_line.specs.Given.{lineIn, lineTo, restartPhaseIn, placesOf, numbersOf, backOf, backOnes}
+use Rattle.recovery_line.proofs.Sets.{placesOf}
+use Rattle.recovery_line.specs.Given.{lineIn, lineTo, restartPhaseIn, numbersOf, backOf, backOnes}
 use Rattle.restart.specs.declared.Restarted.{Restarted}
 use Rattle.preparing.specs.Faults.{failureFaultOf}
 use Rattle.restart.specs.Restart.{engineLineOf, ofEach, restartBy, restartOf, restartRefusal, restartAnswer, Restarts}
