@@ -56,7 +56,7 @@ pub fn one_if(yes: bool) -> u32
 }
 
 // How many of the first `upto` events are this one.
-pub fn times(events: &[u32; 6], upto: u32, w: u32) -> u32
+pub(crate) fn times(events: &[u32; 6], upto: u32, w: u32) -> u32
     requires { ⌜ upto ≤ 6 ⌝ }
     ensures { λ r. ⌜ r ≡ timesOf (now (events .entry)) w upto ⌝ }
     ensures { λ r. ⌜ r ≤ upto ⌝ }
@@ -71,7 +71,7 @@ pub fn times(events: &[u32; 6], upto: u32, w: u32) -> u32
 }
 
 // Right after which event this one has come so many times; not past `upto`.
-pub fn after(events: &[u32; 6], upto: u32, w: u32, number: u32) -> u32
+pub(crate) fn after(events: &[u32; 6], upto: u32, w: u32, number: u32) -> u32
     requires { ⌜ upto ≤ 6 ⌝ }
     ensures { λ r. ⌜ r ≡ afterOf (now (events .entry)) w number upto ⌝ }
     ensures { λ r. ⌜ r ≤ upto ⌝ }

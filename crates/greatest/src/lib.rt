@@ -26,10 +26,11 @@ fn first_number(set: u64, z: u32, epoch: u32) -> u32
 }
 
 // The first line, from the epochs at the cut.
-fn first_line(epochs: &[u32], count: usize, set: u64, numbers: &mut [u32])
+fn first_line(epochs: &[u32], count: usize, set: u64, numbers: &mut [u32; 64])
     requires { ⌜ (length (now epochs) ≡ 64) × (length (now numbers) ≡ 64) × (count ≤ 64) ⌝ }
     ensures below { λ _. ⌜ ((z : ℕ) → z < count → getD (now (numbers .exit)) z 0 ≡ cond (inSet set z) (getD (now (epochs .entry)) z 0) 32) ⌝ }
     ensures others { λ _. ⌜ ((z : ℕ) → count ≤ z → getD (now (numbers .exit)) z 0 ≡ getD (now (numbers .entry)) z 0) ⌝ }
+    ensures long { λ _. ⌜ length (now (numbers .exit)) ≡ 64 ⌝ }
 {
     let mut z: usize = 0;
     while z < count {
@@ -53,12 +54,12 @@ pub fn greatest(full: &[u32], cut: usize, set: u64, epochs: &mut [u32], phases: 
     let mut latest = [0u16; 64];
     positions::link(full, cut, &mut earlier, &mut latest);
     positions::epochs_at(full, &latest, count, epochs);
-    let mut numbers = [0u32; 64];
-    first_line(epochs, count, set, &mut numbers);
-    lowering::lower(full, &earlier, &mut numbers, &mut latest);
-    positions::restart_phases(full, &latest, &numbers, count, phases);
-    Line {
-        epochs: numbers,
+    let mut line = Line {
+        epochs: [0u32; 64],
         count: count,
-    }
+    };
+    first_line(epochs, count, set, &mut line.epochs);
+    lowering::lower(full, &earlier, &mut line.epochs, &mut latest);
+    positions::restart_phases(full, &latest, &line.epochs, count, phases);
+    line
 }

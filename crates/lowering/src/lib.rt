@@ -78,7 +78,7 @@ fn look(
 // once: then its message is logged, or its sender restarts no later than the send, and since numbers only fall that
 // stays so. An event that is not undone receives no lost message. `latest` is left with the newest event of each
 // process before its restart.
-pub fn lower(full: &[u32], earlier: &[u16], epochs: &mut [u32], latest: &mut [u16])
+pub fn lower(full: &[u32], earlier: &[u16], epochs: &mut [u32; 64], latest: &mut [u16])
     requires { ⌜ (length (now epochs) ≡ 64) × ((cut : ℕ) × Sized (now full) cut × Linked (now full) cut (now earlier) (now latest)) ⌝ }
     ensures line { λ _. ⌜ ((cut : ℕ) → Sized (now (full .entry)) cut → Linked (now (full .entry)) cut (now (earlier .entry)) (now (latest .entry)) → Lowered (now (full .entry)) cut (now (epochs .entry)) (now (epochs .exit))) ⌝ }
     ensures left { λ _. ⌜ ((cut : ℕ) → Sized (now (full .entry)) cut → Linked (now (full .entry)) cut (now (earlier .entry)) (now (latest .entry)) → Before (now (full .entry)) cut (now (epochs .exit)) (now (latest .exit))) ⌝ }

@@ -55,45 +55,48 @@ module _ (R : Run) (t l g a₀ : List ℕ) (S : Started R t l g a₀) where
   run-starts ns = live-start R (S .laws) t l g (S .cols) a₀ ns (S .rel)
 
   pub run-bad : (a : List ℕ) (i : ℕ) (ns : List ℕ) (w : Outcome) (c : ℕ) (r : Bool) → Live R a i ns w → i < length ns → c ≡ getD ns i 0
-      → r ≡ allowedW t g a c → r ≡ false → Left R a w (i + 1)
+      → r ≡ allowedW t g a c → r ≡ false → Left R a (length ns) w i
   unfolding Left
   run-bad a i ns w c r v h ec er f =
-      subst (λ x. Left R a x (i + 1)) (sym (live-bad R (S .laws) t l g (S .cols) a i ns w v h (rw (← ec) (sym er ∙ f)))) (refl, omega arith)
+      subst (λ x. Left R a (length ns) x i) (sym (live-bad R (S .laws) t l g (S .cols) a i ns w v h (rw (← ec) (sym er ∙ f)))) (refl, h)
 
   pub run-next : (a b : List ℕ) (i : ℕ) (ns : List ℕ) (w : Outcome) (c : ℕ) (r : Bool) → Live R a i ns w → i < length ns → c ≡ getD ns i 0
       → r ≡ allowedW t g a c → r ≡ true → b ≡ applyW t l a c → Live R b (i + 1) ns w
   run-next a b i ns w c r v h ec er f eb =
       subst (λ x. Live R x (i + 1) ns w) (sym (eb ∙ ap (applyW t l a) ec)) (live-next R (S .laws) t l g (S .cols) a i ns w v h (rw (← ec) (sym er ∙ f)))
 
-  pub run-end : (a : List ℕ) (i : ℕ) (ns : List ℕ) (w : Outcome) → Live R a i ns w → length ns ≤ i → Left R a w 0
+  pub run-end : (a : List ℕ) (i : ℕ) (ns : List ℕ) (w : Outcome) → Live R a i ns w → i ≤ length ns → length ns ≤ i → Left R a (length ns) w i
   unfolding Left
-  run-end a i ns w v h = let e = live-end R (S .laws) t l g (S .cols) a i ns w v h in subst (λ x. Left R a x 0) (sym (e .3)) (refl, e .1, e .2)
+  run-end a i ns w v m h =
+      let e = live-end R (S .laws) t l g (S .cols) a i ns w v h in
+      subst (λ x. Left R a (length ns) x i) (sym (e .3)) (omega arith, e .1, e .2)
 
   -- refused
-  pub stop-answer : (a : List ℕ) (w : Outcome) (r n : ℕ) → Left R a w r → (r ≡ 0 → ⊥) → (record { number = 11; place = r; steps = 0; complete = false }) ≡ answerOf R w n
+  pub stop-answer : (a : List ℕ) (w : Outcome) (r n : ℕ) → Left R a n w r → r < n
+      → (record { number = 11; place = r + 1; steps = 0; complete = false }) ≡ answerOf R w n
   unfolding Left answerOf
-  stop-answer a (carriedOut s) r n v h = absurd (h (v .0))
+  stop-answer a (carriedOut s) r n v h = absurd (omega (arith, v .0))
   stop-answer a (refused i) r n v h = rw (v .0)
 
-  pub stop-words : (a b : List ℕ) (w : Outcome) (r : ℕ) → Left R a w r → (r ≡ 0 → ⊥) → length a ≡ areaWords → b ≡ replicate (length a) 0 → b ≡ wordsOf R w
+  pub stop-words : (a b : List ℕ) (w : Outcome) (r n : ℕ) → Left R a n w r → r < n → length a ≡ areaWords → b ≡ replicate (length a) 0 → b ≡ wordsOf R w
   unfolding Left wordsOf
-  stop-words a b (carriedOut s) r v h j e = absurd (h (v .0))
-  stop-words a b (refused i) r v h j e = e ∙ ap (λ n. replicate n 0) j
+  stop-words a b (carriedOut s) r n v h j e = absurd (omega (arith, v .0))
+  stop-words a b (refused i) r n v h j e = e ∙ ap (λ k. replicate k 0) j
 
-  -- carried out
-  pub went-answer : (a : List ℕ) (w : Outcome) (r n : ℕ) (x : Replayed) (b : Bool) → Left R a w r → r ≡ 0 → b ≡ noneFrom t g a 4160
-      → x ≡ (record { number = 0; place = 0; steps = n; complete = b }) → x ≡ answerOf R w n
+  -- carried out: the steps that were counted are as many as the order has choices
+  pub went-answer : (a : List ℕ) (w : Outcome) (r n : ℕ) (x : Replayed) (b : Bool) → Left R a n w r → n ≤ r → b ≡ noneFrom t g a 4160
+      → x ≡ (record { number = 0; place = 0; steps = r; complete = b }) → x ≡ answerOf R w n
   unfolding Left answerOf
-  went-answer a (carriedOut s) r n x b v h d e = e ∙ rw (d, none-same R (S .laws) t l g (S .cols) a s (v .1) (v .2))
-  went-answer a (refused i) r n x b v h d e = absurd (omega (arith, v .0, v .1))
+  went-answer a (carriedOut s) r n x b v h d e = e ∙ rw (v .0, d, none-same R (S .laws) t l g (S .cols) a s (v .1) (v .2))
+  went-answer a (refused i) r n x b v h d e = absurd (omega (arith, v .1))
 
-  pub went-words : (a b : List ℕ) (w : Outcome) (r : ℕ) → Left R a w r → r ≡ 0 → length b ≡ areaWords
+  pub went-words : (a b : List ℕ) (w : Outcome) (r n : ℕ) → Left R a n w r → n ≤ r → length b ≡ areaWords
       → ((k : ℕ) → (currentBase ≤ k → lowPlace < k) → getD b k 0 ≡ getD a k 0) → ((k : ℕ) → currentBase ≤ k → k ≤ lowPlace → getD b k 0 ≡ 0) → b ≡ wordsOf R w
   unfolding Left wordsOf
-  went-words a b (carriedOut s) r v h j others zeros = record-left R (S .laws) t l g (S .cols) a b s (v .1) j others zeros
-  went-words a b (refused i) r v h j others zeros = absurd (omega (arith, v .0, v .1))
+  went-words a b (carriedOut s) r n v h j others zeros = record-left R (S .laws) t l g (S .cols) a b s (v .1) j others zeros
+  went-words a b (refused i) r n v h j others zeros = absurd (omega (arith, v .1))
 
-pub went-readable : (t l g a₀ : List ℕ) (B : Begun t l g a₀) (a : List ℕ) → length a ≡ length a₀ → (w : Outcome) (r : ℕ) → Left (B .run) a w r → r ≡ 0 → Readable t g a
+pub went-readable : (t l g a₀ : List ℕ) (B : Begun t l g a₀) (a : List ℕ) → length a ≡ length a₀ → (w : Outcome) (r n : ℕ) → Left (B .run) a n w r → n ≤ r → Readable t g a
 unfolding Left
-went-readable t l g a₀ B a long (carriedOut s) r v h = readable t l g a₀ B a long s (v .1) (v .2)
-went-readable t l g a₀ B a long (refused i) r v h = absurd (omega (arith, v .0, v .1))
+went-readable t l g a₀ B a long (carriedOut s) r n v h = readable t l g a₀ B a long s (v .1) (v .2)
+went-readable t l g a₀ B a long (refused i) r n v h = absurd (omega (arith, v .1))

@@ -32,22 +32,23 @@ fn choice(c: u16) -> usize
     c as usize
 }
 
-// Carries out an order: the place of its first choice that is not allowed, from 1, or 0.
+// Carries out an order, as far as its choices are allowed: how many were carried out. The step counter is the place in
+// the order too.
 fn carry_out(full: &[u32], links: &[u16], gates: &[u32], order: &[u16], area: &mut [u32]) -> usize
     requires { ⌜ Begun (now full) (now links) (now gates) (now area) ⌝ }
-    ensures { λ r. ⌜ ((R : Run) → Started R (now (full .entry)) (now (links .entry)) (now (gates .entry)) (now (area .entry)) → Left R (now (area .exit)) (run R (now (order .entry))) r) ⌝ }
+    ensures { λ r. ⌜ ((R : Run) → Started R (now (full .entry)) (now (links .entry)) (now (gates .entry)) (now (area .entry)) → Left R (now (area .exit)) (length (now (order .entry))) (run R (now (order .entry))) r) ⌝ }
 {
-    let mut i: usize = 0;
-    while i < order.len() {
-        let c = choice(order[i]);
+    let mut steps: usize = 0;
+    while steps < order.len() {
+        let c = choice(order[steps]);
         if machine::allowed(full, gates, area, c) {
             moves::apply(full, links, area, c);
-            i += 1;
+            steps += 1;
         } else {
-            return i + 1;
+            return steps;
         }
     }
-    0
+    steps
 }
 
 // Makes every word from one place on 0, up to another.
@@ -92,18 +93,18 @@ fn replay_in(
     ensures answer { λ r. ⌜ ((R : Run) → Started R (now (full .entry)) (now (links .entry)) (now (gates .entry)) (now (area .entry)) → r ≡ answerOf R (run R (now (order .entry))) (length (now (order .entry)))) ⌝ }
     ensures words { λ _. ⌜ ((R : Run) → Started R (now (full .entry)) (now (links .entry)) (now (gates .entry)) (now (area .entry)) → now (area .exit) ≡ wordsOf R (run R (now (order .entry)))) ⌝ }
 {
-    let place = carry_out(full, links, gates, order, area);
-    if place != 0 {
+    let steps = carry_out(full, links, gates, order, area);
+    if steps < order.len() {
         words::zero(area);
         return Replayed {
             number: 11,
-            place: place,
+            place: steps + 1,
             steps: 0,
             complete: false,
         };
     }
     let done = machine::complete(full, gates, area);
-    finish(area, order.len(), done)
+    finish(area, steps, done)
 }
 
 // Replays an order of the run that the full table and the gates tell, in an area of exactly 16,384 words.

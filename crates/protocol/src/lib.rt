@@ -1,5 +1,5 @@
 // The full table of the trace that a table area holds, filled in one pass over the events (crate columns says what its
-// words mean). proofs/Claims says that no word is left free, and that the laws of a recorded run follow. No public
+// words mean, specs/Inner/Area each word of it). proofs/Claims says that the laws of a recorded run follow. No public
 // function has a `requires`. Assumes nothing.
 ghost use mathlib.Core.Path.{_≡_};
 ghost use mathlib.Core.Bool.{true, false, _&&_};
@@ -11,6 +11,7 @@ ghost use Rattle.columns.specs.Inner.Filling.{Filled, Working};
 ghost use Rattle.table.specs.Held.{held, holdsTrace};
 ghost use Rattle.theory.specs.Epochs.{loggedBy, ruleOf};
 ghost use Rattle.columns.specs.Inner.Columns.{fullWords, Columns, Flagged, Others};
+ghost use Rattle.protocol.specs.Inner.Area.{fullArea};
 use columns::FULL_WORDS;
 use columns::NUMBER_BASE;
 use columns::TRACE_WORDS;
@@ -73,6 +74,7 @@ pub fn tabulate(area: &[u32], full: &mut [u32]) -> bool
     ensures flags { λ r. ⌜ (r ≡ true → Flagged (held (now (area .entry))) (loggedBy (held (now (area .entry))) (ruleOf (held (now (area .entry))))) (now (full .exit))) ⌝ }
     ensures untouched { λ r. ⌜ (r ≡ false → now (full .exit) ≡ now (full .entry)) ⌝ }
     ensures others { λ r. ⌜ (r ≡ true → Others (held (now (area .entry))) (size (held (now (area .entry)))) (now (full .entry)) (now (full .exit))) ⌝ }
+    ensures area { λ _. ⌜ now (full .exit) ≡ fullArea (now (area .entry)) (now (full .entry)) ⌝ }
 {
     if full.len() != FULL_WORDS {
         return false;

@@ -1,5 +1,5 @@
 -- The set of the processes that go back: its bits, and its size.
-use Prim.Native.Nat.{ℕ, suc, zero, _+_, _-_, _*_, _/_, _%_, _^_, _<_, _≤_}
+use Prim.Native.Nat.{ℕ, suc, zero, _+_, _-_, _*_, _/_, _%_, _^_, min, _<_, _≤_}
 use mathlib.Core.Path.{_≡_, refl, sym, ap, ap₂, _∙_}
 use mathlib.Core.List.{List, [], _∷_}
 use mathlib.Core.Bool.{Bool, true, false, _&&_, not, cond}
@@ -7,8 +7,8 @@ use native.Mathlib.Omega.{arith}
 use native.Mathlib.Nat.{pow-suc, lt-of-lt-of-le, zero-div}
 use native.Mathlib.Numerals.{one-add}
 use lib.Dec.{eqb, ltb}
-use lib.ListN.{length, getD, drop, length-drop, List·getD-eq-default}
-use lib.Seq.{drop-cons, getD-take, length-take-le}
+use lib.ListN.{length, getD, take, drop, length-take, length-drop, List·getD-eq-default}
+use lib.Seq.{drop-cons, getD-take, take-all}
 use lib.Pow.{pow-mono, shr-shr}
 use lib.Count.{ones, ones-step}
 use borrow.Author.Tests.{eq-eqb, ne-eqb, lt-ltb, le-ltb}
@@ -75,15 +75,27 @@ named : (b : Bool) → eqb (cond b 0 1) 1 ≡ not b
 named true = refl
 named false = refl
 
-pub back-bits : (l : Line) (r : ℕ) → length (l .epochs) ≡ 64 → l .count ≤ 64 → r ≡ backOf (numbersOf l) → (z : ℕ)
-    → inSet r z ≡ (ltb z (l .count) && not (staysIn (lineIn l) z))
-back-bits l r len few e z =
-    ap (λ (s : ℕ). inSet s z) e ∙ ap (λ (x : ℕ). eqb x 1) (back-bit (numbersOf l) z) ∙ named (eqb (getD (numbersOf l) z 32) 32)
-    ∙ by-lt z (l .count)
-    (λ h. let s : ltb z (l .count) ≡ true = lt-ltb z (l .count) h in
-    let i : getD (numbersOf l) z 32 ≡ getD (l .epochs) z 0 = getD-take (l .count) (l .epochs) z 32 h ∙ getD-any (l .epochs) z 32 0 (omega arith) in
-    rw (s, i))
-    (λ h. let s : ltb z (l .count) ≡ false = le-ltb z (l .count) h in
-    let n : length (numbersOf l) ≡ l .count = length-take-le (l .count) (l .epochs) (omega arith) in
-    let i : getD (numbersOf l) z 32 ≡ 32 = List·getD-eq-default (numbersOf l) 32 {n = z} (omega arith) in
-    rw (s, i))
+-- how many numbers a line has: its count, of 64 places at most
+abbrev pub placesOf : Line → ℕ
+placesOf l = min (l .count) 64
+
+module _ (l : Line) (len : length (l .epochs) ≡ 64) where
+  numbers-length : length (numbersOf l) ≡ placesOf l
+  numbers-length = length-take (l .count) (l .epochs) ∙ ap (min (l .count)) len
+
+  pub numbers-in-places : take (placesOf l) (l .epochs) ≡ numbersOf l
+  numbers-in-places = by-lt (l .count) 64
+      (λ h. let e : placesOf l ≡ l .count = omega arith in ap (λ (n : ℕ). take n (l .epochs)) e)
+      (λ h. take-all (placesOf l) (l .epochs) (omega arith) ∙ sym (take-all (l .count) (l .epochs) (omega arith)))
+
+  pub back-bits : (r : ℕ) → r ≡ backOf (numbersOf l) → (z : ℕ) → inSet r z ≡ (ltb z (placesOf l) && not (staysIn (lineIn l) z))
+  back-bits r e z =
+      ap (λ (s : ℕ). inSet s z) e ∙ ap (λ (x : ℕ). eqb x 1) (back-bit (numbersOf l) z) ∙ named (eqb (getD (numbersOf l) z 32) 32)
+      ∙ by-lt z (placesOf l)
+      (λ h. let s : ltb z (placesOf l) ≡ true = lt-ltb z (placesOf l) h in
+      let c : ltb z (l .count) ≡ true = lt-ltb z (l .count) (omega arith) in
+      let i : getD (numbersOf l) z 32 ≡ getD (l .epochs) z 0 = getD-take (l .count) (l .epochs) z 32 (omega arith) ∙ getD-any (l .epochs) z 32 0 (omega arith) in
+      rw (s, c, i))
+      (λ h. let s : ltb z (placesOf l) ≡ false = le-ltb z (placesOf l) h in
+      let i : getD (numbersOf l) z 32 ≡ 32 = List·getD-eq-default (numbersOf l) 32 {n = z} (omega (arith, numbers-length)) in
+      rw (s, i))

@@ -1,10 +1,11 @@
 // A recovery line of a trace (document 01 calls it a restart line): the epoch that each process restarts in, or that it
-// stays; and the set of those that go back. specs/Given says how a line stands in words. Assumes nothing.
+// stays; and the set of those that go back. specs/Given says how a line stands in words. No public function has a
+// `requires`. Assumes nothing.
 ghost use mathlib.Core.Path.{_≡_};
 ghost use mathlib.Core.Bool.{_&&_, not};
 ghost use lib.Count.{ones};
 ghost use lib.Dec.{ltb};
-ghost use Prim.Native.Nat.{ℕ, _≤_};
+ghost use Prim.Native.Nat.{ℕ, min, _≤_};
 ghost use lib.ListN.{length, set};
 ghost use Rattle.theory.specs.Line.{inSet, staysIn};
 ghost use Rattle.recovery_line.specs.Given.{lineIn, numbersOf, backOf, backOnes};
@@ -35,20 +36,25 @@ fn set_of(numbers: &[u32]) -> u64
     set
 }
 
+// How many numbers a count stands for: a line has 64 places.
+fn places(count: usize) -> usize
+    ensures { λ r. ⌜ r ≡ min count 64 ⌝ }
+{
+    if count < 64 { count } else { 64 }
+}
+
 // The set of the processes that go back.
 pub fn back_set(line: Line) -> u64
-    requires { ⌜ line .count ≤ 64 ⌝ }
     ensures set { λ r. ⌜ r ≡ backOf (numbersOf line) ⌝ }
-    ensures bits { λ r. ⌜ ((z : ℕ) → inSet r z ≡ (ltb z (line .count) && not (staysIn (lineIn line) z))) ⌝ }
+    ensures bits { λ r. ⌜ ((z : ℕ) → inSet r z ≡ (ltb z (min (line .count) 64) && not (staysIn (lineIn line) z))) ⌝ }
 {
     let numbers = line.epochs;
-    let count = line.count;
+    let count = places(line.count);
     set_of(&numbers[..count])
 }
 
 // How many go back: the ones of the set.
 pub fn back(line: Line) -> u32
-    requires { ⌜ line .count ≤ 64 ⌝ }
     ensures size { λ r. ⌜ r ≡ ones (backOf (numbersOf line)) ⌝ }
     ensures number { λ r. ⌜ r ≡ length (backOnes (numbersOf line)) ⌝ }
 {

@@ -18,6 +18,7 @@ use Rattle.theory.proofs.Claims.{floor-failed}
 use Rattle.recovery_line.specs.declared.Line.{Line}
 use Rattle.columns.specs.Inner.Given.{Marked}
 use Rattle.columns.proofs.Full.{fit}
+use Rattle.recovery_line.proofs.Sets.{placesOf}
 use Rattle.recovery_line.specs.Given.{lineIn, lineTo, restartPhaseIn, numbersOf, backOf, backOnes}
 use Rattle.restart.specs.declared.Restarted.{Restarted}
 use Rattle.preparing.specs.Faults.{failureFaultOf}
@@ -27,11 +28,11 @@ use Rattle.restart.specs.Restart.{engineLineOf, ofEach, restartBy, resta
 
 module _ (t : Trace) (full : List ℕ) (G : Marked t (ruleOf t) full) (cut set : ℕ) (cl : cut ≤ size t) (l : Line)
     (e : l ≡ lineTo t (engineLine t cut set)) where
-  pub count-of : l .count ≡ t .procs
+  count-of : l .count ≡ t .procs
   count-of = ap (λ (x : Line). x .count) e
 
-  pub count-few : l .count ≤ 64
-  count-few = omega (arith, count-of, fit t full (G .tabled) .few)
+  places-are : placesOf l ≡ t .procs
+  places-are = omega (arith, count-of, fit t full (G .tabled) .few)
 
   pub made : (s b : ℕ) (x p : List ℕ) → s ≡ backOf (numbersOf l) → b ≡ ones (backOf (numbersOf l)) → x ≡ ofEach t (current t (ruleOf t) cut)
       → p ≡ ofEach t (restartPhaseIn t cut (lineIn l))
@@ -40,14 +41,14 @@ module _ (t : Trace) (full : List ℕ) (G : Marked t (ruleOf t) full) (cut set :
   made s b x p hs hb hx hp = rw (hs, hb, hx, hp) (ap (restartBy t cut) e)
 
   pub means : (s b : ℕ) (x p : List ℕ) → Greatest t (ruleOf t) cut (usableAt t cut) (inSet set) (lineIn l)
-      → s ≡ backOf (numbersOf l) → ((z : ℕ) → inSet s z ≡ (ltb z (l .count) && not (staysIn (lineIn l) z)))
+      → s ≡ backOf (numbersOf l) → ((z : ℕ) → inSet s z ≡ (ltb z (placesOf l) && not (staysIn (lineIn l) z)))
       → b ≡ ones (backOf (numbersOf l)) → b ≡ length (backOnes (numbersOf l))
       → Restarts t cut set (record { number = 0; place = 0; line = l; going = s; back = b; epochs = x; phases = p })
   means s b x p g hs bits hb hn =
       record {
         greatest = g;
         floor = λ y ly fy least z lz. floor-failed t (G .tabled .formed) cut cl (inSet set) y ly fy least (lineIn l) g z lz;
-        goes = λ z. bits z ∙ ap (λ (n : ℕ). ltb z n && not (staysIn (lineIn l) z)) count-of;
+        goes = λ z. bits z ∙ ap (λ (n : ℕ). ltb z n && not (staysIn (lineIn l) z)) places-are;
         ones-are = hb ∙ ap ones (sym hs);
         numbers-are = hn;
       }

@@ -2,15 +2,15 @@
 -- `reader::read_failure` reads a text into a table area, and then `restart`, `messages`, `replay` and `lowest` of
 -- recovery are called on what it left there.
 use Prim.Native.Nat.{ℕ, zero, suc, _+_, _<_, _≤_}
-use mathlib.Core.Path.{_≡_, refl, sym, ap, subst, _∙_}
+use mathlib.Core.Path.{_≡_, refl, sym, ap, ap₂, subst, _∙_}
 use mathlib.Core.Bool.{Bool, true, false}
-use mathlib.Core.List.{List, [], _++_, map, append-nil}
+use mathlib.Core.List.{List, [], _∷_, _++_, map, append-nil}
 use mathlib.Core.Option.{some}
 use native.Mathlib.Omega.{arith}
-use lib.ListN.{length, getD, take, drop, replicate, length-replicate, getD-replicate}
+use lib.ListN.{length, getD, take, drop, replicate, length-replicate, getD-replicate, List·getD-append}
 use borrow.Author.Tests.{le-ltb, ne-eqb}
 use Rattle.words.specs.Area.{areaWords, wordsFrom, ruled}
-use Rattle.words.proofs.Area.{words-ext}
+use Rattle.words.proofs.Area.{words-ext, words-at, length-words}
 use Rattle.trace.specs.Trace.{Trace}
 use Rattle.reader.specs.Verdict.{Verdict, accepted, verdict}
 use Rattle.reader.specs.Answer.{readAnswer, readArea}
@@ -19,6 +19,7 @@ use Rattle.table.specs.Held.{held, holdsTrace}
 use Rattle.table.specs.Inner.Held.{heldTrace}
 use Rattle.table.proofs.Holding.{told}
 use Rattle.table.proofs.Claims.{read-held, failing-held}
+use Rattle.theory.specs.Events.{size}
 use Rattle.theory.specs.Epochs.{ruleOf}
 use Rattle.theory.specs.Inner.Laws.{Laws}
 use Rattle.theory.specs.Line.{Run, LossFree, runAt}
@@ -29,22 +30,24 @@ use Rattle.theory.specs.Refusals.{failureFault}
 use Rattle.theory.proofs.Answers.{lost-none}
 use Rattle.theory.proofs.Claims.{record-iff, record-test, complete-test}
 use Rattle.theory.proofs.Epochs.{laws}
-use Rattle.theory.proofs.Refusals.{failure-fit, line-fit}
-use Rattle.protocol.proofs.Passes.{held-long, held-formed, held-valid}
+use Rattle.theory.proofs.Refusals.{failure-fit, failure-9, line-fit, line-9}
+use Rattle.protocol.proofs.Passes.{held-long, held-formed, held-valid, held-few}
 use Rattle.listing.specs.Listing.{Row, rowOf, rowsOf, listWord}
 use Rattle.recovery_line.specs.declared.Line.{Line}
 use Rattle.recovery_line.specs.Given.{lineIn}
-use Rattle.orders.specs.Record.{faultlessAt}
+use Rattle.orders.specs.Record.{recordAt, faultlessAt}
 use Rattle.orders.specs.declared.Replayed.{Replayed}
 use Rattle.orders.specs.Answer.{answerOf, wordsOf}
 use Rattle.messages.specs.declared.Counted.{Counted}
 use Rattle.restart.specs.declared.Restarted.{Restarted}
 use Rattle.preparing.specs.Faults.{lineFaultOf, runOf as codeRun, failureFaultOf}
-use Rattle.recovery.specs.Answers.{replayAnswer, replayArea, Completed}
-use Rattle.messages.specs.Messages.{countsOf}
+use Rattle.recovery.specs.declared.Recovered.{Recovered}
+use Rattle.recovery.specs.Answers.{refusal, replayAnswer, replayArea, Completed}
+use Rattle.messages.specs.Messages.{messagesRefusal, countsOf, messagesAnswer, messagesArea}
 use Rattle.restart.specs.Restart.{engineLineOf, restartOf, restartRefusal, restartAnswer}
 use Rattle.messages.proofs.Listing.{Listed as Messages, counts-are, listed-at}
 use Rattle.recovery.proofs.Replaying.{Answered as Replay}
+use Rattle.recovery.proofs.Recovering.{Answered as Recover}
 use Rattle.restart.proofs.Restarting.{Answered as Restart, Ready}
 use Rattle.recovery.proofs.Taking.{not-refused}
 use Rattle.report.specs.Report.{Answer, refused, given, unless, then, Failure, engineRun, Recovery, recoveryOf, recovery, failureOf}
@@ -52,7 +55,7 @@ use Rattle.report.proofs.Found.{run-is}
 use Rattle.report.proofs.Answers.{not-given, unless-given}
 use Rattle.report.proofs.Messages.{blank, At, front-row, later-row, word-in, number-in, phase-in, orphan-row, kept-row}
 use Rattle.runs.proofs.Table.{completed}
-use Rattle.runs.specs.Answers.{lineFrom, runWith, losses, Replayed as Told, fault, replayOf, replay, exactStepsOf}
+use Rattle.runs.specs.Answers.{lineFrom, runWith, losses, Replayed as Told, fault, replayOf, replay, TakenWords, takenWordsIn, takenWordsOf, takenWords, exactStepsOf}
 
 -- ---- What the rows say. `Restart`, `Messages` and `Replay` are the contracts of those calls: what they promise of the
 -- answer, and of the run area that they leave.
@@ -108,9 +111,16 @@ Recovers step set x t a run =
     × ((y : Replayed) (v : List ℕ) → Replay a run step set (r .line) (lowestOrder (codeRun a step (r .line))) y v
     → Completed a (length run) step set (r .line) y → Done t (x .steps) y v)
 
--- `restart` refuses the failure
-abbrev pub Refuses : ℕ → ℕ → ℕ → Claim
-Refuses step set n t a run = (r : Restarted) → Restart a step set r → r ≡ restartRefusal n
+-- every call refuses the failure, whatever the line and the order: "In a refused answer every other number is 0 and
+-- every yes or no is no"; "Other refusals change nothing", neither the run area nor the table area, which `recover` may
+-- write to
+pub record AllRefuse (step set n : ℕ) (t : Trace) (a run : List ℕ) : Type 0 where
+  pub restart : (r : Restarted) → Restart a step set r → r ≡ restartRefusal n
+  pub messages : (l : Line) (c : Counted) (w : List ℕ) → Messages a run step set l c w → (c ≡ messagesRefusal n) × (w ≡ run)
+  pub replay : (l : Line) (order : List ℕ) (y : Replayed) (v : List ℕ) → Replay a run step set l order y v → (y ≡ refusal n) × (v ≡ run)
+  pub lowest : (l : Line) (y : Replayed) (v : List ℕ) → Replay a run step set l (lowestOrder (codeRun a step l)) y v → (y ≡ refusal n) × (v ≡ run)
+  pub recover : (x : Recovered) (w : List ℕ) → Recover a step set x w
+      → (x .restarted ≡ restartRefusal n) × (x .replayed ≡ refusal n) × (x .counted ≡ messagesRefusal n) × (w ≡ a)
 
 -- `messages` with a line
 abbrev pub Loses : ℕ → ℕ → List ℕ → List Listed → Claim
@@ -130,6 +140,12 @@ Finishes step set l order n t a run = (y : Replayed) (v : List ℕ) → Replay a
 -- and with the record of the run without failure
 abbrev pub Completes : ℕ → ℕ → List ℕ → List ℕ → ℕ → Claim
 Completes step set l order n t a run = (y : Replayed) (v : List ℕ) → Replay a run step set (lineFrom l) order y v → Done t n y v
+
+-- or carried out, complete or not, from a line with loss or without: what it answers, and the record that it leaves
+abbrev pub Leaves : ℕ → ℕ → List ℕ → List ℕ → ℕ → Bool → TakenWords → Claim
+Leaves step set l order n all ws t a run =
+    (y : Replayed) (v : List ℕ) → Replay a run step set (lineFrom l) order y v
+    → (y ≡ record { number = 0; place = 0; steps = n; complete = all }) × (takenWordsIn t (λ k. getD v k 0) ≡ ws)
 
 -- or 11 at a place
 abbrev pub Stops : ℕ → ℕ → List ℕ → List ℕ → ℕ → Claim
@@ -151,6 +167,12 @@ then-placed (suc n) f g m i h = absurd (let z : _≡_ {A = ℕ} 0 (suc i) = cc i
 unless-placed : {A : Type 0} (n : ℕ) (y : Answer A) (m i : ℕ) → unless n y ≡ refused m (suc i) → (n ≡ 0) × (y ≡ refused m (suc i))
 unless-placed zero y m i h = (refl, h)
 unless-placed (suc n) y m i h = absurd (let z : _≡_ {A = ℕ} 0 (suc i) = cc in let w : ⊥ = omega arith in w)
+
+-- words by two rules that agree
+words-same : (f g : ℕ → ℕ) (i n : ℕ) → ((k : ℕ) → k < i + n → f k ≡ g k) → wordsFrom f i n ≡ wordsFrom g i n
+unfolding wordsFrom
+words-same f g i zero h = refl
+words-same f g i (suc n) h = ap₂ (λ (x : ℕ) (xs : List ℕ). x ∷ xs) (h i (omega arith)) (words-same f g (suc i) n (λ k l. h k (omega arith)))
 
 -- ---- The messages of a line that is not refused
 
@@ -213,17 +235,60 @@ module _ (text a : List ℕ) (step set : ℕ) (holds : holdsTrace a ≡ true) (e
   unfolding recovery failureOf
   recovery-is = rw e
 
-  -- ---- `restart` refuses
-
   refusal-is : (n m k : ℕ) → then (unless n (given f)) (λ g. given (recoveryOf g)) ≡ refused m k → (n ≡ m) × (n ≡ 0 → ⊥)
   refusal-is zero m k h = absurd (not-given m k (recoveryOf f) (sym h))
   refusal-is (suc n) m k h = (cc, λ z. omega arith)
 
-  restart-refused : (n k : ℕ) → recovery text ≡ refused n k → (r : Restarted) → Restart a step set r → r ≡ restartRefusal n
-  unfolding restartAnswer
-  restart-refused n k h r A =
-      let q = refusal-is (failureFault t step set) n k (sym recovery-is ∙ h) in
-      A .0 ∙ rw (failure-is, ne-eqb (failureFault t step set) 0 (q .1)) (ap restartRefusal (q .0))
+  -- ---- every call refuses a failure of no process, or of one that the trace has not
+
+  module _ (k : ℕ) (h : recovery text ≡ refused 9 k) where
+    failure-bad : failureFault t step set ≡ 9
+    failure-bad = refusal-is (failureFault t step set) 9 k (sym recovery-is ∙ h) .0
+
+    line-bad : (l : Line) (space : ℕ) → areaWords ≤ space → lineFaultOf a space step set l ≡ 9
+    unfolding lineFaultOf
+    line-bad l space long =
+        rw (le-ltb (length a) 16384 (held-long a holds), le-ltb space 16384 long, holds)
+        (line-9 t step set (l .count) (lineIn l) .1 (failure-9 t step set .0 failure-bad))
+
+    module _ (l : Line) (lent : List ℕ) (long : areaWords ≤ length lent) where
+      bad : lineFaultOf a (length lent) step set l ≡ 9
+      bad = line-bad l (length lent) long
+
+      counts-none : messagesAnswer a lent step set l ≡ messagesRefusal 9
+      unfolding messagesAnswer
+      counts-none = rw bad
+
+      lists-none : messagesArea a lent step set l ≡ lent
+      unfolding messagesArea
+      lists-none = rw bad
+
+      replays-none : (order : List ℕ) → replayAnswer a lent step set l order ≡ refusal 9
+      unfolding replayAnswer
+      replays-none order = rw bad
+
+      records-none : (order : List ℕ) → replayArea a lent step set l order ≡ lent
+      unfolding replayArea
+      records-none order = rw bad
+
+    restart-none : (r : Restarted) → r ≡ restartAnswer a step set → r ≡ restartRefusal 9
+    unfolding restartAnswer
+    restart-none r e = e ∙ rw (failure-is, failure-bad)
+
+    all-refused : (run₀ : List ℕ) → areaWords ≤ length run₀ → AllRefuse step set 9 t a run₀
+    all-refused run₀ long =
+        record {
+          restart = λ r A. restart-none r (A .0);
+          messages = λ l c w M. (M .0 ∙ counts-none l run₀ long, M .1 .0 ∙ lists-none l run₀ long);
+          replay = λ l order y v P. (P .0 ∙ replays-none l run₀ long order, P .1 .0 ∙ records-none l run₀ long order);
+          lowest = λ l y v P. (P .0 ∙ replays-none l run₀ long _, P .1 .0 ∙ records-none l run₀ long _);
+          recover = λ x w Q. let l : Line = x .restarted .line in let own = held-long a holds in (
+            restart-none (x .restarted) (Q .0),
+            Q .1 .0 ∙ replays-none l a own _,
+            Q .1 .1 .0 ∙ counts-none l a own,
+            Q .1 .1 .1 .0 ∙ lists-none l a own,
+          );
+        }
 
   -- ---- `restart`, and `messages` and `lowest` with the line that it gives
 
@@ -367,6 +432,30 @@ module _ (text a : List ℕ) (step set : ℕ) (holds : holdsTrace a ≡ true) (e
           let k = unless-given (fault f l) (replayOf S order (run S order)) x (u .1) in
           carried x (run S order) refl (k .0) (k .1)
 
+      -- the record in the run area, event by event
+      left-by : (ws : TakenWords) (o : Outcome) → run S order ≡ o → fault f l ≡ 0 → takenWordsOf S o ≡ given ws → takenWordsIn t (λ k. getD v k 0) ≡ ws
+      unfolding wordsOf
+      left-by ws (carriedOut s) q z h =
+          let p : takenWordsIn t (recordAt S s) ≡ ws = cc in
+          let g = recordAt S s in
+          let w : v ≡ wordsFrom g 0 16384 ++ drop 16384 run₀ = area-by (carriedOut s) q z in
+          let few = held-few a holds in
+          let at : (k : ℕ) → k < 16384 → getD v k 0 ≡ g k = λ k j.
+          ap (λ (x : List ℕ). getD x k 0) w ∙ List·getD-append (wordsFrom g 0 16384) (drop 16384 run₀) 0 k (rw (length-words g 0 16384) j)
+          ∙ words-at g 16384 k j in
+          ap₂ (λ (ns vs : List ℕ). record { numbers = ns; values = vs })
+          (words-same (λ k. getD v k 0) g 1 (size t) (λ k j. at k (omega arith)))
+          (words-same (λ k. getD v k 0) g 2050 (size t) (λ k j. at k (omega arith)))
+          ∙ p
+      left-by ws (Outcome.refused i) q z h = absurd (not-given 11 i ws h)
+
+      left : (ws : TakenWords) → takenWords text l order ≡ given ws → takenWordsIn t (λ k. getD v k 0) ≡ ws
+      unfolding takenWords failureOf
+      left ws h =
+          let u = then-given (failureFault t step set) f (λ g. unless (fault g l) (takenWordsOf (runWith g l) (run (runWith g l) order))) ws (rw e at h) in
+          let k = unless-given (fault f l) (takenWordsOf S (run S order)) ws (u .1) in
+          left-by ws (run S order) refl (k .0) (k .1)
+
       -- refused at a place
       stops-at : (m i : ℕ) (o : Outcome) → run S order ≡ o → fault f l ≡ 0 → replayOf S order o ≡ refused m i
           → (y ≡ record { number = 11; place = i; steps = 0; complete = false }) × (v ≡ cleared run₀)
@@ -422,8 +511,8 @@ module _ (text : List ℕ) where
     recovers x h = by-area (Recovers step set x) (λ a run₀ o q n r A.
         (restarts text a step set o q x h r A, listed text a step set o q x h r A run₀ n, lowest-done text a step set o q x h r A run₀ n))
 
-    pub refuses : (n k : ℕ) → recovery text ≡ refused n k → OnTable t (Refuses step set n)
-    refuses n k h = by-area (Refuses step set n) (λ a run₀ o q m. restart-refused text a step set o q n k h)
+    pub all-refuse : (k : ℕ) → recovery text ≡ refused 9 k → OnTable t (AllRefuse step set 9)
+    all-refuse k h = by-area (AllRefuse step set 9) (λ a run₀ o q m. all-refused text a step set o q k h run₀ m)
 
     module _ (l : List ℕ) where
       pub loses : (ms : List Listed) → losses text l ≡ given ms → OnTable t (Loses step set l ms)
@@ -441,6 +530,12 @@ module _ (text : List ℕ) where
       completes order n h =
           by-area (Completes step set l order n)
           (λ a run₀ o q m y v P. let u = replayed text a step set o q l run₀ m order y v P _ h in (u .0, u .1 refl refl))
+
+      pub leaves : (order : List ℕ) (n : ℕ) (b c : Bool) (ws : TakenWords) → replay text l order ≡ given (record { complete = b; equal = c; steps = n })
+          → takenWords text l order ≡ given ws → OnTable t (Leaves step set l order n b ws)
+      leaves order n b c ws h k =
+          by-area (Leaves step set l order n b ws)
+          (λ a run₀ o q m y v P. (replayed text a step set o q l run₀ m order y v P _ h .0, left text a step set o q l run₀ m order y v P ws k))
 
       pub stops : (order : List ℕ) (m i : ℕ) → replay text l order ≡ refused m (suc i) → OnTable t (Stops step set l order (suc i))
       stops order m i h =

@@ -5,7 +5,7 @@
 use Prim.Native.Nat.{ℕ, _≤_}
 use Prim.Native.String.{String}
 use mathlib.Core.Path.{_≡_, refl, sym, ap, _∙_}
-use mathlib.Core.Bool.{false}
+use mathlib.Core.Bool.{true, false}
 use mathlib.Core.List.{List, [], _∷_}
 use native.Mathlib.Omega.{arith}
 use lib.ListN.{length}
@@ -20,8 +20,8 @@ use Rattle.writer.specs.Buffer.{room, written}
 use Rattle.printing.specs.Inner.Texts.{linesOf}
 use Rattle.report.specs.Report.{printed}
 use Rattle.runs.specs.Texts.{linesH, linesL, linesS, linesT, linesFirst, failing, textH}
-use Rattle.runs.proofs.Table.{reads, message, traceH, traceL, traceS, traceT, printed1, recovery1, recovery4, recovery5, recovery7, recovery8, recovery9, recovery10, table}
-use Rattle.runs.proofs.Calls.{cleared, Accepts, Reads, OnTable, Recovers, Refuses, Loses, AllHaveSteps, Finishes, Completes, Stops, accepts, read-refused, failure-refused, recovers, refuses, loses, all-have-steps, finishes, completes, stops, reads as reads-failure}
+use Rattle.runs.proofs.Table.{reads, message, traceH, traceL, traceS, traceT, printed1, recovery1, recovery4, recovery5, recovery7, recovery8, recovery9, recovery10, table, receivesH, takenH, records-h}
+use Rattle.runs.proofs.Calls.{cleared, Accepts, Reads, OnTable, Recovers, AllRefuse, Loses, AllHaveSteps, Finishes, Completes, Leaves, Stops, accepts, read-refused, failure-refused, recovers, all-refuse, loses, all-have-steps, finishes, completes, leaves, stops, reads as reads-failure}
 
 -- `report` writes these lines: into a buffer `out`, which it leaves as `after`, and it answers n
 abbrev pub Prints : List ℕ → List String → Type 0
@@ -240,20 +240,20 @@ c10 =
       all-have-steps text traceT 1 1 fails10 (1 ∷ 32 ∷ []) 2 (s .0) (s .1),
     )
 
--- "R11: H with set 0 or 8 is 9."
+-- "R11: H with set 0 or 8 is 9.", to every call
 abbrev pub C11 : Type 0
 C11 =
     Reads (failing linesH "fail=9 set=0") traceH 9 0
     × Reads (failing linesH "fail=9 set=8") traceH 9 8
-    × OnTable traceH (Refuses 9 0 9)
-    × OnTable traceH (Refuses 9 8 9)
+    × OnTable traceH (AllRefuse 9 0 9)
+    × OnTable traceH (AllRefuse 9 8 9)
 
 c11 : C11
 c11 =
     let empty = failing linesH "fail=9 set=0" in
     let beyond = failing linesH "fail=9 set=8" in
     let (x, y) = table .10 in
-    (reads-failure empty traceH 9 0 empty11, reads-failure beyond traceH 9 8 beyond11, refuses empty traceH 9 0 empty11 9 0 x, refuses beyond traceH 9 8 beyond11 9 0 y)
+    (reads-failure empty traceH 9 0 empty11, reads-failure beyond traceH 9 8 beyond11, all-refuse empty traceH 9 0 empty11 0 x, all-refuse beyond traceH 9 8 beyond11 0 y)
 
 -- "R12: a receive as first event is 5 at line 2." To `read` and to `read_failure`, which clear the table area, and to
 -- `report`
@@ -276,3 +276,21 @@ c12 =
 
 pub code-table : C1 × C2 × C3 × C4 × C5 × C6 × C7 × C8 × C9 × C10 × C11 × C12
 code-table = (c1, c2, c3, c4, c5, c6, c7, c8, c9, c10, c11, c12)
+
+-- ---- Not among them, but of the same texts: delivery records (`RecordsH` of Table), as `replay` leaves them in the run
+-- area. Complete, from the line of R1: the record of the run without failure. Not complete: 1 has not received message
+-- 2 from 0. Complete, from the line of R2, which loses that message: 1 never receives it
+
+abbrev pub LeftH : Type 0
+LeftH =
+    OnTable traceH (Leaves 9 2 (2 ∷ 2 ∷ 32 ∷ []) (0 ∷ 1 ∷ 1 ∷ 1 ∷ []) 4 true (takenH (receivesH 1 1 2) (receivesH 5 7 9)))
+    × OnTable traceH (Leaves 9 2 (2 ∷ 2 ∷ 32 ∷ []) (0 ∷ 1 ∷ []) 2 false (takenH (receivesH 1 1 0) (receivesH 5 7 0)))
+    × OnTable traceH (Leaves 9 2 (32 ∷ 2 ∷ 32 ∷ []) (1 ∷ []) 1 true (takenH (receivesH 1 1 0) (receivesH 5 7 0)))
+
+pub left-h : LeftH
+left-h =
+    let (_, all, done, _, some, more, _, lossy) = records-h in (
+      leaves textH traceH 9 2 fails1 (2 ∷ 2 ∷ 32 ∷ []) (0 ∷ 1 ∷ 1 ∷ 1 ∷ []) 4 true true (takenH (receivesH 1 1 2) (receivesH 5 7 9)) done all,
+      leaves textH traceH 9 2 fails1 (2 ∷ 2 ∷ 32 ∷ []) (0 ∷ 1 ∷ []) 2 false false (takenH (receivesH 1 1 0) (receivesH 5 7 0)) more some,
+      leaves textH traceH 9 2 fails1 (32 ∷ 2 ∷ 32 ∷ []) (1 ∷ []) 1 true false (takenH (receivesH 1 1 0) (receivesH 5 7 0)) (table .1 .2) lossy,
+    )

@@ -31,11 +31,13 @@ use Rattle.printing.specs.Inner.Texts.{linesOf}
 use Rattle.runs.specs.Texts.{linesH, linesL, linesS, linesT, linesFirst, failing, textH}
 use Rattle.report.specs.Report.{Answer, refused, given, Failure, failureOf, Recovery, recoveryOf, recovery, messageLines, printedOf, printed}
 use Rattle.printing.specs.Lines.{processLine, messageLine, totalLine, refusalLine}
-use Rattle.runs.specs.Answers.{recoveryIn, losses, Replayed, replay, exactStepsOf}
+use Rattle.machine.specs.Taken.{takenNumber, takenValue}
+use Rattle.orders.specs.Record.{recordAt}
+use Rattle.runs.specs.Answers.{recoveryIn, losses, Replayed, replay, channelRecord, TakenWords, takenWords, exactStepsOf}
 
 -- all that a row computes with, beside what the theory's rows do: `opens`
 unfoldable pub reads : ℕ
-unfolding bytesOf linesOf failing startsWith fieldAt isDigit pushed digitsFrom numberAt lastDigits procsSaid sendSaid recvSaid saveSaid failSaid lineIn pieces faultHere judgeEvent judge linesFrom scanPieces scan verdict lastFailure failureFault permits lineFault failureOf losses replay exactStepsOf wordsFrom ones backOf engineLineOf restartOf recoveryOf recovery processLine messageLine messageLines totalLine refusalLine printedOf printed
+unfolding bytesOf linesOf failing startsWith fieldAt isDigit pushed digitsFrom numberAt lastDigits procsSaid sendSaid recvSaid saveSaid failSaid lineIn pieces faultHere judgeEvent judge linesFrom scanPieces scan verdict lastFailure failureFault permits lineFault failureOf losses replay channelRecord takenWords recordAt takenNumber takenValue exactStepsOf wordsFrom ones backOf engineLineOf restartOf recoveryOf recovery processLine messageLine messageLines totalLine refusalLine printedOf printed
 reads = 0
 
 -- a message as the report lists it: from, to, number, phase
@@ -262,6 +264,37 @@ r12 = (refl, refl)
 
 pub table : R1 × R2 × R3 × R4 × R5 × R6 × R7 × R8 × R9 × R10 × R11 × R12
 table = (r1, r2, r3, r4, r5, r6, r7, r8, r9, r10, r11, r12)
+
+-- ---- Not among them, but of the same texts: delivery records, number and value
+
+-- the record of H that an order leaves: what 1 received from 0, what 2 received from 1; no other channel has a message
+abbrev pub DeliveredH : List ℕ → List ℕ → List (ℕ × ℕ) → List (ℕ × ℕ) → Type 0
+DeliveredH l order to1 to2 =
+    (channelRecord textH l order 0 1 ≡ given to1) × (channelRecord textH l order 1 2 ≡ given to2)
+
+-- a word for each event of H, of which 2, 5 and 8 are receives
+abbrev pub receivesH : ℕ → ℕ → ℕ → List ℕ
+receivesH i j k = 0 ∷ i ∷ 0 ∷ 0 ∷ j ∷ 0 ∷ 0 ∷ k ∷ 0 ∷ []
+
+abbrev pub takenH : List ℕ → List ℕ → TakenWords
+takenH ns vs = record { numbers = ns; values = vs }
+
+-- The run without failure, which the order of R1 leaves. That order without its last two choices is carried out and not
+-- complete: 1 has not received message 2. From the line of R2, order 1 is complete, and 1 never receives message 2.
+abbrev pub RecordsH : Type 0
+RecordsH =
+    DeliveredH (2 ∷ 2 ∷ 32 ∷ []) (0 ∷ 1 ∷ 1 ∷ 1 ∷ []) ((1, 5) ∷ (2, 9) ∷ []) ((1, 7) ∷ [])
+    × (takenWords textH (2 ∷ 2 ∷ 32 ∷ []) (0 ∷ 1 ∷ 1 ∷ 1 ∷ []) ≡ given (takenH (receivesH 1 1 2) (receivesH 5 7 9)))
+    × (replay textH (2 ∷ 2 ∷ 32 ∷ []) (0 ∷ 1 ∷ 1 ∷ 1 ∷ []) ≡ completed 4)
+    × DeliveredH (2 ∷ 2 ∷ 32 ∷ []) (0 ∷ 1 ∷ []) ((1, 5) ∷ []) ((1, 7) ∷ [])
+    × (takenWords textH (2 ∷ 2 ∷ 32 ∷ []) (0 ∷ 1 ∷ []) ≡ given (takenH (receivesH 1 1 0) (receivesH 5 7 0)))
+    × (replay textH (2 ∷ 2 ∷ 32 ∷ []) (0 ∷ 1 ∷ []) ≡ given (record { complete = false; equal = false; steps = 2 }))
+    × DeliveredH (32 ∷ 2 ∷ 32 ∷ []) (1 ∷ []) ((1, 5) ∷ []) ((1, 7) ∷ [])
+    × (takenWords textH (32 ∷ 2 ∷ 32 ∷ []) (1 ∷ []) ≡ given (takenH (receivesH 1 1 0) (receivesH 5 7 0)))
+
+pub records-h : RecordsH
+unfolding opens reads
+records-h = ((refl, refl), refl, refl, (refl, refl), refl, refl, (refl, refl), refl)
 
 -- ---- Not among them, but of the same texts: the numbers 1, 8 and 10, and which comes first
 

@@ -1,17 +1,21 @@
--- A recovery by its numbers, and three more answers to a text that ends with a failure line: the messages that another
--- line loses, what an order does, and how many steps document 02's formula gives.
+-- A recovery by its numbers, and more answers to a text that ends with a failure line: the messages that another line
+-- loses, what an order does, the delivery record that it leaves, and how many steps document 02's formula gives.
 use mathlib.Core.List.{List}
 use mathlib.Core.Bool.{Bool}
 use Prim.Native.Nat.{ℕ}
 use lib.ListN.{length}
 use Rattle.words.specs.Area.{wordsFrom}
+use Rattle.trace.specs.Trace.{Trace}
+use Rattle.theory.specs.Events.{size}
 use Rattle.theory.specs.Line.{Run, runAt}
 use Rattle.theory.specs.Order.{Outcome, carriedOut, run, steps, complete}
 use Rattle.theory.specs.Answers.{lineOf, Listed, lostOnes, exactSteps}
+use Rattle.theory.specs.Inner.Record.{delivered}
 use Rattle.theory.specs.Inner.Tests.{sameRecord}
 use Rattle.theory.specs.Refusals.{lineFault, orderFault}
 use Rattle.recovery_line.specs.declared.Line.{Line}
 use Rattle.recovery_line.specs.Given.{lineIn}
+use Rattle.orders.specs.Record.{recordAt}
 use Rattle.report.specs.Report.{Answer, refused, given, unless, then, Failure, Recovery, failureOf}
 
 -- ---- A number for each process, as the calls take and give them: "Places of a line past its N numbers are 0"
@@ -77,6 +81,33 @@ replayOf R order (Outcome.refused i) = refused (orderFault (Outcome.refused i)) 
 
 unfoldable pub replay : List ℕ → List ℕ → List ℕ → Answer Replayed
 replay text l order = then (failureOf text) (λ f. unless (fault f l) (replayOf (runWith f l) order (run (runWith f l) order)))
+
+-- ---- The delivery record that an order leaves
+
+-- "one list for each channel: number and value of each message its receiver received there, in that order"
+abbrev pub deliveredOf : Run → ℕ → ℕ → Outcome → Answer (List (ℕ × ℕ))
+deliveredOf R p q (carriedOut s) = given (delivered R s p q)
+deliveredOf R p q (Outcome.refused i) = refused (orderFault (Outcome.refused i)) i
+
+unfoldable pub channelRecord : List ℕ → List ℕ → List ℕ → ℕ → ℕ → Answer (List (ℕ × ℕ))
+channelRecord text l order p q =
+    then (failureOf text) (λ f. unless (fault f l) (deliveredOf (runWith f l) p q (run (runWith f l) order)))
+
+-- as the run area has it (docs/LAYOUT.md): of each event the number and the value of the message that it took, 0 and 0
+-- where it took none
+pub record TakenWords : Type 0 where
+  pub numbers : List ℕ
+  pub values : List ℕ
+
+abbrev pub takenWordsIn : Trace → (ℕ → ℕ) → TakenWords
+takenWordsIn t word = record { numbers = wordsFrom word 1 (size t); values = wordsFrom word 2050 (size t) }
+
+abbrev pub takenWordsOf : Run → Outcome → Answer TakenWords
+takenWordsOf R (carriedOut s) = given (takenWordsIn (R .trace) (recordAt R s))
+takenWordsOf R (Outcome.refused i) = refused (orderFault (Outcome.refused i)) i
+
+unfoldable pub takenWords : List ℕ → List ℕ → List ℕ → Answer TakenWords
+takenWords text l order = then (failureOf text) (λ f. unless (fault f l) (takenWordsOf (runWith f l) (run (runWith f l) order)))
 
 -- ---- Document 02, item 2: how many steps every complete order from a line has, if it loses no message
 

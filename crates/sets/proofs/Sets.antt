@@ -1,19 +1,20 @@
 -- Sets of processes as numbers of 64 bits: their first member, the set without it, the set with one more, and what
 -- holds outside of them.
-use mathlib.Core.Path.{_≡_, sym, _∙_, ap}
-use mathlib.Core.Bool.{Bool, true, false}
+use mathlib.Core.Path.{_≡_, refl, sym, _∙_, ap}
+use mathlib.Core.Bool.{Bool, true, false, _&&_, _||_, not, and-true, and-false, or-true, or-false}
 use Prim.Native.Nat.{ℕ, zero, suc, _-_, _/_, _%_, _^_, min, max, _≤_, _<_}
 use native.Mathlib.Omega.{arith}
 use native.Mathlib.Nat.{pow-zero, pow-suc, div-one, div-self, zero-div}
 use native.Mathlib.Numerals.{one-add}
-use lib.Bits.{bitAnd, bitOr, and-step, or-step, and-le-r, or-lt, or-shr, and-shr}
-use lib.Count.{trailingZeros}
+use lib.Bits.{bitAnd, bitOr, and-step, or-step, and-zero-l, and-le-r, or-lt, or-shr, and-shr}
+use lib.Count.{trailingZeros, trailing-le, trailing-of-zero}
+use lib.Dec.{eqb}
 use lib.Pow.{shr-shr, pow-pos, pow-lt}
 use borrow.Author.Tests.{eq-eqb, ne-eqb}
 use Rattle.words.proofs.Cases.{by-eq, clash}
 use Rattle.words.proofs.Zeros.{even-zeros, odd-zeros}
 use Rattle.theory.specs.Line.{inSet}
-use Rattle.sets.specs.Inner.Sets.{everyone, firstIn, restOf, withIn, Outside}
+use Rattle.sets.specs.Inner.Sets.{everyone, firstIn, restOf, withIn, FirstOf, Outside}
 
 -- bit z of m
 abbrev bit : ℕ → ℕ → ℕ
@@ -75,6 +76,24 @@ less-one (suc k) m (suc y) p l h = by-eq (m % 2) 0
     rw (bit-suc m y, bit-suc (m - 1) y, q) i)
     (λ o. let q : (m - 1) / 2 ≡ m / 2 = omega arith in rw (bit-suc m y, bit-suc (m - 1) y, q) (omega arith))
 
+-- and not the first
+first-gone : (k m : ℕ) → 0 < m → m < 2 ^ k → bit (m - 1) (trailingZeros k m) ≡ 0
+first-gone zero m p l = absurd (omega (arith, pow-zero 2))
+first-gone (suc k) m p l = by-eq (m % 2) 0
+    (λ e. let q : (m - 1) / 2 ≡ m / 2 - 1 = omega arith in
+    let i = first-gone k (m / 2) (half-pos k m p l e) (half-lt k m p l) in
+    rw (even-zeros k m e, bit-suc (m - 1) (trailingZeros k (m / 2)), q) i)
+    (λ o. rw (odd-zeros k m (omega arith), bit-zero (m - 1)) (omega arith))
+
+-- a set of one member has no other
+one-bit : (q z : ℕ) → (z ≡ q → ⊥) → bit (2 ^ q) z ≡ 0
+one-bit zero zero h = absurd (h refl)
+one-bit zero (suc y) h = bit-suc (2 ^ 0) y ∙ ap (λ x. x % 2) (zero-div (2 ^ y))
+one-bit (suc q) zero h = bit-zero (2 ^ suc q) ∙ omega (arith, pow-suc 2 q)
+one-bit (suc q) (suc y) h =
+    let e : 2 ^ suc q / 2 ≡ 2 ^ q = omega (arith, pow-suc 2 q) in
+    bit-suc (2 ^ suc q) y ∙ rw e (one-bit q y (λ f. h (ap suc f)))
+
 all-bits : (k z : ℕ) → z < k → bit (2 ^ k - 1) z ≡ 1
 all-bits zero z l = absurd (omega arith)
 all-bits (suc k) zero l = bit-zero (2 ^ suc k - 1) ∙ omega (arith, pow-suc 2 k, pow-pos k)
@@ -124,6 +143,48 @@ with-out m q z l o =
     let a = out-bit (bitOr m (2 ^ q)) z (rw s at o) in
     let b = bit-or m (2 ^ q) z in
     (bit-out m z (omega (arith, a, b)), λ e. let c : bit (2 ^ q) z ≡ 1 = rw (e, div-self (pow-pos q)) in omega (arith, a, b, c))
+
+-- ---- The members, exactly: of the three functions' results
+
+-- a bit of one number that is that of another
+bit-same : (m x z : ℕ) → bit m z ≡ bit x z → inSet m z ≡ inSet x z
+bit-same m x z e = ap (λ b. eqb b 1) e
+
+pub first-of : (m : ℕ) → m < 2 ^ 64 → FirstOf m (firstIn m)
+unfolding firstIn
+first-of m l = record {
+  most = trailing-le 64 m;
+  member = λ h. by-eq m 0
+      (λ e. absurd (omega (arith, h, ap (trailingZeros 64) e ∙ trailing-of-zero 64)))
+      (λ n. eq-eqb (bit m (trailingZeros 64 m)) 1 (first-bit 64 m (omega arith) l .1));
+  before = λ z h. bit-out m z (before-first 64 m z h);
+}
+
+pub rest-members : (m : ℕ) → m < 2 ^ 64 → (z : ℕ) → inSet (restOf m) z ≡ (inSet m z && not (eqb z (firstIn m)))
+unfolding firstIn restOf
+rest-members m l z = by-eq m 0
+    (λ e. rw (e, and-zero-l (0 - 1), zero-div (2 ^ z)))
+    (λ n. by-eq z (trailingZeros 64 m)
+    (λ e. let s = eq-eqb z (trailingZeros 64 m) e in
+    let g : bit (m - 1) z ≡ 0 = rw e (first-gone 64 m (omega arith) l) in
+    let o : inSet (bitAnd m (m - 1)) z ≡ false = bit-out (bitAnd m (m - 1)) z (omega (arith, bit-and m (m - 1) z, g)) in
+    rw (s, and-false (inSet m z)) o)
+    (λ d. let s = ne-eqb z (trailingZeros 64 m) d in
+    let q : bit (bitAnd m (m - 1)) z ≡ bit m z = omega (arith, bit-and m (m - 1) z, less-one 64 m z (omega arith) l d) in
+    rw (s, and-true (inSet m z)) (bit-same (bitAnd m (m - 1)) m z q)))
+
+pub with-members : (m q z : ℕ) → inSet (withIn m q) z ≡ (inSet m z || eqb z (q % 64))
+unfolding withIn
+with-members m q z =
+    let k = q % 64 in
+    by-eq z k
+    (λ e. let s = eq-eqb z k e in
+    let c : bit (2 ^ k) z ≡ 1 = rw (e, div-self (pow-pos k)) in
+    let i : inSet (bitOr m (2 ^ k)) z ≡ true = eq-eqb (bit (bitOr m (2 ^ k)) z) 1 (omega (arith, bit-or m (2 ^ k) z, c)) in
+    rw (s, or-true (inSet m z)) i)
+    (λ d. let s = ne-eqb z k d in
+    let b : bit (bitOr m (2 ^ k)) z ≡ bit m z = omega (arith, bit-or m (2 ^ k) z, one-bit k z d) in
+    rw (s, or-false (inSet m z)) (bit-same (bitOr m (2 ^ k)) m z b))
 
 -- what is in neither of two sets
 pub or-out : (m x z : ℕ) → inSet (bitOr m x) z ≡ false → (inSet m z ≡ false) × (inSet x z ≡ false)

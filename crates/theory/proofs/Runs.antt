@@ -59,6 +59,10 @@ exact R order = leaves (λ s. isNone (lowest R s) && eqb (steps order) (exactSte
 abbrev inexact : Run → List ℕ → Bool
 inexact R order = leaves (λ s. isNone (lowest R s) && not (eqb (steps order) (exactSteps R))) (run R order)
 
+-- the order is carried out, complete or not, and 1 has received these messages from 0: number and value
+abbrev delivers : Run → List ℕ → List (ℕ × ℕ) → Bool
+delivers R order ps = leaves (λ s. samePairs (delivered R s 0 1) ps) (run R order)
+
 -- exactly one orphan, from 0 to 1 with number 1, of a phase
 abbrev only-orphan : List Listed → ℕ → Bool
 only-orphan [] r = false
@@ -165,3 +169,13 @@ d13 = refl
 d14 : (inexact (at-cut t10 4 (32 ∷ 1 ∷ [])) [] && (exact (at-cut t8 3 (32 ∷ 1 ∷ [])) (65 ∷ 1 ∷ []) && eqb (mostSteps (two t10)) 8)) ≡ true
 unfolding opens
 d14 = refl
+
+-- a record has number and value of each message, in the order of the receives: of a complete order; of one that is not,
+-- those so far; from a line with loss, where the run without failure has (1, 6), another message
+d15 :
+    (delivers (at-cut t12 2 (32 ∷ 1 ∷ [])) (65 ∷ 65 ∷ 1 ∷ 1 ∷ []) ((1, 5) ∷ (2, 6) ∷ [])
+    && (delivers (at-cut t12 2 (32 ∷ 1 ∷ [])) (65 ∷ 1 ∷ []) ((1, 5) ∷ [])
+    && (delivers (at-cut t8 3 (32 ∷ 1 ∷ [])) (65 ∷ 1 ∷ []) ((2, 6) ∷ [])
+    && samePairs (faultless (at-cut t8 3 (32 ∷ 1 ∷ [])) 0 1) ((1, 6) ∷ [])))) ≡ true
+unfolding opens
+d15 = refl

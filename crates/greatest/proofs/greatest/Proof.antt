@@ -1,7 +1,6 @@
 -- `greatest::greatest` meets its contract: the first line, lowered until nothing is lost, is the theory's line; epochs
 -- and phases are those of the newest events before and after that.
-use mathlib.Core.Path.{_≡_, _∙_}
-use lib.ListN.{length}
+use mathlib.Core.Path.{_∙_}
 use Rattle.words.proofs.Area.{zero-word}
 use Rattle.columns.proofs.Full.{procs-most}
 use Rattle.recovery_line.proofs.Table.{sized}
@@ -31,15 +30,16 @@ epochs-at-requires c κs =
 
 lower-requires : tie.Need-lower-requires
 lower-requires c κs =
-    let pre = c .before .before .before .before .before .before .before .before .before .before .before .before .before .before .before .before .before .before .before .before .before .pre in
-    let args = c .before .before .before .before .before .before .before .before .before .before .before .before .before .before .before .before .before .before .before .before .before .args in
-    let link = c .before .before .before .before .before .before .before .before .before .before .before .before .before .before .link in
-    let S = sized (pre .2 .0) _ (pre .2 .2 .marked .tabled) _ (pre .2 .2 .cut-in) in (search needs, ((args .cut), S, (link .ensures)))
+    let pre = c .before .before .before .before .before .before .before .before .before .before .before .before .before .before .before .before .before .before .before .before .pre in
+    let first-line = c .before .before .before .first-line in
+    let args = c .before .before .before .before .before .before .before .before .before .before .before .before .before .before .before .before .before .before .before .before .args in
+    let link = c .before .before .before .before .before .before .before .before .before .before .before .before .before .link in
+    let S = sized (pre .2 .0) _ (pre .2 .2 .marked .tabled) _ (pre .2 .2 .cut-in) in ((first-line .ensures .1 .1), ((args .cut), S, (link .ensures)))
 
 restart-phases-requires : tie.Need-restart-phases-requires
 restart-phases-requires c κs =
     let pre = c .before .before .before .before .before .before .before .before .before .before .before .before .before .before .before .before .before .before .before .before .before .before .before .before .before .before .before .pre in
-    let lower = c .before .before .before .before .before .lower in
+    let lower = c .before .before .before .before .before .before .lower in
     let args = c .before .before .before .before .before .before .before .before .before .before .before .before .before .before .before .before .before .before .before .before .before .before .before .before .before .before .before .args in
     let link = c .before .before .before .before .before .before .before .before .before .before .before .before .before .before .before .before .before .before .before .before .link in
     let processes = c .before .before .before .before .before .before .before .before .before .before .before .before .before .before .before .before .before .before .before .before .before .before .before .processes in
@@ -47,32 +47,31 @@ restart-phases-requires c κs =
 
 returns : tie.Need-returns
 returns c =
-    let epochs-at = c .before .before .before .before .before .before .before .before .before .before .before .before .before .before .before .before .before .before .epochs-at in
-    let first-line = c .before .before .before .before .before .before .before .before .before .before .before .before .before .first-line in
-    let restart-phases = c .before .before .restart-phases in
+    let pre = c .before .before .before .before .before .before .before .before .before .before .before .before .before .before .before .before .before .before .before .before .before .before .before .before .before .before .before .before .before .before .pre in
+    let args = c .before .before .before .before .before .before .before .before .before .before .before .before .before .before .before .before .before .before .before .before .before .before .before .before .before .before .before .before .before .before .args in
     let processes = c .before .before .before .before .before .before .before .before .before .before .before .before .before .before .before .before .before .before .before .before .before .before .before .before .before .before .processes in
     let link = c .before .before .before .before .before .before .before .before .before .before .before .before .before .before .before .before .before .before .before .before .before .before .before .link in
-    let lower = c .before .before .before .before .before .before .before .before .lower in
-    let args = c .before .before .before .before .before .before .before .before .before .before .before .before .before .before .before .before .before .before .before .before .before .before .before .before .before .before .before .before .before .before .args in
-    let pre = c .before .before .before .before .before .before .before .before .before .before .before .before .before .before .before .before .before .before .before .before .before .before .before .before .before .before .before .before .before .before .pre in
+    let epochs-at = c .before .before .before .before .before .before .before .before .before .before .before .before .before .before .before .before .before .before .epochs-at in
+    let first-line = c .before .before .before .before .before .before .before .before .before .before .before .before .before .first-line in
+    let lower = c .before .before .before .before .before .before .before .before .before .lower in
+    let restart-phases = c .before .before .restart-phases in
     let S = sized (pre .2 .0) _ (pre .2 .2 .marked .tabled) _ (pre .2 .2 .cut-in) in
-    let m : length (first-line .last .1 .1 .1 .0) ≡ 64 = search needs in
     let D : Done (args .full .now) (args .cut) (args .set) (processes .result) _ _ _ _ _ _ _ = record {
-      counted = processes .ensures .0;
-      linked = link .ensures;
+      counted = (processes .ensures .0);
+      linked = (link .ensures);
       epochs-long = (epochs-at .kept .1 .1 .1 .0) ∙ (pre .0);
-      epochs = epochs-at .ensures;
-      first-long = m;
-      first = first-line .ensures .0;
-      others = λ z l. (first-line .ensures .1) z l ∙ zero-word 64 z;
+      epochs = (epochs-at .ensures);
+      first-long = (first-line .ensures .1 .1);
+      first = (first-line .ensures .0);
+      others = λ z l. (first-line .ensures .1 .0) z l ∙ zero-word 64 z;
       lowered = (lower .ensures .0) (args .cut) S (link .ensures);
       before = (lower .ensures .1) (args .cut) S (link .ensures);
       phases-long = (restart-phases .kept .1 .1 .1 .1 .0) ∙ (pre .1);
-      phases = restart-phases .ensures;
+      phases = (restart-phases .ensures);
     } in
     (λ t u m h. line-done t u m h D, (λ t u m h. means-done t u m h D, (λ t u m h. epochs-done t u m h D, λ t u m h. phases-done t u m h D)))
 
 pub greatest-spec : {M : Type 1} → statement M
 greatest-spec =
     tie.close
-    (tie.spec processes-requires (λ c. search needs) (λ c. search needs) link-requires (λ c. search needs) epochs-at-requires (λ c. search needs) (λ c κs. search needs) (λ c. search needs) (λ c. search needs) (λ c. search needs) lower-requires (λ c. search needs) (λ c. search needs) restart-phases-requires (λ c. search needs) (λ c. search needs) returns)
+    (tie.spec processes-requires (λ c. search needs) (λ c. search needs) link-requires (λ c. search needs) epochs-at-requires (λ c κs. search needs) (λ c. search needs) (λ c. search needs) lower-requires (λ c. search needs) restart-phases-requires (λ c. search needs) (λ c. search needs) returns)

@@ -11,7 +11,7 @@ returns c =
     let with = c .with in
     let if1 = c .before .before .before .if1 in
     let peer = c .before .peer in
-    ((lower-at .ensures .0), (search needs, (with .ensures) ∙ joined-lost _ _ _ _ _ (sym (lower-at .ensures .1) ∙ (if1 .taken)) (peer .ensures .0)))
+    ((lower-at .ensures .0), (search needs, (with .ensures .0) ∙ joined-lost _ _ _ _ _ (sym (lower-at .ensures .1) ∙ (if1 .taken)) (peer .ensures .0)))
 
 returns-2 : tie.Need-returns-2
 returns-2 c =

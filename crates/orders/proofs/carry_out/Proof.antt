@@ -15,10 +15,10 @@ use Rattle.orders.proofs.carry_out.Statement.{statement}
 use Rattle.orders.proofs.carry_out.Tie as tie
 
 abbrev Inv-loop : tie.InvT-loop
-Inv-loop full links gates order area₀ i₀ area i = (i ≤ length order) × (length area ≡ length area₀) × ((R : Run) → Started R full links gates area₀ → Live R area i order (run R order))
+Inv-loop full links gates order area₀ steps₀ area steps = (steps ≤ length order) × (length area ≡ length area₀) × ((R : Run) → Started R full links gates area₀ → Live R area steps order (run R order))
 
 abbrev μ-loop : tie.MeasureT-loop
-μ-loop full links gates order area₀ i₀ area i = length order - i
+μ-loop full links gates order area₀ steps₀ area steps = length order - steps
 
 loop-holds : tie.Need-loop-holds Inv-loop μ-loop
 loop-holds c = (omega arith, refl, λ R S. run-starts R _ _ _ _ S _)
@@ -62,9 +62,9 @@ returns-2 : tie.Need-returns-2 Inv-loop μ-loop
 returns-2 c =
     let loop = c .before .loop in
     let loop-test = c .loop-test in
-    λ R S. run-end R _ _ _ _ S _ _ _ _ ((loop .inv .2) R S) (loop-test .left)
+    λ R S. run-end R _ _ _ _ S _ _ _ _ ((loop .inv .2) R S) (loop .inv .0) (loop-test .left)
 
 pub carry-out-spec : {M : Type 1} → statement M
 carry-out-spec =
     tie.close
-    (tie.spec Inv-loop μ-loop loop-holds (λ c. search needs) (λ c. search needs) (λ c κs. search needs) allowed-requires apply-requires (λ c. search needs) (λ c. search needs) loop-again (λ c. search needs) (λ c. search needs) returns (λ c. search needs) returns-2)
+    (tie.spec Inv-loop μ-loop loop-holds (λ c. search needs) (λ c. search needs) (λ c κs. search needs) allowed-requires apply-requires (λ c. search needs) (λ c. search needs) loop-again (λ c. search needs) returns (λ c. search needs) returns-2)

@@ -11,14 +11,14 @@ returns c =
     let if1 = c .before .before .before .before .if1 in
     let pre = c .before .before .before .before .before .before .before .before .before .before .before .before .before .before .pre in
     let zero = c .before .before .zero in
-    (λ R S. stop-answer R _ _ _ _ S _ _ _ _ ((carry-out .ensures) R S) (if1 .taken), λ R S. stop-words R _ _ _ _ S _ _ _ _ ((carry-out .ensures) R S) (if1 .taken) ((carry-out .kept .1 .1 .1 .1 .0) ∙ (pre .area-long)) (zero .ensures))
+    (λ R S. stop-answer R _ _ _ _ S _ _ _ _ ((carry-out .ensures) R S) (if1 .taken), λ R S. stop-words R _ _ _ _ S _ _ _ _ _ ((carry-out .ensures) R S) (if1 .taken) ((carry-out .kept .1 .1 .1 .1 .0) ∙ (pre .area-long)) (zero .ensures))
 
 complete-requires : tie.Need-complete-requires
 complete-requires c κs =
     let pre = c .before .before .before .before .before .before .before .before .before .before .before .pre in
     let carry-out = c .before .before .before .before .carry-out in
     let if1 = c .before .if1 in
-    went-readable _ _ _ _ pre _ (carry-out .kept .1 .1 .1 .1 .0) _ _ ((carry-out .ensures) (pre .run) (pre .started)) (if1 .left)
+    went-readable _ _ _ _ pre _ (carry-out .kept .1 .1 .1 .1 .0) _ _ _ ((carry-out .ensures) (pre .run) (pre .started)) (if1 .left)
 
 finish-requires : tie.Need-finish-requires
 finish-requires c κs =
@@ -33,9 +33,9 @@ returns-2 c =
     let complete = c .before .before .before .before .complete in
     let finish = c .before .before .finish in
     let pre = c .before .before .before .before .before .before .before .before .before .before .before .before .before .before .before .before .pre in
-    (λ R S. went-answer R _ _ _ _ S _ _ _ _ _ _ ((carry-out .ensures) R S) (if1 .left) (complete .ensures) (finish .ensures .0), λ R S. went-words R _ _ _ _ S _ _ _ _ ((carry-out .ensures) R S) (if1 .left) ((finish .kept .0) ∙ (carry-out .kept .1 .1 .1 .1 .0) ∙ (pre .area-long)) ((finish .ensures .1) .0) ((finish .ensures .1) .1))
+    (λ R S. went-answer R _ _ _ _ S _ _ _ _ _ _ ((carry-out .ensures) R S) (if1 .left) (complete .ensures) (finish .ensures .0), λ R S. went-words R _ _ _ _ S _ _ _ _ _ ((carry-out .ensures) R S) (if1 .left) ((finish .kept .0) ∙ (carry-out .kept .1 .1 .1 .1 .0) ∙ (pre .area-long)) ((finish .ensures .1) .0) ((finish .ensures .1) .1))
 
 pub replay-in-spec : {M : Type 1} → statement M
 replay-in-spec =
     tie.close
-    (tie.spec (λ c κs. search needs) (λ c κs. search needs) (λ c. search needs) returns complete-requires finish-requires (λ c. search needs) returns-2)
+    (tie.spec (λ c κs. search needs) (λ c κs. search needs) (λ c. search needs) (λ c. search needs) returns complete-requires finish-requires (λ c. search needs) returns-2)

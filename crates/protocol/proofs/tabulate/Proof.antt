@@ -3,6 +3,7 @@ use mathlib.Core.Path.{refl, sym, _∙_}
 use mathlib.Core.Bool.{true, false}
 use borrow.Author.Tests.{eq-eqb, ne-eqb}
 use Rattle.words.proofs.Cases.{clash}
+use Rattle.protocol.proofs.Area.{area-sized, area-none, area-filled}
 use Rattle.protocol.proofs.Passes.{held-long, copied-filled}
 use Rattle.columns.proofs.Passes.{copied-others, begun-working}
 use native.Mathlib.Omega.{arith}
@@ -13,7 +14,7 @@ use Rattle.protocol.proofs.tabulate.Tie as tie
 returns : tie.Need-returns
 returns c =
     let if1 = c .if1 in
-    (rw (ne-eqb _ _ (if1 .taken)), (λ e. clash {b = false} e refl, (λ e. clash {b = false} e refl, (λ _. refl, λ e. clash {b = false} e refl))))
+    (rw (ne-eqb _ _ (if1 .taken)), (λ e. clash {b = false} e refl, (λ e. clash {b = false} e refl, (λ _. refl, (λ e. clash {b = false} e refl, area-sized _ _ (if1 .taken))))))
 
 copy-requires : tie.Need-copy-requires
 copy-requires c κs =
@@ -39,14 +40,16 @@ returns-2 c =
     let if2 = c .before .before .before .before .before .before .before .before .before .before .before .before .before .if2 in
     let copy = c .before .before .before .before .before .before .before .before .before .before .before .copy in
     let fill = c .before .before .before .fill in
-    (rw (eq-eqb _ _ (if1 .left), (sym (holds-trace .ensures) ∙ (if2 .taken))), (λ e. (fill .ensures .0), (λ e. (fill .ensures .1 .0), (λ e. clash {b = true} refl e, λ e. copied-others _ _ _ (copy .last .1 .0) _ (λ k h. (copy .ensures .1) k (omega arith)) (fill .ensures .1 .1)))))
+    let h = sym (holds-trace .ensures) ∙ (if2 .taken) in
+    let O = copied-others _ _ _ (copy .last .1 .0) _ (λ k h. (copy .ensures .1) k (omega arith)) (fill .ensures .1 .1) in
+    (rw (eq-eqb _ _ (if1 .left), h), (λ e. (fill .ensures .0), (λ e. (fill .ensures .1 .0), (λ e. clash {b = true} refl e, (λ e. O, area-filled _ _ (if1 .left) _ h (fill .ensures .0) (fill .ensures .1 .0) O)))))
 
 returns-3 : tie.Need-returns-3
 returns-3 c =
     let if1 = c .before .before .if1 in
     let holds-trace = c .before .holds-trace in
     let if2 = c .if2 in
-    (rw (eq-eqb _ _ (if1 .left), sym (holds-trace .ensures) ∙ (if2 .left)), (λ e. clash {b = false} e refl, (λ e. clash {b = false} e refl, (λ _. refl, λ e. clash {b = false} e refl))))
+    (rw (eq-eqb _ _ (if1 .left), sym (holds-trace .ensures) ∙ (if2 .left)), (λ e. clash {b = false} e refl, (λ e. clash {b = false} e refl, (λ _. refl, (λ e. clash {b = false} e refl, area-none _ _ (if1 .left) (sym (holds-trace .ensures) ∙ (if2 .left)))))))
 
 pub tabulate-spec : {M : Type 1} → statement M
 tabulate-spec =

@@ -1,5 +1,5 @@
 -- `restart::restart_from` meets its contract: the line, and what is said of it.
-use Rattle.restart.proofs.Restarting.{count-few, made, means}
+use Rattle.restart.proofs.Restarting.{made, means}
 use borrow.Author.Needs.{needs}
 use Rattle.restart.proofs.restart_from.Statement.{statement}
 use Rattle.restart.proofs.restart_from.Tie as tie
@@ -8,18 +8,6 @@ greatest-requires : tie.Need-greatest-requires
 greatest-requires c κs =
     let pre = c .before .before .before .pre in
     (search needs, search needs, ((pre .0), _, record { marked = (pre .1); cut-in = (pre .2) }))
-
-back-set-requires : tie.Need-back-set-requires
-back-set-requires c κs =
-    let pre = c .before .before .before .before .before .before .pre in
-    let greatest = c .before .before .greatest in
-    count-few (pre .0) _ (pre .1) _ _ (pre .2) _ ((greatest .ensures .0) (pre .0) _ (pre .1) (pre .2))
-
-back-requires : tie.Need-back-requires
-back-requires c κs =
-    let pre = c .before .before .before .before .before .before .before .pre in
-    let greatest = c .before .before .before .greatest in
-    count-few (pre .0) _ (pre .1) _ _ (pre .2) _ ((greatest .ensures .0) (pre .0) _ (pre .1) (pre .2))
 
 returns : tie.Need-returns
 returns c =
@@ -31,4 +19,4 @@ returns c =
 pub restart-from-spec : {M : Type 1} → statement M
 restart-from-spec =
     tie.close
-    (tie.spec (λ c. search needs) (λ c. search needs) greatest-requires back-set-requires back-requires returns)
+    (tie.spec (λ c. search needs) (λ c. search needs) greatest-requires (λ c κs. search needs) (λ c κs. search needs) returns)

@@ -8,7 +8,7 @@ returns c =
     let put-in = c .before .before .before .before .put-in in
     let with2 = c .with2 in
     let with = c .before .with in
-    ((put-in .ensures), rw ((with2 .ensures), (with .ensures)))
+    ((put-in .ensures), rw ((with2 .ensures .0), (with .ensures .0)))
 
 pub hand-over-spec : {M : Type 1} → statement M
 hand-over-spec = tie.close (tie.spec (λ c κs. search needs) (λ c κs. search needs) (λ c κs. search needs) (λ c. search needs) returns)

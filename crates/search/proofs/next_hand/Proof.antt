@@ -25,14 +25,14 @@ next-receiver-requires c κs =
     let first = c .before .before .first in
     let loop = c .before .before .before .before .loop in
     let loop-test = c .before .before .before .loop-test in
-    (omega (arith, (first .ensures), first-lt (loop .left) (omega (arith, (loop-test .taken))) (loop .inv .0)), (loop .inv .2))
+    (omega (arith, (first .ensures .0), first-lt (loop .left) (omega (arith, (loop-test .taken))) (loop .inv .0)), (loop .inv .2))
 
 mul-t15 : tie.Need-mul-t15 Inv-loop μ-loop
 mul-t15 c =
     let first = c .before .before .before .before .before .before .before .before .first in
     let loop = c .before .before .before .before .before .before .before .before .before .before .loop in
     let loop-test = c .before .before .before .before .before .before .before .before .before .loop-test in
-    omega (arith, (first .ensures), first-lt (loop .left) (omega (arith, (loop-test .taken))) (loop .inv .0))
+    omega (arith, (first .ensures .0), first-lt (loop .left) (omega (arith, (loop-test .taken))) (loop .inv .0))
 
 add-t16 : tie.Need-add-t16 Inv-loop μ-loop
 add-t16 c =
@@ -40,7 +40,7 @@ add-t16 c =
     let if1 = c .if1 in
     let loop = c .before .before .before .before .before .before .before .before .before .before .loop in
     let loop-test = c .before .before .before .before .before .before .before .before .before .loop-test in
-    omega (arith, (first .ensures), (if1 .taken), first-lt (loop .left) (omega (arith, (loop-test .taken))) (loop .inv .0))
+    omega (arith, (first .ensures .0), (if1 .taken), first-lt (loop .left) (omega (arith, (loop-test .taken))) (loop .inv .0))
 
 same-length : tie.Need-same-length Inv-loop μ-loop
 same-length c =
@@ -67,14 +67,14 @@ returns c =
     let e : (64 * (first .result) + (next-receiver .result)) / 64 ≡ (first .result) = omega (arith, (if1 .taken)) in
     let f = (next-receiver .ensures .1 .0) .1 (if1 .taken) in
     let m = first-in (loop .left) (omega (arith, (loop-test .taken))) (loop .inv .0) in (
-      shut-to _ _ _ (loop .left) (first .result) (next-receiver .result) (first .ensures) (omega (arith, (first .ensures), lt)) ((next-receiver .ensures .1 .0) .0) (loop .inv .1) (next-receiver .ensures .0),
+      shut-to _ _ _ (loop .left) (first .result) (next-receiver .result) (first .ensures .0) (omega (arith, (first .ensures .0), lt)) ((next-receiver .ensures .1 .0) .0) (loop .inv .1) (next-receiver .ensures .0),
       (
         (λ n. record {
-          channel = omega (arith, (first .ensures), lt, (if1 .taken));
+          channel = omega (arith, (first .ensures .0), lt, (if1 .taken));
           ready = rw e (f .0);
           kept = rw e (f .1);
           unknown = rw e (f .2);
-          member = rw (e, (first .ensures)) m;
+          member = rw (e, (first .ensures .0)) m;
         }),
         ((loop .inv .1), ((next-receiver .ensures .1 .1 .0), (next-receiver .ensures .1 .1 .1))),
       ),
@@ -85,7 +85,7 @@ loop-less c =
     let rest = c .rest in
     let loop = c .before .before .before .before .before .before .before .before .before .before .before .loop in
     let loop-test = c .before .before .before .before .before .before .before .before .before .before .loop-test in
-    omega (arith, (rest .ensures), rest-less (loop .left) (omega (arith, (loop-test .taken))))
+    omega (arith, (rest .ensures .0), rest-less (loop .left) (omega (arith, (loop-test .taken))))
 
 loop-again : tie.Need-loop-again Inv-loop μ-loop
 loop-again c =
@@ -96,8 +96,8 @@ loop-again c =
     let next-receiver = c .before .before .before .before .before .before .next-receiver in
     let if1 = c .before .if1 in
     let pre = c .before .before .before .before .before .before .before .before .before .before .before .before .before .before .before .before .before .pre in (
-      omega (arith, (rest .ensures), (loop .inv .0), rest-less (loop .left) (omega (arith, (loop-test .taken)))),
-      shut-rest _ _ _ (loop .left) (first .result) (rest .result) (omega (arith, (loop-test .taken))) (loop .inv .0) (first .ensures) (rest .ensures) (λ q h. (next-receiver .ensures .0) q (omega (arith, h, (if1 .left)))) (loop .inv .1),
+      omega (arith, (rest .ensures .0), (loop .inv .0), rest-less (loop .left) (omega (arith, (loop-test .taken)))),
+      shut-rest _ _ _ (loop .left) (first .result) (rest .result) (omega (arith, (loop-test .taken))) (loop .inv .0) (first .ensures .0) (rest .ensures .0) (λ q h. (next-receiver .ensures .0) q (omega (arith, h, (if1 .left)))) (loop .inv .1),
       (record {
         readable = (pre .0 .readable);
         phases-long = (next-receiver .kept .1 .1 .1 .1 .0) ∙ (loop .inv .2 .phases-long);

@@ -46,7 +46,7 @@ add-kept-phase c =
     let first = c .first in
     let loop = c .before .before .loop in
     let loop-test = c .before .loop-test in
-    omega (arith, (pre .0), (first .ensures), first-lt (loop .left) (omega (arith, (loop-test .taken))) (loop .inv .0))
+    omega (arith, (pre .0), (first .ensures .0), first-lt (loop .left) (omega (arith, (loop-test .taken))) (loop .inv .0))
 
 kept-phase-requires : tie.Need-kept-phase-requires Inv-loop μ-loop
 kept-phase-requires c κs =
@@ -54,7 +54,7 @@ kept-phase-requires c κs =
     let first = c .first in
     let loop = c .before .before .loop in
     let loop-test = c .before .loop-test in
-    ((pre .0), omega (arith, (pre .0), (first .ensures), first-lt (loop .left) (omega (arith, (loop-test .taken))) (loop .inv .0)), (pre .1 .readable))
+    ((pre .0), omega (arith, (pre .0), (first .ensures .0), first-lt (loop .left) (omega (arith, (loop-test .taken))) (loop .inv .0)), (pre .1 .readable))
 
 slice-write-phases : tie.Need-slice-write-phases Inv-loop μ-loop
 slice-write-phases c =
@@ -93,9 +93,9 @@ returns-2 c =
     let low = (shared-slice-known4 .given) 14467 in
     let n = (loop .inv .1 .phases-long) in
     let k = (loop .inv .1 .keeping-long) in (
-      (λ q j. (loop .inv .2 .shut) q (omega (arith, (first .ensures), first-lt (loop .left) (omega (arith, (loop-test .taken))) (loop .inv .0))) (lower-out (loop .left) q (omega (arith, (first .ensures))))),
+      (λ q j. (loop .inv .2 .shut) q (omega (arith, (first .ensures .0), first-lt (loop .left) (omega (arith, (loop-test .taken))) (loop .inv .0))) (lower-out (loop .left) q (omega (arith, (first .ensures .0))))),
       (
-        (omega (arith, (first .ensures), first-lt (loop .left) (omega (arith, (loop-test .taken))) (loop .inv .0)), λ h. (sym (hand-kept _ _ _ _ _ (kept-phase .result) (omega (arith, low)) (kept-phase .ensures)) ∙ lt-ltb _ _ (if2 .taken), ready-kept _ _ _ (args .p) (first .result) (kept-phase .result) (omega (arith, low)) (kept-phase .ensures) (if2 .taken), getD-set-same (loop .phases) (args .p) 0 0 (omega (arith, n, (pre .0))))),
+        (omega (arith, (first .ensures .0), first-lt (loop .left) (omega (arith, (loop-test .taken))) (loop .inv .0)), λ h. (sym (hand-kept _ _ _ _ _ (kept-phase .result) (omega (arith, low)) (kept-phase .ensures)) ∙ lt-ltb _ _ (if2 .taken), ready-kept _ _ _ (args .p) (first .result) (kept-phase .result) (omega (arith, low)) (kept-phase .ensures) (if2 .taken), getD-set-same (loop .phases) (args .p) 0 0 (omega (arith, n, (pre .0))))),
         (
           under-set _ _ _ (args .p) (pre .0) (loop .phases) 0 n (loop .inv .1 .under) (omega arith) (λ q k. omega arith),
           keeps-set _ _ _ (args .p) (pre .0) (loop .keeping) _ k (loop .inv .1 .keeps) (pruned-or _ (loop .some) (loop .left) (loop .inv .2 .pruned)),
@@ -108,14 +108,14 @@ with-unless-requires c κs =
     let first = c .before .before .first in
     let loop = c .before .before .before .before .loop in
     let loop-test = c .before .before .before .loop-test in
-    omega (arith, (first .ensures), first-lt (loop .left) (omega (arith, (loop-test .taken))) (loop .inv .0))
+    omega (arith, (first .ensures .0), first-lt (loop .left) (omega (arith, (loop-test .taken))) (loop .inv .0))
 
 loop-less : tie.Need-loop-less Inv-loop μ-loop
 loop-less c =
     let rest = c .rest in
     let loop = c .before .before .before .before .before .before .before .loop in
     let loop-test = c .before .before .before .before .before .before .loop-test in
-    omega (arith, (rest .ensures), rest-less (loop .left) (omega (arith, (loop-test .taken))))
+    omega (arith, (rest .ensures .0), rest-less (loop .left) (omega (arith, (loop-test .taken))))
 
 loop-again : tie.Need-loop-again Inv-loop μ-loop
 loop-again c =
@@ -128,7 +128,7 @@ loop-again c =
     let lesser = c .before .lesser in
     let with-unless = c .before .before .with-unless in
     let if2 = c .before .before .before .if2 in
-    (omega (arith, (rest .ensures), (loop .inv .0), rest-less (loop .left) (omega (arith, (loop-test .taken)))), (loop .inv .1), waits-next _ _ _ (args .p) (loop .least) (loop .some) (loop .left) (first .result) (kept-phase .result) (lesser .result) (with-unless .result) (rest .result) (omega (arith, (loop-test .taken))) (loop .inv .0) (first .ensures) (rest .ensures) (kept-phase .ensures) (if2 .left) (lesser .ensures) (with-unless .ensures) (loop .inv .2))
+    (omega (arith, (rest .ensures .0), (loop .inv .0), rest-less (loop .left) (omega (arith, (loop-test .taken)))), (loop .inv .1), waits-next _ _ _ (args .p) (loop .least) (loop .some) (loop .left) (first .result) (kept-phase .result) (lesser .result) (with-unless .result) (rest .result) (omega (arith, (loop-test .taken))) (loop .inv .0) (first .ensures .0) (rest .ensures .0) (kept-phase .ensures) (if2 .left) (lesser .ensures) (with-unless .ensures) (loop .inv .2))
 
 slice-write-phases-2 : tie.Need-slice-write-phases-2 Inv-loop μ-loop
 slice-write-phases-2 c =

@@ -8,13 +8,13 @@ peer-of-next-requires : tie.Need-peer-of-next-requires
 peer-of-next-requires c κs =
     let first = c .before .first in
     let pre = c .before .before .before .before .before .pre in
-    (omega (arith, (first .ensures), (pre .0)), (pre .1 .ranged))
+    (omega (arith, (first .ensures .0), (pre .0)), (pre .1 .ranged))
 
 do-process-requires : tie.Need-do-process-requires
 do-process-requires c κs =
     let first = c .before .before .before .first in
     let pre = c .before .before .before .before .before .before .before .pre in
-    (omega (arith, (first .ensures), (pre .0)), (pre .1))
+    (omega (arith, (first .ensures .0), (pre .0)), (pre .1))
 
 returns : tie.Need-returns
 returns c =
@@ -22,7 +22,7 @@ returns c =
     let do-process = c .before .before .before .do-process in
     let peer-of-next = c .before .before .before .before .before .peer-of-next in
     let with = c .with in
-    (rw (← (first .ensures)) (do-process .ensures), rw (← (first .ensures), ← (peer-of-next .ensures)) (with .ensures))
+    (rw (← (first .ensures .0)) (do-process .ensures), rw (← (first .ensures .0), ← (peer-of-next .ensures)) (with .ensures .0))
 
 pub run-first-spec : {M : Type 1} → statement M
 run-first-spec =

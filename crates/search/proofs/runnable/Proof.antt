@@ -21,7 +21,7 @@ process-ok-requires c κs =
     let loop = c .before .before .loop in
     let loop-test = c .before .loop-test in
     let pre = c .before .before .before .before .before .before .pre in
-    (omega (arith, (first .ensures), first-lt (loop .left) (omega (arith, (loop-test .taken))) (loop .inv .0)), (pre .0))
+    (omega (arith, (first .ensures .0), first-lt (loop .left) (omega (arith, (loop-test .taken))) (loop .inv .0)), (pre .0))
 
 returns : tie.Need-returns Inv-loop μ-loop
 returns c =
@@ -29,14 +29,14 @@ returns c =
     let first = c .before .before .first in
     let process-ok = c .before .process-ok in
     let if1 = c .if1 in
-    ((loop .inv .1), ((loop .inv .2), λ h. rw (← (first .ensures)) (sym (process-ok .ensures) ∙ (if1 .taken))))
+    ((loop .inv .1), ((loop .inv .2), λ h. rw (← (first .ensures .0)) (sym (process-ok .ensures) ∙ (if1 .taken))))
 
 loop-less : tie.Need-loop-less Inv-loop μ-loop
 loop-less c =
     let rest = c .rest in
     let loop = c .before .before .before .before .before .loop in
     let loop-test = c .before .before .before .before .loop-test in
-    omega (arith, (rest .ensures), rest-less (loop .left) (omega (arith, (loop-test .taken))))
+    omega (arith, (rest .ensures .0), rest-less (loop .left) (omega (arith, (loop-test .taken))))
 
 loop-again : tie.Need-loop-again Inv-loop μ-loop
 loop-again c =
@@ -46,7 +46,7 @@ loop-again c =
     let first = c .before .before .before .first in
     let process-ok = c .before .before .process-ok in
     let if1 = c .before .if1 in
-    (omega (arith, (rest .ensures), (loop .inv .0), rest-less (loop .left) (omega (arith, (loop-test .taken)))), omega (arith, (rest .ensures), (loop .inv .1), rest-less (loop .left) (omega (arith, (loop-test .taken)))), rw (rest .ensures) (rest-idle _ _ _ (loop .left) (omega (arith, (loop-test .taken))) (loop .inv .0) (loop .inv .2) (rw (first .ensures) at (sym (process-ok .ensures) ∙ (if1 .left)))))
+    (omega (arith, (rest .ensures .0), (loop .inv .0), rest-less (loop .left) (omega (arith, (loop-test .taken)))), omega (arith, (rest .ensures .0), (loop .inv .1), rest-less (loop .left) (omega (arith, (loop-test .taken)))), rw (rest .ensures .0) (rest-idle _ _ _ (loop .left) (omega (arith, (loop-test .taken))) (loop .inv .0) (loop .inv .2) (rw (first .ensures .0) at (sym (process-ok .ensures) ∙ (if1 .left)))))
 
 returns-2 : tie.Need-returns-2 Inv-loop μ-loop
 returns-2 c =

@@ -28,14 +28,14 @@ add-with-unless c =
     let first = c .first in
     let loop = c .before .before .loop in
     let loop-test = c .before .loop-test in
-    omega (arith, pre, good, (first .ensures), first-lt (loop .left) (omega (arith, (loop-test .taken))) (loop .inv .0))
+    omega (arith, pre, good, (first .ensures .0), first-lt (loop .left) (omega (arith, (loop-test .taken))) (loop .inv .0))
 
 mul-with-unless : tie.Need-mul-with-unless Inv-loop μ-loop
 mul-with-unless c =
     let first = c .first in
     let loop = c .before .before .loop in
     let loop-test = c .before .loop-test in
-    omega (arith, (first .ensures), first-lt (loop .left) (omega (arith, (loop-test .taken))) (loop .inv .0))
+    omega (arith, (first .ensures .0), first-lt (loop .left) (omega (arith, (loop-test .taken))) (loop .inv .0))
 
 shared-slice-read-with-unless : tie.Need-shared-slice-read-with-unless Inv-loop μ-loop
 shared-slice-read-with-unless c =
@@ -43,21 +43,21 @@ shared-slice-read-with-unless c =
     let first = c .before .first in
     let loop = c .before .before .before .loop in
     let loop-test = c .before .before .loop-test in
-    omega (arith, pre, (first .ensures), first-lt (loop .left) (omega (arith, (loop-test .taken))) (loop .inv .0))
+    omega (arith, pre, (first .ensures .0), first-lt (loop .left) (omega (arith, (loop-test .taken))) (loop .inv .0))
 
 with-unless-requires : tie.Need-with-unless-requires Inv-loop μ-loop
 with-unless-requires c κs =
     let first = c .before .first in
     let loop = c .before .before .before .loop in
     let loop-test = c .before .before .loop-test in
-    omega (arith, (first .ensures), first-lt (loop .left) (omega (arith, (loop-test .taken))) (loop .inv .0))
+    omega (arith, (first .ensures .0), first-lt (loop .left) (omega (arith, (loop-test .taken))) (loop .inv .0))
 
 loop-less : tie.Need-loop-less Inv-loop μ-loop
 loop-less c =
     let rest = c .rest in
     let loop = c .before .before .before .before .before .loop in
     let loop-test = c .before .before .before .before .loop-test in
-    omega (arith, (rest .ensures), rest-less (loop .left) (omega (arith, (loop-test .taken))))
+    omega (arith, (rest .ensures .0), rest-less (loop .left) (omega (arith, (loop-test .taken))))
 
 loop-again : tie.Need-loop-again Inv-loop μ-loop
 loop-again c =
@@ -66,7 +66,7 @@ loop-again c =
     let loop-test = c .before .before .before .before .loop-test in
     let first = c .before .before .before .first in
     let with-unless = c .before .with-unless in
-    (omega (arith, (rest .ensures), (loop .inv .0), rest-less (loop .left) (omega (arith, (loop-test .taken)))), pruned-next _ (loop .left) (first .result) (rest .result) (omega (arith, (loop-test .taken))) (loop .inv .0) (first .ensures) (rest .ensures) (loop .some) (with-unless .result) _ (with-unless .ensures) (λ n i. eqb-true _ _ n) (loop .inv .1))
+    (omega (arith, (rest .ensures .0), (loop .inv .0), rest-less (loop .left) (omega (arith, (loop-test .taken)))), pruned-next _ (loop .left) (first .result) (rest .result) (omega (arith, (loop-test .taken))) (loop .inv .0) (first .ensures .0) (rest .ensures .0) (loop .some) (with-unless .result) _ (with-unless .ensures) (λ n i. eqb-true _ _ n) (loop .inv .1))
 
 returns : tie.Need-returns Inv-loop μ-loop
 returns c =

@@ -14,7 +14,7 @@ returns-2 : tie.Need-returns-2
 returns-2 c =
     let args = c .before .before .args in
     let with = c .with in
-    λ y o. let v = with-out (args .set) (args .z) y (omega arith) (rw (with .ensures) at o) in (v .0, λ e. absurd (v .1 e))
+    λ y o. let v = with-out (args .set) (args .z) y (omega arith) (rw (with .ensures .0) at o) in (v .0, λ e. absurd (v .1 e))
 
 pub with-unless-spec : {M : Type 1} → statement M
 with-unless-spec = tie.close (tie.spec returns (λ c κs. search needs) returns-2)
