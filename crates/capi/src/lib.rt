@@ -10,6 +10,8 @@ ghost use Rattle.writer.specs.Inner.Puts.{Puts};
 ghost use Rattle.writer.specs.Buffer.{room, written};
 ghost use Rattle.reader.specs.Answer.{readAnswer, readArea};
 ghost use Rattle.reader.specs.Failure.{failureAnswer, failureArea};
+ghost use Rattle.reader.specs.Meaning.{ReadAccepts, FailureAccepts};
+ghost use Rattle.capi.specs.Reads.{ReadRefusesIn, FailureToldIn, FailureRefusesIn};
 ghost use Rattle.rendering.specs.Write.{writeAnswer, writeBuffer};
 ghost use Rattle.rendering.specs.Meaning.{RoundTrip};
 ghost use Rattle.theory.specs.Order.{lowestOrder};
@@ -128,6 +130,8 @@ pub extern "C" fn hallback_read(text: &[u8], table: &mut [u32], answer: &mut [u6
     ensures number { λ r. ⌜ r ≡ readAnswer (now (text .entry)) (now (table .entry)) .number ⌝ }
     ensures words { λ _. ⌜ now (table .exit) ≡ readArea (now (text .entry)) (now (table .entry)) ⌝ }
     ensures numbers { λ _. ⌜ now (answer .exit) ≡ written (readNumbers (readAnswer (now (text .entry)) (now (table .entry)))) (now (answer .entry)) ⌝ }
+    ensures accepts { λ r. ⌜ ReadAccepts (now (text .entry)) (length (now (table .entry))) r ⌝ }
+    ensures refuses { λ r. ⌜ ReadRefusesIn (now (text .entry)) (length (now (table .entry))) r (now (answer .exit)) ⌝ }
 {
     let a = reader::read(text, table);
     put(answer, 0, a.place as u64);
@@ -140,6 +144,9 @@ pub extern "C" fn hallback_read_failure(text: &[u8], table: &mut [u32], answer: 
     ensures number { λ r. ⌜ r ≡ failureAnswer (now (text .entry)) (now (table .entry)) .number ⌝ }
     ensures words { λ _. ⌜ now (table .exit) ≡ failureArea (now (text .entry)) (now (table .entry)) ⌝ }
     ensures numbers { λ _. ⌜ now (answer .exit) ≡ written (failureNumbers (failureAnswer (now (text .entry)) (now (table .entry)))) (now (answer .entry)) ⌝ }
+    ensures accepts { λ r. ⌜ FailureAccepts (now (text .entry)) (length (now (table .entry))) r ⌝ }
+    ensures told { λ r. ⌜ FailureToldIn (now (text .entry)) r (now (answer .exit)) ⌝ }
+    ensures refuses { λ r. ⌜ FailureRefusesIn (now (text .entry)) (length (now (table .entry))) r (now (answer .exit)) ⌝ }
 {
     let a = reader::read_failure(text, table);
     put_three(answer, a.place as u64, a.step, a.set);

@@ -14,15 +14,9 @@ use Rattle.trace.specs.declared.Event.{Event}
 use Rattle.trace.specs.declared.Event.the-variants.{Send, Recv, Save}
 use Rattle.lines.specs.declared.Line.{Line}
 use Rattle.lines.specs.Line.{kProcs, kSend, kTo, kVal, kRecv, kFrom, kSave, kFail, kSet, most, mostSet, thenLine, procsSaid, sendSaid, recvSaid, saveSaid, failSaid, lineSaid}
-use Rattle.lines.specs.Render.{renderEvent, renderFailure}
+use Rattle.lines.specs.Render.{renderEvent, renderFailure, KeysHold}
 use Rattle.lines.proofs.Field.{Behind, behind-start, split-key, read-field, read-end, rendered-field, rendered-end}
 use Rattle.lines.specs.declared.Line as line
-
--- no number of an event is more than its key can hold
-abbrev pub Small : Event → Type 0
-Small (Send at to val) = (at ≤ most) × (to ≤ most) × (val ≤ most)
-Small (Recv at from) = (at ≤ most) × (from ≤ most)
-Small (Save at) = at ≤ most
 
 -- a failure line without its LF, field behind field
 abbrev pub failureText : ℕ → ℕ → List ℕ
@@ -31,9 +25,9 @@ failureText step set = kFail ++ (decimal step ++ (kSet ++ (decimal set ++ [])))
 -- What a line that was read says of its bytes: by cases of the line, so that no form has to be told from another.
 abbrev pub Says : List ℕ → Line → Type 0
 Says l (line.the-variants.Procs n) = (l ≡ kProcs ++ decimal n) × (n ≤ most)
-Says l (line.the-variants.Send at to val) = (l ≡ renderEvent (Send at to val)) × Small (Send at to val)
-Says l (line.the-variants.Recv at from) = (l ≡ renderEvent (Recv at from)) × Small (Recv at from)
-Says l (line.the-variants.Save at) = (l ≡ renderEvent (Save at)) × Small (Save at)
+Says l (line.the-variants.Send at to val) = (l ≡ renderEvent (Send at to val)) × KeysHold (Send at to val)
+Says l (line.the-variants.Recv at from) = (l ≡ renderEvent (Recv at from)) × KeysHold (Recv at from)
+Says l (line.the-variants.Save at) = (l ≡ renderEvent (Save at)) × KeysHold (Save at)
 Says l (line.the-variants.Failure step set) = (l ≡ failureText step set) × (step ≤ most) × (set ≤ mostSet)
 Says l line.the-variants.Malformed = Unit
 
@@ -126,7 +120,7 @@ lineFor (Send at to val) = line.the-variants.Send at to val
 lineFor (Recv at from) = line.the-variants.Recv at from
 lineFor (Save at) = line.the-variants.Save at
 
-pub event-line : (e : Event) → Small e → lineSaid (renderEvent e) ≡ lineFor e
+pub event-line : (e : Event) → KeysHold e → lineSaid (renderEvent e) ≡ lineFor e
 unfolding lineSaid sendSaid recvSaid saveSaid startsWith isDigit
 event-line (Send a b v) h =
     let l = kSend ++ (decimal a ++ (kTo ++ (decimal b ++ (kVal ++ (decimal v ++ []))))) in

@@ -1,51 +1,44 @@
 -- What a line of the text says (document 01, "The trace text"). A line is its bytes without the LF that ends it.
 use Prim.Native.Nat.{ℕ}
-use mathlib.Core.List.{List, [], _∷_}
+use mathlib.Core.List.{List}
 use mathlib.Core.Bool.{Bool, true, false, cond}
 use lib.ListN.{length}
 use lib.Dec.{eqb}
 use Rattle.text.specs.declared.Num.{Num}
 use Rattle.text.specs.declared.Num.the-variants.{Value, Refused}
 use Rattle.text.specs.Number.{numberAt}
+use Rattle.text.specs.Bytes.{bytesOf}
 use Rattle.text.specs.Key.{keyAt, fieldAt}
 use Rattle.lines.specs.declared.Line.{Line}
 use Rattle.lines.specs.declared.Line.the-variants.{Procs, Send, Recv, Save, Failure, Malformed}
 
--- the keys, byte for byte, with the space before those that follow another: `procs=`
+-- the keys, byte for byte, with the space before those that follow another
 abbrev pub kProcs : List ℕ
-kProcs = 112 ∷ 114 ∷ 111 ∷ 99 ∷ 115 ∷ 61 ∷ []
+kProcs = bytesOf "procs="
 
--- `ev=send at=`
 abbrev pub kSend : List ℕ
-kSend = 101 ∷ 118 ∷ 61 ∷ 115 ∷ 101 ∷ 110 ∷ 100 ∷ 32 ∷ 97 ∷ 116 ∷ 61 ∷ []
+kSend = bytesOf "ev=send at="
 
--- ` to=`
 abbrev pub kTo : List ℕ
-kTo = 32 ∷ 116 ∷ 111 ∷ 61 ∷ []
+kTo = bytesOf " to="
 
--- ` val=`
 abbrev pub kVal : List ℕ
-kVal = 32 ∷ 118 ∷ 97 ∷ 108 ∷ 61 ∷ []
+kVal = bytesOf " val="
 
--- `ev=recv at=`
 abbrev pub kRecv : List ℕ
-kRecv = 101 ∷ 118 ∷ 61 ∷ 114 ∷ 101 ∷ 99 ∷ 118 ∷ 32 ∷ 97 ∷ 116 ∷ 61 ∷ []
+kRecv = bytesOf "ev=recv at="
 
--- ` from=`
 abbrev pub kFrom : List ℕ
-kFrom = 32 ∷ 102 ∷ 114 ∷ 111 ∷ 109 ∷ 61 ∷ []
+kFrom = bytesOf " from="
 
--- `ev=save at=`
 abbrev pub kSave : List ℕ
-kSave = 101 ∷ 118 ∷ 61 ∷ 115 ∷ 97 ∷ 118 ∷ 101 ∷ 32 ∷ 97 ∷ 116 ∷ 61 ∷ []
+kSave = bytesOf "ev=save at="
 
--- `fail=`
 abbrev pub kFail : List ℕ
-kFail = 102 ∷ 97 ∷ 105 ∷ 108 ∷ 61 ∷ []
+kFail = bytesOf "fail="
 
--- ` set=`
 abbrev pub kSet : List ℕ
-kSet = 32 ∷ 115 ∷ 101 ∷ 116 ∷ 61 ∷ []
+kSet = bytesOf " set="
 
 -- the largest number a key can hold: "4294967295; for `set`, 18446744073709551615"
 abbrev pub most : ℕ

@@ -7,7 +7,7 @@ use mathlib.Core.List.{List, [], _∷_, _++_}
 use Rattle.text.specs.Number.{decimal}
 use Rattle.writer.specs.Inner.Puts.{Puts}
 use Rattle.writer.proofs.Buffers.{then}
-use Rattle.printing.specs.Bytes.{bytesOf}
+use Rattle.text.specs.Bytes.{bytesOf}
 use Rattle.printing.specs.Lines.{processLine, messageLine, refusalLine, totalLine}
 use Rattle.printing.specs.Inner.Rows.{rowBytes, messageKey, wordsRow}
 
@@ -54,4 +54,4 @@ unfolding refusalLine
 refusal-put k l o₀ o₁ o₂ o₃ a b p₀ p₁ p₂ p₃ hk hl ha hb he =
     let lf : List ℕ = 10 ∷ [] in
     let tb = then (l ++ decimal b) lf o₁ o₂ o₃ p₁ p₂ p₃ hb he in
-    rw (← hk, ← hl) (then (k ++ decimal a) (l ++ decimal b ++ lf) o₀ o₁ o₃ p₀ p₁ p₃ ha tb)
+    rw (hk, hl) at (then (k ++ decimal a) (l ++ decimal b ++ lf) o₀ o₁ o₃ p₀ p₁ p₃ ha tb)

@@ -1,4 +1,3 @@
-pub mod Bytes
 pub mod Lines
 -- internal: no contract of a function that users call reaches these
 pub mod Inner

@@ -10,6 +10,7 @@ use borrow.Author.Tests.{eqb-true, ne-eqb}
 use Rattle.words.proofs.Cases.{and-left}
 use Rattle.text.specs.declared.Num.{Num}
 use Rattle.text.specs.declared.Num.the-variants.{Value, Refused}
+use Rattle.text.specs.Bytes.{bytesOf}
 use Rattle.text.specs.Number.{numberAt}
 use Rattle.text.specs.Key.{keyAt, startsWith, fieldAt}
 use Rattle.lines.specs.declared.Line.{Line}
@@ -94,7 +95,7 @@ module _ (l : List ℕ) (b : Bool) (e : b ≡ keyAt l 0 kProcs) where
   unfolding lineSaid
   first-procs t =
       let k : startsWith l kProcs ≡ true = sym e ∙ t in
-      rw (other-key l 112 101 _ (118 ∷ 61 ∷ 115 ∷ 101 ∷ 110 ∷ 100 ∷ 32 ∷ 97 ∷ 116 ∷ 61 ∷ []) (λ q. omega arith) k, other-key l 112 101 _ (118 ∷ 61 ∷ 114 ∷ 101 ∷ 99 ∷ 118 ∷ 32 ∷ 97 ∷ 116 ∷ 61 ∷ []) (λ q. omega arith) k, other-key l 112 101 _ (118 ∷ 61 ∷ 115 ∷ 97 ∷ 118 ∷ 101 ∷ 32 ∷ 97 ∷ 116 ∷ 61 ∷ []) (λ q. omega arith) k, k)
+      rw (other-key l 112 101 _ (bytesOf "v=send at=") (λ q. omega arith) k, other-key l 112 101 _ (bytesOf "v=recv at=") (λ q. omega arith) k, other-key l 112 101 _ (bytesOf "v=save at=") (λ q. omega arith) k, k)
       (sym (count-count l))
 
   pub first-none : b ≡ false → Malformed ≡ countOnly (lineSaid l)

@@ -1,18 +1,21 @@
 -- Laws of `judge`: one for each way out of the functions that judge a line, and what a line that is judged fit has.
 use Prim.Native.Nat.{ℕ, _<_, _≤_}
-use mathlib.Core.Path.{_≡_, sym, _∙_}
+use mathlib.Core.Path.{_≡_, refl, sym, _∙_}
+use mathlib.Core.List.{List}
+use mathlib.Core.Bool.{Bool, true, false, cond}
 use native.Mathlib.Omega.{arith}
-use lib.Dec.{leb}
+use lib.Dec.{leb, eqb}
 use lib.ListN.{length}
 use borrow.Author.Tests.{leb-false, le-leb, lt-leb, eq-eqb, ne-eqb}
 use Rattle.trace.specs.declared.Event.{Event}
 use Rattle.trace.specs.declared.Event.the-variants.{Send, Recv, Save}
-use Rattle.trace.specs.Trace.{Trace}
+use Rattle.trace.specs.Trace.{Trace, sendsIn, recvsIn, savesIn}
 use Rattle.trace.specs.Fit.{eventFault}
 use Rattle.words.proofs.Cases.{by-eq}
 use Rattle.lines.specs.declared.Line.{Line}
 use Rattle.reader.specs.declared.Judged.{Judged}
 use Rattle.reader.specs.declared.Judged.the-variants.{Fit, Unfit}
+use Rattle.reader.specs.Inner.Reading.{judgedNumber}
 use Rattle.reader.specs.Verdict.{faultHere, judgeEvent, judge}
 use Rattle.trace.proofs.Faults.{or-zero}
 use Rattle.lines.specs.declared.Line as line
@@ -63,3 +66,60 @@ fit-few t e h = let x = or-zero (leb 2048 (length (t .events))) 7 (eventFault (t
 pub fit-judged : (t : Trace) (l : Line) (j : Judged) (d : Event) → j ≡ judge t l → j ≡ Fit d
     → (length (t .events) < 2048) × (eventFault (t .procs) (t .events) d ≡ 0)
 fit-judged t l j d said fit = fit-few t d (fit-line t l d (sym said ∙ fit))
+
+-- ---- The numbers
+
+-- 0, or 3 to 7
+abbrev pub Ranged : ℕ → Type 0
+Ranged n = (n ≡ 0 → ⊥) → (3 ≤ n) × (n ≤ 7)
+
+or-range : (b : Bool) (k rest : ℕ) → 3 ≤ k → k ≤ 7 → Ranged rest → Ranged (cond b k rest)
+or-range true k rest l h r = λ z. (l, h)
+or-range false k rest l h r = r
+
+event-range : (n : ℕ) (es : List Event) (e : Event) → Ranged (eventFault n es e)
+unfolding eventFault
+event-range n es (Send a b v) =
+    or-range (leb n a) 3 _ (omega arith) (omega arith) (
+    or-range (leb n b) 3 _ (omega arith) (omega arith) (
+    or-range (eqb a b) 4 0 (omega arith) (omega arith) (λ z. absurd (z refl))))
+event-range n es (Recv a b) =
+    or-range (leb n a) 3 _ (omega arith) (omega arith) (
+    or-range (leb n b) 3 _ (omega arith) (omega arith) (
+    or-range (eqb a b) 4 _ (omega arith) (omega arith) (
+    or-range (leb (sendsIn b a es) (recvsIn b a es)) 5 0 (omega arith) (omega arith) (λ z. absurd (z refl)))))
+event-range n es (Save a) =
+    or-range (leb n a) 3 _ (omega arith) (omega arith) (
+    or-range (leb 30 (savesIn a es)) 6 0 (omega arith) (omega arith) (λ z. absurd (z refl)))
+
+pub fault-range : (t : Trace) (e : Event) → Ranged (faultHere t e)
+unfolding faultHere
+fault-range t e = or-range (leb 2048 (length (t .events))) 7 _ (omega arith) (omega arith) (event-range (t .procs) (t .events) e)
+
+-- the number of an event's line is what is wrong with the event
+pub event-number : (t : Trace) (e : Event) → judgedNumber (judgeEvent t e) ≡ faultHere t e
+unfolding judgeEvent
+event-number t e =
+    by-eq (faultHere t e) 0
+    (λ z. rw (eq-eqb (faultHere t e) 0 z) (sym z))
+    (λ n. rw (ne-eqb (faultHere t e) 0 n))
+
+unfit-event : (t : Trace) (e : Event) (n : ℕ) → judgeEvent t e ≡ Unfit n → (1 ≤ n) × (n ≤ 7)
+unfolding judgeEvent
+unfit-event t e n h =
+    by-eq (faultHere t e) 0
+    (λ z. let q : Fit e ≡ Unfit n = rw (eq-eqb (faultHere t e) 0 z) at h in let w : _≡_ {A = ℕ} 0 1 = cc in absurd (let y : ⊥ = omega arith in y))
+    (λ z. let q : Unfit (faultHere t e) ≡ Unfit n = rw (ne-eqb (faultHere t e) 0 z) at h in
+    let m : faultHere t e ≡ n = cc in
+    let r = fault-range t e z in
+    (omega (arith, r .0), omega (arith, r .1)))
+
+-- an unfit line's number is 1 to 7
+pub unfit-number : (t : Trace) (x : Line) (n : ℕ) → judge t x ≡ Unfit n → (1 ≤ n) × (n ≤ 7)
+unfolding judge
+unfit-number t (line.the-variants.Procs m) n h = let q : _≡_ {A = ℕ} 1 n = cc in (omega arith, omega arith)
+unfit-number t (line.the-variants.Send a b v) n h = unfit-event t (Send a b v) n h
+unfit-number t (line.the-variants.Recv a b) n h = unfit-event t (Recv a b) n h
+unfit-number t (line.the-variants.Save a) n h = unfit-event t (Save a) n h
+unfit-number t (line.the-variants.Failure k m) n h = let z : _≡_ {A = ℕ} 0 1 = cc in absurd (let y : ⊥ = omega arith in y)
+unfit-number t line.the-variants.Malformed n h = let q : _≡_ {A = ℕ} 1 n = cc in (omega arith, omega arith)

@@ -11,3 +11,4 @@ pub mod Verdicts
 pub mod Pieces
 pub mod Events
 pub mod Whole
+pub mod Refusals

@@ -32,7 +32,7 @@ first-piece (b ∷ bs) =
     let (l, ls, e) = first-piece bs in
     by-bool (eqb b 10) (λ t. ([], pieces bs, rw t)) (λ f. (b ∷ l, ls, rw (f, e)))
 
-joined-grow : (b : ℕ) (l : List ℕ) (ls : List (List ℕ)) → joined ((b ∷ l) ∷ ls) ≡ b ∷ joined (l ∷ ls)
+pub joined-grow : (b : ℕ) (l : List ℕ) (ls : List (List ℕ)) → joined ((b ∷ l) ∷ ls) ≡ b ∷ joined (l ∷ ls)
 unfolding joined
 joined-grow b l [] = refl
 joined-grow b l (m ∷ ms) = refl
@@ -57,6 +57,28 @@ unfolding pieces plain
 line-piece [] rest h = refl
 line-piece (b ∷ l) rest h =
     rw (not-true (eqb b 10) (and-left (not (eqb b 10)) (plain l) h)) (ap (grow b) (line-piece l rest (and-right (not (eqb b 10)) (plain l) h)))
+
+-- a line without LF is one piece
+pub plain-piece : (l : List ℕ) → plain l ≡ true → pieces l ≡ l ∷ []
+unfolding pieces plain
+plain-piece [] h = refl
+plain-piece (b ∷ l) h =
+    rw (not-true (eqb b 10) (and-left (not (eqb b 10)) (plain l) h)) (ap (grow b) (plain-piece l (and-right (not (eqb b 10)) (plain l) h)))
+
+-- no piece of a text has an LF
+unfoldable pub plains : List (List ℕ) → Bool
+plains [] = true
+plains (l ∷ ls) = plain l && plains ls
+
+pub plains-pieces : (text : List ℕ) → plains (pieces text) ≡ true
+unfolding pieces plain plains
+plains-pieces [] = refl
+plains-pieces (b ∷ bs) =
+    let (l, ls, e) = first-piece bs in
+    let h : plains (l ∷ ls) ≡ true = rw e at (plains-pieces bs) in
+    by-bool (eqb b 10)
+    (λ t. rw t (plains-pieces bs))
+    (λ f. rw (f, e) (rw f h))
 
 plain-append : (a b : List ℕ) → plain a ≡ true → plain b ≡ true → plain (a ++ b) ≡ true
 unfolding plain

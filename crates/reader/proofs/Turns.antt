@@ -15,10 +15,10 @@ use Rattle.lines.specs.declared.Line.{Line}
 use Rattle.reader.specs.declared.Judged.{Judged}
 use Rattle.reader.specs.declared.Judged.the-variants.{Fit, Fails, Unfit}
 use Rattle.reader.specs.declared.Scanned.{Scanned}
-use Rattle.reader.specs.declared.Scanned.the-variants.{Refused, Ended}
+use Rattle.reader.specs.declared.Scanned.the-variants.{Refused, Ended, Stopped}
 use Rattle.lines.specs.Line.{lineSaid}
 use Rattle.reader.specs.Verdict.{Scan, refused, ended, pieces, judge, afterLine, atEnd, linesFrom, firstLine, scanPieces, scan}
-use Rattle.reader.specs.Inner.Reading.{countOnly, Holds, stopOf, ScanOutcome}
+use Rattle.reader.specs.Inner.Reading.{judgedNumber, countOnly, Holds, ScanOutcome}
 use Rattle.reader.proofs.Pieces.{first-piece}
 use Rattle.reader.proofs.Cutting.{cut-none, line-cut, first-cut}
 use Rattle.lines.specs.declared.Line as line
@@ -52,14 +52,21 @@ module _ (text : List ℕ) (t : Trace) (k at : ℕ) where
     pub turn-fit : (d : Event) → j ≡ Fit d → linesFrom t k (pieces (drop at text)) ≡ linesFrom (extended t d) (k + 1) (pieces (drop (i + 1) text))
     turn-fit d q = turn-line ∙ rw q
 
-    pub turn-stop : (table : List ℕ) → k ≤ 2050 → Holds table t → OneOf (1 ∷ 2 ∷ []) (tagOf judged.the-type j) → ScanOutcome text (linesFrom t k (pieces (drop at text))) (stopOf j k (i + 1)) table
+    pub turn-fails : (step set : ℕ) → j ≡ Fails step set → (table : List ℕ) → k ≤ 2050 → Holds table t
+        → ScanOutcome text (linesFrom t k (pieces (drop at text))) (Stopped step set k (i + 1)) table
     unfolding ScanOutcome
-    turn-stop table b w o = rw turn-line (by-case j o)
+    turn-fails step set q table b w = rw (turn-line, q) (record { next = i + 1; outcome = refl; follows = refl; holds = w; few = b })
+
+    -- a line that is neither a fit event nor a failure line
+    pub turn-unfit : OneOf (1 ∷ 2 ∷ []) (tagOf judged.the-type j) → OneOf (0 ∷ 2 ∷ []) (tagOf judged.the-type j)
+        → linesFrom t k (pieces (drop at text)) ≡ refused (judgedNumber j) k
+    turn-unfit o p = turn-line ∙ by-case j o p
       where
-        by-case : (x : Judged) → OneOf (1 ∷ 2 ∷ []) (tagOf judged.the-type x) → ScanOutcome text (afterLine x t k (pieces (drop (i + 1) text)) (λ d. linesFrom (extended t d) (k + 1) (pieces (drop (i + 1) text)))) (stopOf x k (i + 1)) table
-        by-case (Fit d) o′ = absurd (miss (1 ∷ 2 ∷ []) 0 tt o′)
-        by-case (Fails step set) o′ = record { next = i + 1; outcome = refl; follows = refl; holds = w; few = b }
-        by-case (Unfit n) o′ = (refl, w .size)
+        by-case : (x : Judged) → OneOf (1 ∷ 2 ∷ []) (tagOf judged.the-type x) → OneOf (0 ∷ 2 ∷ []) (tagOf judged.the-type x)
+            → afterLine x t k (pieces (drop (i + 1) text)) (λ d. linesFrom (extended t d) (k + 1) (pieces (drop (i + 1) text))) ≡ refused (judgedNumber x) k
+        by-case (Fit d) o′ p′ = absurd (miss (1 ∷ 2 ∷ []) 0 tt o′)
+        by-case (Fails step set) o′ p′ = absurd (miss (0 ∷ 2 ∷ []) 1 tt p′)
+        by-case (Unfit n) o′ p′ = refl
 
 -- an outcome that is known
 module _ (text : List ℕ) (s : Scan) (table : List ℕ) where
@@ -75,7 +82,7 @@ module _ (text : List ℕ) (s : Scan) (table : List ℕ) where
   out-same z r e o = rw (← e) o
 
 -- a first line with its LF, whatever follows
-first-lf : (l bs : List ℕ) → scanPieces (l ∷ pieces bs) ≡ firstLine (lineSaid l) (λ n. linesFrom (started n) 2 (pieces bs))
+pub first-lf : (l bs : List ℕ) → scanPieces (l ∷ pieces bs) ≡ firstLine (lineSaid l) (λ n. linesFrom (started n) 2 (pieces bs))
 unfolding scanPieces
 first-lf l bs = let p = first-piece bs in rw (p .2)
 

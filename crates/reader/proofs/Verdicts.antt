@@ -6,6 +6,8 @@ use lib.Dec.{eqb}
 use native.Mathlib.Omega.{arith}
 use lib.ListN.{length, getD, drop, replicate, length-replicate, getD-replicate, length-drop, drop-of-length-le}
 use borrow.Author.Tests.{lt-ltb, le-ltb}
+use types.Run.{OneOf, miss}
+use denote.Enum.Declared.{tagOf}
 use Rattle.words.specs.Area.{areaWords, wordsFrom, ruled}
 use Rattle.words.proofs.Area.{words-ext}
 use Rattle.trace.specs.Trace.{Trace}
@@ -19,7 +21,8 @@ use Rattle.reader.specs.Verdict.{Scan, scan, pieces, verdict, verdictOf,
 use Rattle.reader.specs.Failure.{Failing, lastLine, failingOf, lastFailure, traceOf, failureAnswerOf, failureAnswer, failureArea}
 use Rattle.reader.proofs.Pieces.{first-piece}
 use Rattle.reader.specs.Answer.{verdictAnswer, verdictWord, readAnswer, readArea}
-use Rattle.reader.specs.Inner.Reading.{Holds, ScanOutcome}
+use Rattle.reader.specs.Inner.Reading.{Holds, ScanOutcome, refusalOf, failureRefusal}
+use Rattle.reader.proofs.Scanned as scanned
 
 -- no outcome is two
 apart {ℓ} : {A : Type ℓ} (r x y : Scanned) → r ≡ x → r ≡ y → ((x ≡ y) → _≡_ {A = ℕ} 0 1) → A
@@ -77,7 +80,7 @@ abbrev pub Left : List ℕ → Answer → List ℕ → Type 0
 Left text r table = (r ≡ verdictAnswer (verdict text)) × (table ≡ wordsFrom (verdictWord (verdict text)) 0 areaWords)
 
 module _ (text : List ℕ) (r : Scanned) (table : List ℕ) (o : ScanOutcome text (scan text) r table) where
-  pub left-refused : (n k : ℕ) (a : Answer) (after : List ℕ) → r ≡ Refused n k → a ≡ (record { number = n; place = k })
+  left-refused : (n k : ℕ) (a : Answer) (after : List ℕ) → r ≡ Refused n k → a ≡ (record { number = n; place = k })
       → after ≡ replicate (length table) 0 → Left text a after
   unfolding verdict
   left-refused n k a after e h z =
@@ -85,7 +88,7 @@ module _ (text : List ℕ) (r : Scanned) (table : List ℕ) (o : ScanOutcome tex
       let v : verdict text ≡ Verdict.refused n k = ap verdictOf (q .0) in
       (h ∙ sym (ap verdictAnswer v), zeros (verdict text) n k table after v (q .1) z)
 
-  pub left-stopped : (x y k at : ℕ) (a : Answer) (after : List ℕ) → r ≡ Stopped x y k at → a ≡ (record { number = 1; place = k })
+  left-stopped : (x y k at : ℕ) (a : Answer) (after : List ℕ) → r ≡ Stopped x y k at → a ≡ (record { number = 1; place = k })
       → after ≡ replicate (length table) 0 → Left text a after
   unfolding verdict
   left-stopped x y k at a after e h z =
@@ -100,13 +103,23 @@ module _ (text : List ℕ) (r : Scanned) (table : List ℕ) (o : ScanOutcome tex
       let v : verdict text ≡ accepted (q .0) = ap verdictOf (q .1) in
       (sym (ap verdictAnswer v), held (verdict text) (q .0) table v (q .2))
 
+  -- another end than that of the trace
+  pub left-other : OneOf (0 ∷ 2 ∷ []) (tagOf scanned.the-type r) → (a : Answer) (after : List ℕ) → a ≡ refusalOf r
+      → after ≡ replicate (length table) 0 → Left text a after
+  left-other o′ a after h z = go r refl o′
+    where
+      go : (x : Scanned) → r ≡ x → OneOf (0 ∷ 2 ∷ []) (tagOf scanned.the-type x) → Left text a after
+      go (Refused n k) e p = left-refused n k a after e (h ∙ ap refusalOf e) z
+      go (Ended k) e p = absurd (miss (0 ∷ 2 ∷ []) 1 tt p)
+      go (Stopped x y k at) e p = left-stopped x y k at a after e (h ∙ ap refusalOf e) z
+
 -- ---- `read_failure_in`: the same
 
 abbrev pub LeftFailing : List ℕ → FailureAnswer → List ℕ → Type 0
 LeftFailing text r table = (r ≡ failureAnswerOf (lastFailure text)) × (table ≡ wordsFrom (verdictWord (traceOf (lastFailure text))) 0 areaWords)
 
 -- something follows the failure line, or nothing
-follows : (l : List ℕ) (k : ℕ) (f : Failing) → 0 < length l → lastLine (pieces l) k f ≡ Failing.refused 1 (k + 1)
+pub follows : (l : List ℕ) (k : ℕ) (f : Failing) → 0 < length l → lastLine (pieces l) k f ≡ Failing.refused 1 (k + 1)
 unfolding pieces
 follows [] k f h = absurd (let z : ⊥ = omega arith in z)
 follows (b ∷ bs) k f h = let (m, ms, q) = first-piece bs in by-bool (eqb b 10) (λ t. rw (t, q)) (λ t. rw (t, q))
@@ -121,15 +134,25 @@ module _ (text : List ℕ) (r : Scanned) (table : List ℕ) (o : ScanOutcome tex
       → a ≡ (record { number = n; place = k; step = 0; set = 0 }) → after ≡ replicate (length table) 0 → LeftFailing text a after
   no-failure n k a after v l h z = (h ∙ sym (ap failureAnswerOf v), zeros (traceOf (lastFailure text)) n k table after (ap traceOf v) l z)
 
-  pub failing-refused : (n k : ℕ) (a : FailureAnswer) (after : List ℕ) → r ≡ Refused n k → a ≡ (record { number = n; place = k; step = 0; set = 0 })
+  failing-refused : (n k : ℕ) (a : FailureAnswer) (after : List ℕ) → r ≡ Refused n k → a ≡ (record { number = n; place = k; step = 0; set = 0 })
       → after ≡ replicate (length table) 0 → LeftFailing text a after
   unfolding lastFailure
   failing-refused n k a after e h z = let q = told-refused text r table o n k e in no-failure n k a after (ap failingOf (q .0)) (q .1) h z
 
-  pub failing-ended : (k : ℕ) (a : FailureAnswer) (after : List ℕ) → r ≡ Ended k → a ≡ (record { number = 1; place = k; step = 0; set = 0 })
+  failing-ended : (k : ℕ) (a : FailureAnswer) (after : List ℕ) → r ≡ Ended k → a ≡ (record { number = 1; place = k; step = 0; set = 0 })
       → after ≡ replicate (length table) 0 → LeftFailing text a after
   unfolding lastFailure
   failing-ended k a after e h z = let q = told-ended text r table o k e in no-failure 1 k a after (ap failingOf (q .1)) (q .2 .size) h z
+
+  -- another end than at a failure line
+  pub failing-other : OneOf (0 ∷ 1 ∷ []) (tagOf scanned.the-type r) → (b : Answer) (a : FailureAnswer) (after : List ℕ) → b ≡ refusalOf r
+      → a ≡ failureRefusal b → after ≡ replicate (length table) 0 → LeftFailing text a after
+  failing-other o′ b a after q h z = go r refl o′
+    where
+      go : (x : Scanned) → r ≡ x → OneOf (0 ∷ 1 ∷ []) (tagOf scanned.the-type x) → LeftFailing text a after
+      go (Refused n k) e p = failing-refused n k a after e (h ∙ ap failureRefusal (q ∙ ap refusalOf e)) z
+      go (Ended k) e p = failing-ended k a after e (h ∙ ap failureRefusal (q ∙ ap refusalOf e)) z
+      go (Stopped x y k at) e p = absurd (miss (0 ∷ 1 ∷ []) 2 tt p)
 
   module _ (x y k at : ℕ) (e : r ≡ Stopped x y k at) where
     pub failing-follows : (a : FailureAnswer) (after : List ℕ) → at < length text → a ≡ (record { number = 1; place = k + 1; step = 0; set = 0 })

@@ -1,6 +1,7 @@
 -- The whole text: an accepted text is a well-formed trace rendered, and a well-formed trace rendered is accepted; also
 -- with a failure line. From the laws of its lines.
-use Prim.Native.Nat.{ℕ, _≤_}
+use Prim.Native.Nat.{ℕ, _+_, _<_, _≤_}
+use mathlib.Core.Logic.{_⊎_, inl, inr}
 use mathlib.Core.Path.{_≡_, refl, sym, ap, subst, _∙_}
 use mathlib.Core.List.{List, [], _∷_, _++_, append-assoc, append-nil}
 use mathlib.Core.Bool.{true}
@@ -21,17 +22,45 @@ use Rattle.reader.specs.Failure.{Failing, refused, failing, lastLine, fa
 use Rattle.reader.specs.Verdict.{pieces, judge, Scan, linesFrom, firstLine, scanPieces, scan, Verdict, verdictOf, verdict}
 use Rattle.reader.proofs.Turns.{with-lf}
 use Rattle.lines.proofs.OneLine.{Says, failureText, failure-text, line-says, procs-line, failure-line}
-use Rattle.reader.proofs.Pieces.{joined, first-piece, joined-pieces, line-piece, plain-procs, plain-failure}
-use Rattle.reader.proofs.Events.{Grown, Heard, lines-heard, events-read}
+use Rattle.reader.proofs.Pieces.{joined, joined-grow, first-piece, joined-pieces, line-piece, plain, plains, plains-pieces, plain-procs, plain-failure}
+use Rattle.reader.proofs.Events.{Grown, Wrong, Misjudged, Heard, lines-heard, events-read}
+use Rattle.reader.proofs.Judging.{unfit-number}
 use Rattle.lines.specs.declared.Line as line
 
--- what reading says of the text: a refusal has a number, a trace is well formed, and the text is its rendering, up to a
--- failure line that is rendered too
+-- what is wrong with a first line, by what it says
+abbrev pub Miscount : Line → ℕ → Type 0
+Miscount (line.the-variants.Procs m) n = (n ≡ 2) × ((m < 2) ⊎ (64 < m))
+Miscount (line.the-variants.Send at to val) n = n ≡ 1
+Miscount (line.the-variants.Recv at from) n = n ≡ 1
+Miscount (line.the-variants.Save at) n = n ≡ 1
+Miscount (line.the-variants.Failure step set) n = n ≡ 1
+Miscount line.the-variants.Malformed n = n ≡ 1
+
+-- line 1 is refused with n: the pieces of the text, and what is wrong with the first
+pub record FirstBroken (text : List ℕ) (n k : ℕ) : Type 0 where
+  pub place : k ≡ 1
+  pub rest : List (List ℕ)
+  pub bytes : text ≡ joined rest
+  pub plain : plains rest ≡ true
+  pub wrong : Wrong (λ (l : List ℕ) (m : ℕ). Miscount (lineSaid l) m) rest n
+
+-- line k is refused with n: the trace before it, the pieces from there on, and what is wrong with the first
+pub record LaterBroken (text : List ℕ) (n k : ℕ) : Type 0 where
+  pub last : Trace
+  pub rest : List (List ℕ)
+  pub fit : wellFormed last ≡ true
+  pub place : length (last .events) + 2 ≡ k
+  pub bytes : text ≡ render last ++ joined rest
+  pub plain : plains rest ≡ true
+  pub wrong : Wrong (Misjudged last) rest n
+
+-- what reading says of the text: a refusal is for its first faulty line; a trace is well formed, and the text is its
+-- rendering, up to a failure line that is rendered too
 abbrev pub Taken : List ℕ → Scan → Type 0
-Taken text (Scan.refused n k) = n ≡ 0 → ⊥
-Taken text (Scan.ended t k) = (wellFormed t ≡ true) × (text ≡ render t)
+Taken text (Scan.refused n k) = FirstBroken text n k ⊎ LaterBroken text n k
+Taken text (Scan.ended t k) = (wellFormed t ≡ true) × (text ≡ render t) × (length (t .events) + 2 ≡ k)
 Taken text (Scan.stopped t step set k rest) =
-    (wellFormed t ≡ true) × (step ≤ most) × (set ≤ mostSet) × (text ≡ render t ++ (renderFailure step set ++ joined rest))
+    (wellFormed t ≡ true) × (step ≤ most) × (set ≤ mostSet) × (text ≡ render t ++ (renderFailure step set ++ joined rest)) × (length (t .events) + 2 ≡ k)
 
 grown-fit : (n : ℕ) (es : List Event) (u : Trace) → 2 ≤ n → n ≤ 64 → Grown (started n) es u → wellFormed u ≡ true
 unfolding wellFormed
@@ -40,44 +69,61 @@ grown-fit n es u low high g =
 
 -- the first line, and what was heard of the others
 heard-taken : (n : ℕ) (l m : List ℕ) (ms : List (List ℕ)) → l ≡ kProcs ++ decimal n → 2 ≤ n → n ≤ 64
-    → (s : Scan) → Heard (started n) (m ∷ ms) s → Taken (joined (l ∷ (m ∷ ms))) s
+    → (s : Scan) → Heard (started n) 2 (m ∷ ms) s → Taken (joined (l ∷ (m ∷ ms))) s
 unfolding joined render
-heard-taken n l m ms q low high (Scan.refused k j) h = h
-heard-taken n l m ms q low high (Scan.ended u k) h = (grown-fit n (h .0) u low high (h .2), rw (h .2 .0, q, h .1))
+heard-taken n l m ms q low high (Scan.refused i k) h =
+    inr
+    (record {
+      last = h .last;
+      rest = h .rest;
+      fit = grown-fit n (h .fits) (h .last) low high (h .grown);
+      place = rw (h .grown .0) (omega (arith, h .place));
+      bytes = rw (h .grown .0, q, h .bytes) (sym (append-assoc (kProcs ++ decimal n) (10 ∷ renderEvents (h .fits)) (joined (h .rest))));
+      plain = h .plain;
+      wrong = h .wrong;
+    })
+heard-taken n l m ms q low high (Scan.ended u k) h =
+    (grown-fit n (h .0) u low high (h .2), rw (h .2 .0, q, h .1), rw (h .2 .0) (omega (arith, h .3)))
 heard-taken n l m ms q low high (Scan.stopped u step set k rest) h = (
   grown-fit n (h .0) u low high (h .4),
   h .2,
   h .3,
   rw (h .4 .0, q, h .1) (sym (append-assoc (kProcs ++ decimal n) (10 ∷ renderEvents (h .0)) (renderFailure step set ++ joined rest))),
+  rw (h .4 .0) (omega (arith, h .5)),
 )
 
-first-taken : (l m : List ℕ) (ms : List (List ℕ)) (x : Line) → Says l x
-    → Taken (joined (l ∷ (m ∷ ms))) (firstLine x (λ n. linesFrom (started n) 2 (m ∷ ms)))
-first-taken l m ms (line.the-variants.Procs n) s =
-    by-lt n 2 (λ low. rw (lt-ltb n 2 low) (λ z. omega arith)) (λ low.
-    by-lt 64 n (λ high. rw (le-ltb n 2 low, lt-ltb 64 n high) (λ z. omega arith)) (λ high.
-    rw (le-ltb n 2 low, le-ltb 64 n high)
-    (heard-taken n l m ms (s .0) low high (linesFrom (started n) 2 (m ∷ ms)) (lines-heard (started n) 2 (m ∷ ms) (omega arith)))))
-first-taken l m ms (line.the-variants.Send at to val) s = λ z. omega arith
-first-taken l m ms (line.the-variants.Recv at from) s = λ z. omega arith
-first-taken l m ms (line.the-variants.Save at) s = λ z. omega arith
-first-taken l m ms (line.the-variants.Failure step set) s = λ z. omega arith
-first-taken l m ms line.the-variants.Malformed s = λ z. omega arith
+first-broken : (ps : List (List ℕ)) (n : ℕ) → plains ps ≡ true → Wrong (λ (l : List ℕ) (m : ℕ). Miscount (lineSaid l) m) ps n → Taken (joined ps) (Scan.refused n 1)
+first-broken ps n p w = inl (record { place = refl; rest = ps; bytes = refl; plain = p; wrong = w })
 
-pieces-taken : (ps : List (List ℕ)) → Taken (joined ps) (scanPieces ps)
+first-taken : (l m : List ℕ) (ms : List (List ℕ)) → plains (l ∷ (m ∷ ms)) ≡ true → (x : Line) → lineSaid l ≡ x → Says l x
+    → Taken (joined (l ∷ (m ∷ ms))) (firstLine x (λ n. linesFrom (started n) 2 (m ∷ ms)))
+unfolding plains
+first-taken l m ms p (line.the-variants.Procs n) e s =
+    let ps = l ∷ (m ∷ ms) in
+    by-lt n 2 (λ low. rw (lt-ltb n 2 low) (first-broken ps 2 p (rw e (refl, inl low)))) (λ low.
+    by-lt 64 n (λ high. rw (le-ltb n 2 low, lt-ltb 64 n high) (first-broken ps 2 p (rw e (refl, inr high)))) (λ high.
+    rw (le-ltb n 2 low, le-ltb 64 n high)
+    (heard-taken n l m ms (s .0) low high (linesFrom (started n) 2 (m ∷ ms)) (lines-heard (started n) 2 (m ∷ ms) (omega arith) (and-right (plain l) _ p)))))
+first-taken l m ms p (line.the-variants.Send at to val) e s = first-broken (l ∷ (m ∷ ms)) 1 p (rw e refl)
+first-taken l m ms p (line.the-variants.Recv at from) e s = first-broken (l ∷ (m ∷ ms)) 1 p (rw e refl)
+first-taken l m ms p (line.the-variants.Save at) e s = first-broken (l ∷ (m ∷ ms)) 1 p (rw e refl)
+first-taken l m ms p (line.the-variants.Failure step set) e s = first-broken (l ∷ (m ∷ ms)) 1 p (rw e refl)
+first-taken l m ms p line.the-variants.Malformed e s = first-broken (l ∷ (m ∷ ms)) 1 p (rw e refl)
+
+pieces-taken : (ps : List (List ℕ)) → plains ps ≡ true → Taken (joined ps) (scanPieces ps)
 unfolding scanPieces
-pieces-taken [] = λ z. omega arith
-pieces-taken (l ∷ []) = λ z. omega arith
-pieces-taken (l ∷ (m ∷ ms)) = first-taken l m ms (lineSaid l) (line-says l)
+pieces-taken [] p = first-broken [] 1 p refl
+pieces-taken (l ∷ []) p = first-broken (l ∷ []) 1 p refl
+pieces-taken (l ∷ (m ∷ ms)) p = first-taken l m ms p (lineSaid l) refl (line-says l)
 
 pub scan-taken : (text : List ℕ) → Taken text (scan text)
 unfolding scan
-scan-taken text = subst (λ (x : List ℕ). Taken x (scan text)) (joined-pieces text) (pieces-taken (pieces text))
+scan-taken text = subst (λ (x : List ℕ). Taken x (scan text)) (joined-pieces text) (pieces-taken (pieces text) (plains-pieces text))
 
 -- as a verdict on a trace
 verdict-of : (text : List ℕ) (t : Trace) (s : Scan) → Taken text s → verdictOf s ≡ Verdict.accepted t → (wellFormed t ≡ true) × (text ≡ render t)
 verdict-of text t (Scan.refused n k) h e = let z : _≡_ {A = ℕ} 0 1 = cc in absurd (let y : ⊥ = omega arith in y)
-verdict-of text t (Scan.ended u k) h e = let q : u ≡ t = cc in rw q at h
+verdict-of text t (Scan.ended u k) h e = let q : u ≡ t = cc in rw (← q) (h .0, h .1)
 verdict-of text t (Scan.stopped u step set k rest) h e = let z : _≡_ {A = ℕ} 0 1 = cc in absurd (let y : ⊥ = omega arith in y)
 
 pub verdict-taken : (text : List ℕ) (t : Trace) → verdict text ≡ Verdict.accepted t → (wellFormed t ≡ true) × (text ≡ render t)
@@ -90,8 +136,8 @@ scan-read n text low high =
     let (m, ms, q) = first-piece text in
     rw (q, procs-line n (omega arith), le-ltb n 2 low, le-ltb 64 n high)
 
--- what follows a rendered trace is read after it, from some line on
-rendered-read : (t : Trace) (rest : List ℕ) → wellFormed t ≡ true → (k : ℕ) × (scan (render t ++ rest) ≡ linesFrom t k (pieces rest))
+-- what follows a rendered trace is read after it
+pub rendered-read : (t : Trace) (rest : List ℕ) → wellFormed t ≡ true → scan (render t ++ rest) ≡ linesFrom t (length (t .events) + 2) (pieces rest)
 unfolding scan render wellFormed
 rendered-read t rest w =
     let p = t .procs in
@@ -102,17 +148,17 @@ rendered-read t rest w =
     let high : p ≤ 64 = leb-true p 64 (and-left _ _ a) in
     let few : size ≤ 2048 = leb-true size 2048 (and-left _ _ b) in
     let after = renderEvents (t .events) ++ rest in
-    let (k, more) = events-read (started p) 2 (t .events) rest high (omega arith) (and-right (leb size 2048) _ b) in (
-      k,
-      ap (λ (x : List ℕ). scanPieces (pieces x)) (append-assoc (kProcs ++ decimal p) (10 ∷ renderEvents (t .events)) rest)
-          ∙ ap scanPieces (line-piece (kProcs ++ decimal p) after (plain-procs p))
-          ∙ scan-read p after low high
-          ∙ more,
-    )
+    let more = events-read (started p) 2 (t .events) rest high (omega arith) (and-right (leb size 2048) _ b) in
+    let n : 2 + size ≡ size + 2 = omega arith in
+    ap (λ (x : List ℕ). scanPieces (pieces x)) (append-assoc (kProcs ++ decimal p) (10 ∷ renderEvents (t .events)) rest)
+    ∙ ap scanPieces (line-piece (kProcs ++ decimal p) after (plain-procs p))
+    ∙ scan-read p after low high
+    ∙ more
+    ∙ ap (λ (i : ℕ). linesFrom t i (pieces rest)) n
 
 pub render-taken : (t : Trace) → wellFormed t ≡ true → verdict (render t) ≡ Verdict.accepted t
 unfolding verdict linesFrom pieces
-render-taken t w = let (k, read) = rendered-read t [] w in ap verdict (sym (append-nil (render t))) ∙ ap verdictOf read
+render-taken t w = ap verdict (sym (append-nil (render t))) ∙ ap verdictOf (rendered-read t [] w)
 
 -- ---- A text that ends with a failure line
 
@@ -137,7 +183,8 @@ failing-of text t step set (Scan.stopped u i m k rest) h e =
     let a : u ≡ t = cc in
     let b : i ≡ step = cc in
     let c : m ≡ set = cc in
-    rw (a, b, c, none, append-nil (renderFailure step set)) at h
+    let same : text ≡ render t ++ renderFailure step set = rw (a, b, c, none, append-nil (renderFailure step set)) at (h .3) in
+    (rw a at (h .0), rw b at (h .1), rw c at (h .2), same)
 
 pub failing-taken : (text : List ℕ) (t : Trace) (step set : ℕ) → lastFailure text ≡ failing t step set → Rendered text t step set
 unfolding lastFailure
@@ -157,29 +204,52 @@ pub render-failing : (t : Trace) (step set : ℕ) → wellFormed t ≡ true → 
     → lastFailure (render t ++ renderFailure step set) ≡ failing t step set
 unfolding lastFailure pieces
 render-failing t step set w h i =
-    let (k, read) = rendered-read t (renderFailure step set) w in
-    ap failingOf (read ∙ failure-read t k step set h i)
+    ap failingOf (rendered-read t (renderFailure step set) w ∙ failure-read t (length (t .events) + 2) step set h i)
 
-last-refused : (ls : List (List ℕ)) (k : ℕ) (t : Trace) (step set n j : ℕ) → lastLine ls k (failing t step set) ≡ refused n j → n ≡ 0 → ⊥
-last-refused [] k t step set n j e z = let y : _≡_ {A = ℕ} 0 1 = cc in omega arith
-last-refused ([] ∷ []) k t step set n j e z = let y : _≡_ {A = ℕ} 0 1 = cc in omega arith
-last-refused ((b ∷ l) ∷ ls) k t step set n j e z = let y : _≡_ {A = ℕ} 1 n = cc in omega arith
-last-refused ([] ∷ (l ∷ ls)) k t step set n j e z = let y : _≡_ {A = ℕ} 1 n = cc in omega arith
+-- ---- The numbers of refusals
 
-refused-of : (text : List ℕ) (n j : ℕ) (s : Scan) → Taken text s → failingOf s ≡ refused n j → n ≡ 0 → ⊥
-refused-of text n j (Scan.refused m k) h e z = let y : m ≡ n = cc in h (y ∙ z)
-refused-of text n j (Scan.ended u k) h e z = let y : _≡_ {A = ℕ} 1 n = cc in omega arith
-refused-of text n j (Scan.stopped u i m k rest) h e z = last-refused rest k u i m n j e z
+miscount-number : (x : Line) (n : ℕ) → Miscount x n → (1 ≤ n) × (n ≤ 7)
+miscount-number (line.the-variants.Procs m) n h = (omega (arith, h .0), omega (arith, h .0))
+miscount-number (line.the-variants.Send at to val) n h = (omega arith, omega arith)
+miscount-number (line.the-variants.Recv at from) n h = (omega arith, omega arith)
+miscount-number (line.the-variants.Save at) n h = (omega arith, omega arith)
+miscount-number (line.the-variants.Failure step set) n h = (omega arith, omega arith)
+miscount-number line.the-variants.Malformed n h = (omega arith, omega arith)
 
-pub refused-taken : (text : List ℕ) (n k : ℕ) → lastFailure text ≡ refused n k → n ≡ 0 → ⊥
+wrong-number : (P : List ℕ → ℕ → Type 0) (ps : List (List ℕ)) (n : ℕ) → ((l : List ℕ) → P l n → (1 ≤ n) × (n ≤ 7)) → Wrong P ps n → (1 ≤ n) × (n ≤ 7)
+wrong-number P [] n f w = (omega arith, omega arith)
+wrong-number P (l ∷ []) n f w = (omega arith, omega arith)
+wrong-number P (l ∷ (m ∷ ms)) n f w = f l w
+
+-- 1 to 7
+pub taken-number : (text : List ℕ) (n k : ℕ) → Taken text (Scan.refused n k) → (1 ≤ n) × (n ≤ 7)
+taken-number text n k (inl h) = wrong-number _ (h .rest) n (λ l w. miscount-number (lineSaid l) n w) (h .wrong)
+taken-number text n k (inr h) = wrong-number _ (h .rest) n (λ l w. unfit-number (h .last) (lineSaid l) n w) (h .wrong)
+
+pub last-refused : (ls : List (List ℕ)) (k : ℕ) (t : Trace) (step set n j : ℕ) → lastLine ls k (failing t step set) ≡ refused n j
+    → (n ≡ 1) × (k + 1 ≡ j) × (joined ls ≡ [] → ⊥)
+unfolding joined
+last-refused [] k t step set n j e = let z : _≡_ {A = ℕ} 0 1 = cc in absurd (let y : ⊥ = omega arith in y)
+last-refused ([] ∷ []) k t step set n j e = let z : _≡_ {A = ℕ} 0 1 = cc in absurd (let y : ⊥ = omega arith in y)
+last-refused ((b ∷ l) ∷ ls) k t step set n j e =
+    let y : _≡_ {A = ℕ} 1 n = cc in let z : k + 1 ≡ j = cc in (sym y, z, λ q. omega (arith, ap length (sym (joined-grow b l ls) ∙ q)))
+last-refused ([] ∷ (l ∷ ls)) k t step set n j e =
+    let y : _≡_ {A = ℕ} 1 n = cc in let z : k + 1 ≡ j = cc in (sym y, z, λ q. omega (arith, ap length q))
+
+refused-of : (text : List ℕ) (n j : ℕ) (s : Scan) → Taken text s → failingOf s ≡ refused n j → (1 ≤ n) × (n ≤ 7)
+refused-of text n j (Scan.refused m k) h e = let y : m ≡ n = cc in let r = taken-number text m k h in (omega (arith, r .0), omega (arith, r .1))
+refused-of text n j (Scan.ended u k) h e = let y : _≡_ {A = ℕ} 1 n = cc in (omega arith, omega arith)
+refused-of text n j (Scan.stopped u i m k rest) h e = let r = last-refused rest k u i m n j e in (omega (arith, r .0), omega (arith, r .0))
+
+pub refused-number : (text : List ℕ) (n k : ℕ) → lastFailure text ≡ refused n k → (1 ≤ n) × (n ≤ 7)
 unfolding lastFailure
-refused-taken text n k e = refused-of text n k (scan text) (scan-taken text) e
+refused-number text n k e = refused-of text n k (scan text) (scan-taken text) e
 
-numbered-of : (text : List ℕ) (n j : ℕ) (s : Scan) → Taken text s → verdictOf s ≡ Verdict.refused n j → n ≡ 0 → ⊥
-numbered-of text n j (Scan.refused m k) h e z = let y : m ≡ n = cc in h (y ∙ z)
-numbered-of text n j (Scan.ended u k) h e z = let y : _≡_ {A = ℕ} 0 1 = cc in omega arith
-numbered-of text n j (Scan.stopped u i m k rest) h e z = let y : _≡_ {A = ℕ} 1 n = cc in omega arith
+numbered-of : (text : List ℕ) (n j : ℕ) (s : Scan) → Taken text s → verdictOf s ≡ Verdict.refused n j → (1 ≤ n) × (n ≤ 7)
+numbered-of text n j (Scan.refused m k) h e = let y : m ≡ n = cc in let r = taken-number text m k h in (omega (arith, r .0), omega (arith, r .1))
+numbered-of text n j (Scan.ended u k) h e = let y : _≡_ {A = ℕ} 0 1 = cc in absurd (let z : ⊥ = omega arith in z)
+numbered-of text n j (Scan.stopped u i m k rest) h e = let y : _≡_ {A = ℕ} 1 n = cc in (omega arith, omega arith)
 
-pub verdict-numbered : (text : List ℕ) (n k : ℕ) → verdict text ≡ Verdict.refused n k → n ≡ 0 → ⊥
+pub verdict-number : (text : List ℕ) (n k : ℕ) → verdict text ≡ Verdict.refused n k → (1 ≤ n) × (n ≤ 7)
 unfolding verdict
-verdict-numbered text n k e = numbered-of text n k (scan text) (scan-taken text) e
+verdict-number text n k e = numbered-of text n k (scan text) (scan-taken text) e

@@ -1,17 +1,19 @@
 // The reader of trace texts. `read` gives the verdict on a text, the refusal with its number and place or the trace,
 // and leaves the trace's words in the table area. The definitions are in specs/: Verdict (the verdict on a text),
-// Render (the text of a trace) and Answer (answer and area). proofs/Claims states that a text is accepted exactly if it
-// is the text of a well-formed trace. No public function has a `requires`. Assumes nothing.
+// Render (the text of a trace), Answer (answer and area) and Meaning (what an answer means: a text is accepted exactly
+// if it is the text of a well-formed trace, and a refusal is for the first faulty line). No public function has a
+// `requires`. Assumes nothing.
 ghost use mathlib.Core.Path.{_≡_};
 ghost use Prim.Native.Nat.{_≤_, _<_};
 ghost use lib.ListN.{length, drop, replicate};
 ghost use Rattle.lines.specs.Line.{lineSaid};
 ghost use Rattle.reader.specs.Answer.{verdictAnswer, verdictWord, readAnswer, readArea};
 ghost use Rattle.reader.specs.Failure.{lastFailure, traceOf, failureAnswerOf, failureAnswer, failureArea};
+ghost use Rattle.reader.specs.Meaning.{ReadAccepts, ReadRefuses, FailureAccepts, FailureTold, FailureRefuses};
 ghost use Rattle.words.specs.Area.{areaWords, wordsFrom};
 ghost use Rattle.trace.specs.Trace.{Trace, started};
 ghost use Rattle.reader.specs.Verdict.{faultHere, judgeEvent, judge, linesFrom, pieces, scan, verdict};
-ghost use Rattle.reader.specs.Inner.Reading.{countOnly, Tallied, Opened, appended, stopOf, ScanOutcome};
+ghost use Rattle.reader.specs.Inner.Reading.{countOnly, Tallied, Opened, appended, judgedNumber, ScanOutcome, refusalOf, failureRefusal};
 use lines::Line;
 use text::LineEnd;
 use trace::Event;
@@ -114,13 +116,14 @@ fn append(table: &mut [u32], n: usize, e: Event)
     table[trace::VALUE_BASE + (n + 1)] = trace::value(e);
 }
 
-fn stop(j: Judged, k: usize, next: usize) -> Scanned
-    ensures { λ r. ⌜ r ≡ stopOf j k next ⌝ }
+// The number of a judged line.
+fn number(j: Judged) -> u32
+    ensures { λ r. ⌜ r ≡ judgedNumber j ⌝ }
 {
     match j {
-        Judged::Fit(_) => Scanned::Refused(0, k),
-        Judged::Fails(step, set) => Scanned::Stopped(step, set, k, next),
-        Judged::Unfit(number) => Scanned::Refused(number, k),
+        Judged::Fit(_) => 0,
+        Judged::Fails(_, _) => 1,
+        Judged::Unfit(number) => number,
     }
 }
 
@@ -143,7 +146,10 @@ fn read_events(
         };
         let j = judge_line(counts, procs, n, lines::read_line(&text[at..end]));
         let Judged::Fit(e) = j else {
-            return stop(j, n + 2, end + 1);
+            if let Judged::Fails(step, set) = j {
+                return Scanned::Stopped(step, set, n + 2, end + 1);
+            }
+            return Scanned::Refused(number(j), n + 2);
         };
         append(table, n, e);
         trace::tally(counts, e);
@@ -177,16 +183,34 @@ fn scan_text(text: &[u8], table: &mut [u32]) -> Scanned
     read_events(text, end + 1, n, table, &mut counts)
 }
 
+// The refusal where the lines end otherwise than is wanted: `read` wants the end of the trace, `read_failure` a failure
+// line.
+fn refusal(s: Scanned) -> Answer
+    ensures { λ r. ⌜ r ≡ refusalOf s ⌝ }
+{
+    match s {
+        Scanned::Refused(number, place) => Answer {
+            number: number,
+            place: place,
+        },
+        Scanned::Ended(place) => Answer {
+            number: 1,
+            place: place,
+        },
+        Scanned::Stopped(_, _, place, _) => Answer {
+            number: 1,
+            place: place,
+        },
+    }
+}
+
 // A refusal leaves zeros.
-fn refuse(table: &mut [u32], number: u32, place: usize) -> Answer
-    ensures answer { λ r. ⌜ r ≡ (record { number = number; place = place }) ⌝ }
+fn refuse(table: &mut [u32], a: Answer) -> Answer
+    ensures answer { λ r. ⌜ r ≡ a ⌝ }
     ensures words { λ _. ⌜ now (table .exit) ≡ replicate (length (now (table .entry))) 0 ⌝ }
 {
     words::zero(table);
-    Answer {
-        number: number,
-        place: place,
-    }
+    a
 }
 
 // Reads a text into a table of 16,384 words.
@@ -196,13 +220,12 @@ fn read_in(text: &[u8], table: &mut [u32]) -> Answer
     ensures words { λ _. ⌜ now (table .exit) ≡ wordsFrom (verdictWord (verdict (now (text .entry)))) 0 areaWords ⌝ }
 {
     let s = scan_text(text, table);
-    match s {
-        Scanned::Refused(number, place) => refuse(table, number, place),
-        Scanned::Ended(_) => Answer {
-            number: 0,
-            place: 0,
-        },
-        Scanned::Stopped(_, _, place, _) => refuse(table, 1, place),
+    let Scanned::Ended(_) = s else {
+        return refuse(table, refusal(s));
+    };
+    Answer {
+        number: 0,
+        place: 0,
     }
 }
 
@@ -210,6 +233,8 @@ fn read_in(text: &[u8], table: &mut [u32]) -> Answer
 pub fn read(text: &[u8], table: &mut [u32]) -> Answer
     ensures answer { λ r. ⌜ r ≡ readAnswer (now (text .entry)) (now (table .entry)) ⌝ }
     ensures words { λ _. ⌜ now (table .exit) ≡ readArea (now (text .entry)) (now (table .entry)) ⌝ }
+    ensures accepts { λ r. ⌜ ReadAccepts (now (text .entry)) (length (now (table .entry))) (r .number) ⌝ }
+    ensures refuses { λ r. ⌜ ReadRefuses (now (text .entry)) (length (now (table .entry))) r ⌝ }
 {
     if table.len() < AREA_WORDS {
         return Answer {
@@ -220,18 +245,25 @@ pub fn read(text: &[u8], table: &mut [u32]) -> Answer
     read_in(text, &mut table[..AREA_WORDS])
 }
 
-// A refusal of a text with a failure line.
-fn refuse_failure(table: &mut [u32], number: u32, place: usize) -> FailureAnswer
-    ensures answer { λ r. ⌜ r ≡ (record { number = number; place = place; step = 0; set = 0 }) ⌝ }
-    ensures words { λ _. ⌜ now (table .exit) ≡ replicate (length (now (table .entry))) 0 ⌝ }
+// A refusal of a text with a failure line: it has no step and no set.
+fn no_failure(a: Answer) -> FailureAnswer
+    ensures { λ r. ⌜ r ≡ failureRefusal a ⌝ }
 {
-    words::zero(table);
     FailureAnswer {
-        number: number,
-        place: place,
+        number: a.number,
+        place: a.place,
         step: 0,
         set: 0,
     }
+}
+
+// It leaves zeros.
+fn refuse_failure(table: &mut [u32], a: Answer) -> FailureAnswer
+    ensures answer { λ r. ⌜ r ≡ failureRefusal a ⌝ }
+    ensures words { λ _. ⌜ now (table .exit) ≡ replicate (length (now (table .entry))) 0 ⌝ }
+{
+    words::zero(table);
+    no_failure(a)
 }
 
 // Reads a text that ends with a failure line into a table of 16,384 words.
@@ -241,21 +273,23 @@ fn read_failure_in(text: &[u8], table: &mut [u32]) -> FailureAnswer
     ensures words { λ _. ⌜ now (table .exit) ≡ wordsFrom (verdictWord (traceOf (lastFailure (now (text .entry))))) 0 areaWords ⌝ }
 {
     let s = scan_text(text, table);
-    match s {
-        Scanned::Refused(number, place) => refuse_failure(table, number, place),
-        Scanned::Ended(place) => refuse_failure(table, 1, place),
-        Scanned::Stopped(step, set, place, next) => {
-            if next < text.len() {
-                refuse_failure(table, 1, place + 1)
-            } else {
-                FailureAnswer {
-                    number: 0,
-                    place: 0,
-                    step: step,
-                    set: set,
-                }
-            }
-        }
+    let Scanned::Stopped(step, set, place, next) = s else {
+        return refuse_failure(table, refusal(s));
+    };
+    if next < text.len() {
+        return refuse_failure(
+            table,
+            Answer {
+                number: 1,
+                place: place + 1,
+            },
+        );
+    }
+    FailureAnswer {
+        number: 0,
+        place: 0,
+        step: step,
+        set: set,
     }
 }
 
@@ -264,14 +298,15 @@ fn read_failure_in(text: &[u8], table: &mut [u32]) -> FailureAnswer
 pub fn read_failure(text: &[u8], table: &mut [u32]) -> FailureAnswer
     ensures answer { λ r. ⌜ r ≡ failureAnswer (now (text .entry)) (now (table .entry)) ⌝ }
     ensures words { λ _. ⌜ now (table .exit) ≡ failureArea (now (text .entry)) (now (table .entry)) ⌝ }
+    ensures accepts { λ r. ⌜ FailureAccepts (now (text .entry)) (length (now (table .entry))) (r .number) ⌝ }
+    ensures told { λ r. ⌜ FailureTold (now (text .entry)) r ⌝ }
+    ensures refuses { λ r. ⌜ FailureRefuses (now (text .entry)) (length (now (table .entry))) r ⌝ }
 {
     if AREA_WORDS > table.len() {
-        return FailureAnswer {
+        return no_failure(Answer {
             number: 12,
             place: 0,
-            step: 0,
-            set: 0,
-        };
+        });
     }
     read_failure_in(text, &mut table[..AREA_WORDS])
 }

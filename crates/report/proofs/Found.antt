@@ -20,7 +20,7 @@ use Rattle.recovery.specs.declared.Recovered.{Recovered}
 use Rattle.recovery.specs.Recover.{Succeeds}
 use Rattle.preparing.specs.Faults.{runOf}
 use Rattle.text.specs.Number.{decimal}
-use Rattle.printing.specs.Bytes.{bytesOf}
+use Rattle.text.specs.Bytes.{bytesOf}
 use Rattle.printing.specs.Lines.{keyOrphan, keyKept, totalLine}
 use Rattle.report.specs.Report.{given, Failure, engineRun, Recovery, recoveryOf, processLineOf, messageLines, printedOf, EndsExactly, reportBytes}
 use Rattle.report.specs.Inner.Rows.{recoveryRows}

@@ -6,12 +6,12 @@ use lib.ListN.{length, length-append}
 use Prim.Native.String.{String}
 use Rattle.writer.proofs.Lengths.{pair-few}
 use Rattle.theory.specs.Answers.{Listed, gather}
-use Rattle.printing.specs.Bytes.{bytesOf}
+use Rattle.text.specs.Bytes.{bytesOf}
 use Rattle.report.specs.Report.{given, Recovery, processLineOf, messageLines, printedOf, reportBytes}
 use Rattle.printing.specs.Lines.{processLine, messageLine, totalLine, refusalLine, keyOrphan, keyKept}
 
 process-few : (z e r p : ℕ) → length (processLine z e r p) ≤ 116
-unfolding processLine bytesOf
+unfolding processLine
 process-few z e r p =
     let lf : List ℕ = 10 ∷ [] in
     let d = pair-few (bytesOf " phase=") lf p 1 (omega arith) in
@@ -20,7 +20,7 @@ process-few z e r p =
     pair-few (bytesOf "out=proc at=") _ z 84 b
 
 message-few : (key : String) (from to number phase : ℕ) → length (bytesOf key) ≤ 16 → length (messageLine key from to number phase) ≤ 112
-unfolding messageLine bytesOf
+unfolding messageLine
 message-few key from to number phase h =
     let lf : List ℕ = 10 ∷ [] in
     let d = pair-few (bytesOf " phase=") lf phase 1 (omega arith) in
@@ -30,7 +30,7 @@ message-few key from to number phase h =
     omega arith
 
 total-few : (a b c d : ℕ) → length (totalLine a b c d) ≤ 118
-unfolding totalLine bytesOf
+unfolding totalLine
 total-few a b c d =
     let lf : List ℕ = 10 ∷ [] in
     let h = pair-few (bytesOf " steps=") lf d 1 (omega arith) in
@@ -39,7 +39,7 @@ total-few a b c d =
     pair-few (bytesOf "out=total back=") _ a 83 f
 
 pub refusal-few : (n k : ℕ) → length (refusalLine n k) ≤ reportBytes
-unfolding refusalLine bytesOf
+unfolding refusalLine
 refusal-few n k =
     let lf : List ℕ = 10 ∷ [] in
     let g = pair-few (bytesOf " place=") lf k 1 (omega arith) in
@@ -59,7 +59,7 @@ messages-few key (m ∷ ms) h =
     omega (arith, length-append l (messageLines key ms), message-few key (m .from) (m .to) (m .number) (m .phase) h, messages-few key ms h)
 
 pub found-few : (r : Recovery) → r .restarted .line .count ≤ 64 → length (r .orphans) + length (r .kept) ≤ 2048 → length (printedOf (given r)) ≤ reportBytes
-unfolding printedOf bytesOf
+unfolding printedOf
 found-few r p m =
     let n = r .restarted .line .count in
     let A = gather (processLineOf (r .restarted)) n in

@@ -9,7 +9,7 @@ use Rattle.theory.specs.Answers.{gather}
 use Rattle.recovery.specs.declared.Recovered.{Recovered}
 use Rattle.writer.specs.Inner.Puts.{Puts}
 use Rattle.writer.proofs.Buffers.{none, then}
-use Rattle.printing.specs.Bytes.{bytesOf}
+use Rattle.text.specs.Bytes.{bytesOf}
 use Rattle.printing.specs.Lines.{totalLine, keyOrphan, keyKept}
 use Rattle.printing.specs.Inner.Rows.{wordsRow}
 use Rattle.report.specs.Report.{processLineOf}

@@ -13,7 +13,7 @@ use Rattle.theory.specs.Answers.{Listed, gather, messages, orphans, keptOnes, l
 use Rattle.listing.specs.Listing.{Row, rowOf, rowWord, rowsOf, listWord}
 use Rattle.listing.proofs.Laying.{row-words, row-numbers, row-phases}
 use Rattle.listing.proofs.Channels.{gather-cong}
-use Rattle.printing.specs.Bytes.{bytesOf}
+use Rattle.text.specs.Bytes.{bytesOf}
 use Rattle.printing.specs.Lines.{messageLine, keyOrphan, keyKept}
 use Rattle.report.specs.Report.{messageLines}
 use Rattle.printing.specs.Inner.Rows.{wordsRow}

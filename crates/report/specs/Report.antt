@@ -17,7 +17,7 @@ use Rattle.recovery_line.specs.Given.{lineIn}
 use Rattle.restart.specs.declared.Restarted.{Restarted}
 use Rattle.restart.specs.Restart.{engineLineOf, restartOf}
 use Rattle.text.specs.Number.{decimal}
-use Rattle.printing.specs.Bytes.{bytesOf}
+use Rattle.text.specs.Bytes.{bytesOf}
 use Rattle.printing.specs.Lines.{processLine, messageLine, totalLine, refusalLine, keyOrphan, keyKept}
 
 -- an answer, or a refusal: its number and its place

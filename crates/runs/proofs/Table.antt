@@ -26,7 +26,6 @@ use Rattle.theory.proofs.Runs.{opens}
 use Rattle.theory.proofs.Claims.{reached-usable, greatest-line, greatest-only}
 use Rattle.recovery_line.specs.Given.{backOf}
 use Rattle.restart.specs.Restart.{engineLineOf, restartOf}
-use Rattle.printing.specs.Bytes.{bytesOf}
 use Rattle.printing.specs.Inner.Texts.{linesOf}
 use Rattle.runs.specs.Texts.{linesH, linesL, linesS, linesT, linesFirst, failing, textH}
 use Rattle.report.specs.Report.{Answer, refused, given, Failure, failureOf, Recovery, recoveryOf, recovery, messageLines, printedOf, printed}
@@ -37,7 +36,7 @@ use Rattle.runs.specs.Answers.{recoveryIn, losses, Replayed, replay, cha
 
 -- all that a row computes with, beside what the theory's rows do: `opens`
 unfoldable pub reads : ℕ
-unfolding bytesOf linesOf failing startsWith fieldAt isDigit pushed digitsFrom numberAt lastDigits procsSaid sendSaid recvSaid saveSaid failSaid lineIn pieces faultHere judgeEvent judge linesFrom scanPieces scan verdict lastFailure failureFault permits lineFault failureOf losses replay channelRecord takenWords recordAt takenNumber takenValue exactStepsOf wordsFrom ones backOf engineLineOf restartOf recoveryOf recovery processLine messageLine messageLines totalLine refusalLine printedOf printed
+unfolding linesOf failing startsWith fieldAt isDigit pushed digitsFrom numberAt lastDigits procsSaid sendSaid recvSaid saveSaid failSaid lineIn pieces faultHere judgeEvent judge linesFrom scanPieces scan verdict lastFailure failureFault permits lineFault failureOf losses replay channelRecord takenWords recordAt takenNumber takenValue exactStepsOf wordsFrom ones backOf engineLineOf restartOf recoveryOf recovery processLine messageLine messageLines totalLine refusalLine printedOf printed
 reads = 0
 
 -- a message as the report lists it: from, to, number, phase

@@ -1,14 +1,12 @@
 -- `printing::put_message` meets its contract: the key and its number, three pairs and the end of the line.
 use mathlib.Core.Path.{refl}
 use Rattle.writer.proofs.Buffers.{then, same-bytes}
-use Rattle.printing.specs.Bytes.{bytesOf}
 use Rattle.printing.proofs.Lines.{row-put, message-keys}
 use borrow.Author.Needs.{needs}
 use Rattle.printing.proofs.put_message.Statement.{statement}
 use Rattle.printing.proofs.put_message.Tie as tie
 
 returns : tie.Need-returns
-unfolding bytesOf
 returns c =
     let put-key = c .before .before .before .before .before .before .before .before .before .before .before .before .before .before .before .before .before .before .before .before .before .before .before .before .before .before .put-key in
     let put-number = c .before .before .before .before .before .before .before .before .before .before .before .before .before .before .before .before .before .before .before .before .before .before .put-number in

@@ -1,14 +1,12 @@
 -- `printing::put_process` meets its contract: four pairs and the end of the line.
 use mathlib.Core.Path.{refl}
 use Rattle.writer.proofs.Buffers.{same-bytes}
-use Rattle.printing.specs.Bytes.{bytesOf}
 use Rattle.printing.proofs.Lines.{row-put, process-keys}
 use borrow.Author.Needs.{needs}
 use Rattle.printing.proofs.put_process.Statement.{statement}
 use Rattle.printing.proofs.put_process.Tie as tie
 
 returns : tie.Need-returns
-unfolding bytesOf
 returns c =
     let args = c .before .before .before .before .before .before .before .before .before .before .before .before .before .before .before .before .before .before .before .before .before .before .before .before .before .before .args in
     let put-pair = c .before .before .before .before .before .before .before .before .before .before .before .before .before .before .before .before .before .before .before .before .before .before .put-pair in

@@ -1,13 +1,12 @@
 -- `printing::put_refusal` meets its contract: two pairs and the end of the line.
 use mathlib.Core.Path.{refl}
-use Rattle.printing.specs.Bytes.{bytesOf}
+use Rattle.text.specs.Bytes.{bytesOf}
 use Rattle.printing.proofs.Lines.{refusal-put}
 use borrow.Author.Needs.{needs}
 use Rattle.printing.proofs.put_refusal.Statement.{statement}
 use Rattle.printing.proofs.put_refusal.Tie as tie
 
 returns : tie.Need-returns
-unfolding bytesOf
 returns c =
     let args = c .before .before .before .before .before .before .before .before .before .before .before .before .before .before .before .before .args in
     let put-pair = c .before .before .before .before .before .before .before .before .before .before .before .before .put-pair in

@@ -2,7 +2,7 @@
 use mathlib.Core.List.{List, [], _∷_, _++_}
 use Prim.Native.Nat.{ℕ}
 use Prim.Native.String.{String}
-use Rattle.printing.specs.Bytes.{bytesOf}
+use Rattle.text.specs.Bytes.{bytesOf}
 
 -- "Lines end with LF (byte 10)."
 unfoldable pub linesOf : List String → List ℕ

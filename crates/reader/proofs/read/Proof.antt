@@ -2,6 +2,7 @@
 use Rattle.words.specs.Area.{areaWords}
 use lib.Seq.{length-take-le}
 use mathlib.Core.Path.{sym}
+use Rattle.reader.proofs.Claims.{read-means}
 use Rattle.reader.proofs.Verdicts.{short, long}
 use native.Mathlib.Omega.{arith}
 use borrow.Author.Needs.{needs}
@@ -11,7 +12,7 @@ use Rattle.reader.proofs.read.Tie as tie
 returns : tie.Need-returns
 returns c =
     let if1 = c .if1 in
-    short _ _ (if1 .taken)
+    let (answer, words) = short _ _ (if1 .taken) in (answer, (words, read-means _ _ _ answer))
 
 slice-aggregate-read-in : tie.Need-slice-aggregate-read-in
 slice-aggregate-read-in c =
@@ -27,7 +28,7 @@ returns-2 : tie.Need-returns-2
 returns-2 c =
     let if1 = c .before .before .before .before .if1 in
     let read-in = c .before .before .read-in in
-    long _ _ _ _ (if1 .left) (read-in .ensures)
+    let (answer, words) = long _ _ _ _ (if1 .left) (read-in .ensures) in (answer, (words, read-means _ _ _ answer))
 
 pub read-spec : {M : Type 1} → statement M
 read-spec =

@@ -11,7 +11,7 @@ use Rattle.reader.proofs.Judging.{fit-judged}
 use Rattle.trace.proofs.Counting.{next-tally}
 use Rattle.reader.proofs.Cutting.{line-cut}
 use Rattle.reader.proofs.Storing.{next-holds}
-use Rattle.reader.proofs.Turns.{turn-end, turn-missing, turn-fit, turn-stop, out-refused, out-ended, out-same}
+use Rattle.reader.proofs.Turns.{turn-end, turn-missing, turn-fit, turn-fails, turn-unfit, out-refused, out-ended, out-same}
 use native.Mathlib.Omega.{arith}
 use borrow.Author.Needs.{needs}
 use Rattle.reader.proofs.read_events.Statement.{statement}
@@ -38,15 +38,15 @@ loop-holds c =
     let pre = c .before .before .before .pre in
     record {
       run = started _;
-      counted = record { procs-is = refl; tally = pre .tally; size-is = refl };
+      counted = record { procs-is = refl; tally = (pre .tally); size-is = refl };
       few = omega arith;
-      within = pre .within;
-      holds = pre .holds;
+      within = (pre .within);
+      holds = (pre .holds);
       rest = refl;
     }
 
-add-t14 : tie.Need-add-t14 Inv-loop μ-loop
-add-t14 c =
+add-t16 : tie.Need-add-t16 Inv-loop μ-loop
+add-t16 c =
     let loop = c .before .before .before .before .loop in
     omega (arith, (loop .inv .few))
 
@@ -79,56 +79,75 @@ part-read-line-end c =
 judge-line-requires : tie.Need-judge-line-requires Inv-loop μ-loop
 judge-line-requires c κs =
     let loop = c .before .before .before .before .before .before .before .before .loop in
-    (omega arith, loop .inv .counted .tally .size)
+    (omega arith, (loop .inv .counted .tally .size))
 
-add-stop : tie.Need-add-stop Inv-loop μ-loop
-add-stop c =
-    let loop = c .before .before .before .before .before .before .before .before .before .before .loop in
+add-t23 : tie.Need-add-t23 Inv-loop μ-loop
+add-t23 c =
+    let loop = c .before .before .before .before .before .before .before .before .before .before .before .before .before .loop in
     omega (arith, (loop .inv .few))
 
-add-stop-2 : tie.Need-add-stop-2 Inv-loop μ-loop
-add-stop-2 c =
-    let good = c .before .before .before .before .before .before .before .before .before .before .before .before .before .before .good in
-    let line-end = c .before .before .before .before .before .before .before .before .line-end in
-    let end = c .before .before .before .before .before .before .end in
+add-t24 : tie.Need-add-t24 Inv-loop μ-loop
+add-t24 c =
+    let good = c .before .before .before .before .before .before .before .before .before .before .before .before .before .before .before .before .before .good in
+    let line-end = c .before .before .before .before .before .before .before .before .before .before .before .line-end in
+    let end = c .before .before .before .before .before .before .before .before .before .end in
     omega (arith, good, (line-cut _ _ _ (sym (line-end .ensures) ∙ (end .given .1))) .1)
 
 returns-2 : tie.Need-returns-2 Inv-loop μ-loop
 returns-2 c =
-    let loop = c .before .before .before .before .before .before .before .before .before .before .before .loop in
-    let stop = c .stop in
-    let line-end = c .before .before .before .before .before .before .before .before .before .line-end in
-    let end = c .before .before .before .before .before .before .before .end in
-    let judge-line = c .before .before .judge-line in
-    let read-line = c .before .before .before .read-line in
-    let match2 = c .before .match2 in
-    out-same _ _ _ _ _ (loop .inv .rest) (rw (stop .ensures) (turn-stop _ _ _ _ _ (sym (line-end .ensures) ∙ (end .given .1)) _ ((judge-line .ensures) (loop .inv .run) (loop .inv .counted) ∙ ap (judge (loop .inv .run)) (read-line .ensures)) _ (omega (arith, (loop .inv .few))) (loop .inv .holds) (match2 .keys2)))
+    let judge-line = c .before .before .before .before .judge-line in
+    let loop = c .before .before .before .before .before .before .before .before .before .before .before .before .before .loop in
+    let read-line = c .before .before .before .before .before .read-line in
+    let line-end = c .before .before .before .before .before .before .before .before .before .before .before .line-end in
+    let end = c .before .before .before .before .before .before .before .before .before .end in
+    let j2 = c .before .j2 in
+    let said = (judge-line .ensures) (loop .inv .run) (loop .inv .counted) ∙ ap (judge (loop .inv .run)) (read-line .ensures) in
+    out-same _ _ _ _ _ (loop .inv .rest) (turn-fails _ _ _ _ _ (sym (line-end .ensures) ∙ (end .given .1)) _ said _ _ (j2 .given .1) _ (omega (arith, (loop .inv .few))) (loop .inv .holds))
+
+add-t26 : tie.Need-add-t26 Inv-loop μ-loop
+add-t26 c =
+    let loop = c .before .before .before .before .before .before .before .before .before .before .before .before .loop in
+    omega (arith, (loop .inv .few))
+
+returns-3 : tie.Need-returns-3 Inv-loop μ-loop
+returns-3 c =
+    let judge-line = c .before .before .before .judge-line in
+    let loop = c .before .before .before .before .before .before .before .before .before .before .before .before .loop in
+    let read-line = c .before .before .before .before .read-line in
+    let line-end = c .before .before .before .before .before .before .before .before .before .before .line-end in
+    let end = c .before .before .before .before .before .before .before .before .end in
+    let match2 = c .before .before .match2 in
+    let match3 = c .before .match3 in
+    let number = c .number in
+    let said = (judge-line .ensures) (loop .inv .run) (loop .inv .counted) ∙ ap (judge (loop .inv .run)) (read-line .ensures) in
+    let cut = turn-unfit _ _ _ _ _ (sym (line-end .ensures) ∙ (end .given .1)) _ said (match2 .keys2) (match3 .keys2) in
+    rw (number .ensures) (out-refused _ _ _ _ _ (sym (loop .inv .rest) ∙ cut) (loop .inv .holds .size))
 
 append-requires : tie.Need-append-requires Inv-loop μ-loop
 append-requires c κs =
-    let loop = c .before .before .before .before .before .before .before .before .before .before .before .before .before .loop in
     let judge-line = c .before .before .before .before .judge-line in
+    let loop = c .before .before .before .before .before .before .before .before .before .before .before .before .before .loop in
     let read-line = c .before .before .before .before .before .read-line in
     let j = c .before .before .j in
     let said = (judge-line .ensures) (loop .inv .run) (loop .inv .counted) ∙ ap (judge (loop .inv .run)) (read-line .ensures) in
     let f = fit-judged (loop .inv .run) _ _ _ said (j .given .1) in
-    (omega (arith, f .0, loop .inv .counted .size-is), loop .inv .holds .size)
+    (omega (arith, f .0, (loop .inv .counted .size-is)), (loop .inv .holds .size))
 
 tally-requires : tie.Need-tally-requires Inv-loop μ-loop
 tally-requires c κs =
-    let pre = c .before .before .before .before .before .before .before .before .before .before .before .before .before .before .before .before .before .before .before .before .before .pre in
-    let loop = c .before .before .before .before .before .before .before .before .before .before .before .before .before .before .before .before .before .loop in
     let judge-line = c .before .before .before .before .before .before .before .before .judge-line in
+    let loop = c .before .before .before .before .before .before .before .before .before .before .before .before .before .before .before .before .before .loop in
     let read-line = c .before .before .before .before .before .before .before .before .before .read-line in
     let j = c .before .before .before .before .before .before .j in
+    let pre = c .before .before .before .before .before .before .before .before .before .before .before .before .before .before .before .before .before .before .before .before .before .pre in
     let said = (judge-line .ensures) (loop .inv .run) (loop .inv .counted) ∙ ap (judge (loop .inv .run)) (read-line .ensures) in
     let f = fit-judged (loop .inv .run) _ _ _ said (j .given .1) in
     record {
-      procs = loop .inv .run .procs;
-      events = loop .inv .run .events;
-      procs-most = omega (arith, pre .procs-most, loop .inv .counted .procs-is);
+      procs = (loop .inv .run .procs);
+      events = (loop .inv .run .events);
+      procs-most = omega (arith, (pre .procs-most), (loop .inv .counted .procs-is));
       events-few = f .0;
-      tally = loop .inv .counted .tally;
+      tally = (loop .inv .counted .tally);
       fit = f .1;
     }
 
@@ -147,40 +166,40 @@ loop-less c =
 
 loop-again : tie.Need-loop-again Inv-loop μ-loop
 loop-again c =
-    let loop = c .before .before .before .before .before .before .before .before .before .before .before .before .before .before .before .before .before .before .before .before .loop in
     let judge-line = c .before .before .before .before .before .before .before .before .before .before .before .judge-line in
+    let loop = c .before .before .before .before .before .before .before .before .before .before .before .before .before .before .before .before .before .before .before .before .loop in
     let read-line = c .before .before .before .before .before .before .before .before .before .before .before .before .read-line in
     let j = c .before .before .before .before .before .before .before .before .before .j in
     let line-end = c .before .before .before .before .before .before .before .before .before .before .before .before .before .before .before .before .before .before .line-end in
     let end = c .before .before .before .before .before .before .before .before .before .before .before .before .before .before .before .before .end in
-    let append = c .before .before .before .before .before .before .append in
-    let tally = c .before .before .tally in
     let pre = c .before .before .before .before .before .before .before .before .before .before .before .before .before .before .before .before .before .before .before .before .before .before .before .before .pre in
+    let tally = c .before .before .tally in
+    let append = c .before .before .before .before .before .before .append in
     let said = (judge-line .ensures) (loop .inv .run) (loop .inv .counted) ∙ ap (judge (loop .inv .run)) (read-line .ensures) in
     let f = fit-judged (loop .inv .run) _ _ _ said (j .given .1) in
     let q = line-cut _ _ _ (sym (line-end .ensures) ∙ (end .given .1)) in
     let k : (loop .n) + 2 + 1 ≡ (loop .n) + 1 + 2 = omega arith in
-    let most : loop .inv .run .procs ≤ 64 = omega (arith, pre .procs-most, loop .inv .counted .procs-is) in
+    let most : (loop .inv .run .procs) ≤ 64 = omega (arith, (pre .procs-most), (loop .inv .counted .procs-is)) in
     record {
       run = extended (loop .inv .run) (j .given .0 .0);
       counted = record {
-        procs-is = loop .inv .counted .procs-is;
+        procs-is = (loop .inv .counted .procs-is);
         tally = rw (tally .ensures) (next-tally (loop .inv .run .procs) (loop .inv .run .events) _ most (loop .inv .counted .tally) _ (f .1));
-        size-is = rw (length-append, loop .inv .counted .size-is);
+        size-is = rw (length-append, (loop .inv .counted .size-is));
       };
-      few = omega (arith, f .0, loop .inv .counted .size-is);
+      few = omega (arith, f .0, (loop .inv .counted .size-is));
       within = omega (arith, q .1);
-      holds = rw (append .ensures, loop .inv .counted .size-is) (next-holds (loop .inv .run) _ _ (loop .inv .holds) (f .0));
-      rest = rw (← k) (sym (turn-fit _ _ _ _ _ (sym (line-end .ensures) ∙ (end .given .1)) _ said _ (j .given .1)) ∙ loop .inv .rest);
+      holds = rw ((append .ensures), (loop .inv .counted .size-is)) (next-holds (loop .inv .run) _ _ (loop .inv .holds) (f .0));
+      rest = rw (← k) (sym (turn-fit _ _ _ _ _ (sym (line-end .ensures) ∙ (end .given .1)) _ said _ (j .given .1)) ∙ (loop .inv .rest));
     }
 
-add-t28 : tie.Need-add-t28 Inv-loop μ-loop
-add-t28 c =
+add-t32 : tie.Need-add-t32 Inv-loop μ-loop
+add-t32 c =
     let loop = c .before .loop in
     omega (arith, (loop .inv .few))
 
-returns-3 : tie.Need-returns-3 Inv-loop μ-loop
-returns-3 c =
+returns-4 : tie.Need-returns-4 Inv-loop μ-loop
+returns-4 c =
     let loop = c .before .loop in
     let loop-test = c .loop-test in
     out-ended _ _ _ _ _ (sym (loop .inv .rest) ∙ turn-end _ _ _ _ (loop-test .left)) (loop .inv .holds)
@@ -188,4 +207,4 @@ returns-3 c =
 pub read-events-spec : {M : Type 1} → statement M
 read-events-spec =
     tie.close
-    (tie.spec Inv-loop μ-loop loop-holds (λ c κs. search needs) (λ c. search needs) (λ c. search needs) add-t14 (λ c. search needs) (λ c. search needs) returns sub-read-line part-read-line-start part-read-line-end (λ c κs. search needs) judge-line-requires (λ c. search needs) add-stop add-stop-2 (λ c κs. search needs) (λ c. search needs) (λ c. search needs) returns-2 append-requires tally-requires (λ c. search needs) add-at loop-less loop-again add-t28 (λ c. search needs) (λ c. search needs) returns-3)
+    (tie.spec Inv-loop μ-loop loop-holds (λ c κs. search needs) (λ c. search needs) (λ c. search needs) add-t16 (λ c. search needs) (λ c. search needs) returns sub-read-line part-read-line-start part-read-line-end (λ c κs. search needs) judge-line-requires (λ c. search needs) (λ c. search needs) add-t23 add-t24 (λ c. search needs) (λ c. search needs) returns-2 (λ c κs. search needs) add-t26 (λ c. search needs) (λ c. search needs) returns-3 append-requires tally-requires (λ c. search needs) add-at loop-less loop-again add-t32 (λ c. search needs) (λ c. search needs) returns-4)

@@ -1,7 +1,8 @@
 -- `reader::read_failure` meets its contract: 12 changes nothing; otherwise the first 16,384 words are lent on.
 use Rattle.words.specs.Area.{areaWords}
 use lib.Seq.{length-take-le}
-use mathlib.Core.Path.{sym}
+use mathlib.Core.Path.{sym, _∙_}
+use Rattle.reader.proofs.Claims.{failure-means}
 use Rattle.reader.proofs.Verdicts.{short-failing, long-failing}
 use native.Mathlib.Omega.{arith}
 use borrow.Author.Needs.{needs}
@@ -10,8 +11,11 @@ use Rattle.reader.proofs.read_failure.Tie as tie
 
 returns : tie.Need-returns
 returns c =
-    let if1 = c .if1 in
-    short-failing _ _ (if1 .taken)
+    let if1 = c .before .if1 in
+    let no-failure = c .no-failure in
+    let (answer, words) = short-failing _ _ (if1 .taken) in
+    let same = (no-failure .ensures) ∙ answer in
+    (same, (words, failure-means _ _ _ same))
 
 slice-aggregate-read-failure-in : tie.Need-slice-aggregate-read-failure-in
 slice-aggregate-read-failure-in c =
@@ -27,9 +31,9 @@ returns-2 : tie.Need-returns-2
 returns-2 c =
     let if1 = c .before .before .before .before .if1 in
     let read-failure-in = c .before .before .read-failure-in in
-    long-failing _ _ _ _ (if1 .left) (read-failure-in .ensures)
+    let (answer, words) = long-failing _ _ _ _ (if1 .left) (read-failure-in .ensures) in (answer, (words, failure-means _ _ _ answer))
 
 pub read-failure-spec : {M : Type 1} → statement M
 read-failure-spec =
     tie.close
-    (tie.spec returns (λ c. search needs) slice-aggregate-read-failure-in read-failure-in-requires (λ c. search needs) returns-2)
+    (tie.spec (λ c κs. search needs) returns (λ c. search needs) slice-aggregate-read-failure-in read-failure-in-requires (λ c. search needs) returns-2)

@@ -13,6 +13,8 @@ use Rattle.lines.specs.declared.Line.{Line}
 use Rattle.lines.specs.declared.Line.the-variants.{Procs, Send, Recv, Save, Failure, Malformed}
 use Rattle.reader.specs.declared.Judged.{Judged}
 use Rattle.reader.specs.declared.Judged.the-variants.{Fit, Fails, Unfit}
+use Rattle.reader.specs.declared.Answer.{Answer}
+use Rattle.reader.specs.declared.FailureAnswer.{FailureAnswer}
 use Rattle.reader.specs.declared.Scanned.{Scanned}
 use Rattle.reader.specs.declared.Scanned.the-variants.{Refused, Ended, Stopped}
 use Rattle.reader.specs.Verdict.{Scan, refused, ended, stopped, pieces}
@@ -48,11 +50,23 @@ pub record Opened (text : List ℕ) (from procs : ℕ) (table counts : List ℕ)
 abbrev pub appended : List ℕ → ℕ → Event → List ℕ
 appended table n e = set (set (set table 1 (n + 1)) (eventBase + (n + 1)) (wordOf e)) (valueBase + (n + 1)) (valueWord e)
 
--- where the lines end at a line that is no fit event: line k, and the place after it
-abbrev pub stopOf : Judged → ℕ → ℕ → Scanned
-stopOf (Fit e) k next = Refused 0 k
-stopOf (Fails step set) k next = Stopped step set k next
-stopOf (Unfit n) k next = Refused n k
+-- the number of a judged line: 0 of a fit event; 1 of a failure line where none is due ("The library's reader takes the
+-- text without a failure line"); else what is wrong
+abbrev pub judgedNumber : Judged → ℕ
+judgedNumber (Fit e) = 0
+judgedNumber (Fails step set) = 1
+judgedNumber (Unfit n) = n
+
+-- The refusal by each way in which the lines end: a faulty line's own; 1 at the line after the last, where a failure line
+-- is missing; 1 at a failure line, where none is due.
+abbrev pub refusalOf : Scanned → Answer
+refusalOf (Refused n k) = record { number = n; place = k }
+refusalOf (Ended k) = record { number = 1; place = k }
+refusalOf (Stopped step set k next) = record { number = 1; place = k }
+
+-- "In a refused answer every other number is 0."
+abbrev pub failureRefusal : Answer → FailureAnswer
+failureRefusal a = record { number = a .number; place = a .place; step = 0; set = 0 }
 
 -- the loop stopped at a failure line: its outcome with the place after that line, what follows there, and the table;
 -- the line is one of the first 2,050

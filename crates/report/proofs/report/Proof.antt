@@ -32,7 +32,7 @@ returns-3 c =
     let recover = c .before .before .before .before .before .before .before .recover in
     let if3 = c .before .before .before .before .if3 in
     let put-refusal3 = c .before .before .put-refusal3 in
-    answered _ (args .text .now) _ _ _ (failure-refused (args .text .now) (if1 .left) (replicate areaWords 0) (length-replicate {A = ℕ} areaWords 0) (read-failure .result) (read-failure .ensures .0) (if2 .left) _ (read-failure .ensures .1) (recover .result .restarted) (recover .ensures .0) (if3 .taken)) (put-refusal3 .ensures)
+    answered _ (args .text .now) _ _ _ (failure-refused (args .text .now) (if1 .left) (replicate areaWords 0) (length-replicate {A = ℕ} areaWords 0) (read-failure .result) (read-failure .ensures .0) (if2 .left) _ (read-failure .ensures .1 .0) (recover .result .restarted) (recover .ensures .0) (if3 .taken)) (put-refusal3 .ensures)
 
 put-recovery-requires : tie.Need-put-recovery-requires
 put-recovery-requires c κs =
@@ -43,7 +43,7 @@ put-recovery-requires c κs =
     let read-failure = c .before .before .before .before .before .before .before .before .before .before .read-failure in
     let if2 = c .before .before .before .before .before .before .before .if2 in
     let S = (recover .ensures .1 .1 .1 .1) (if3 .left) in
-    let w = recovered (args .text .now) (if1 .left) (replicate areaWords 0) (length-replicate {A = ℕ} areaWords 0) (read-failure .result) (read-failure .ensures .0) (if2 .left) _ (read-failure .ensures .1) (recover .result) _ (recover .ensures .0) (if3 .left) (recover .ensures .1 .1 .0) (recover .ensures .1 .1 .1 .0) S in
+    let w = recovered (args .text .now) (if1 .left) (replicate areaWords 0) (length-replicate {A = ℕ} areaWords 0) (read-failure .result) (read-failure .ensures .0) (if2 .left) _ (read-failure .ensures .1 .0) (recover .result) _ (recover .ensures .0) (if3 .left) (recover .ensures .1 .1 .0) (recover .ensures .1 .1 .1 .0) S in
     (search needs, w .1 .0, w .1 .1)
 
 returns-4 : tie.Need-returns-4
@@ -56,7 +56,7 @@ returns-4 c =
     let if2 = c .before .before .before .before .before .before .before .before .before .before .if2 in
     let put-recovery = c .before .before .put-recovery in
     let S = (recover .ensures .1 .1 .1 .1) (if3 .left) in
-    let w = recovered (args .text .now) (if1 .left) (replicate areaWords 0) (length-replicate {A = ℕ} areaWords 0) (read-failure .result) (read-failure .ensures .0) (if2 .left) _ (read-failure .ensures .1) (recover .result) _ (recover .ensures .0) (if3 .left) (recover .ensures .1 .1 .0) (recover .ensures .1 .1 .1 .0) S in
+    let w = recovered (args .text .now) (if1 .left) (replicate areaWords 0) (length-replicate {A = ℕ} areaWords 0) (read-failure .result) (read-failure .ensures .0) (if2 .left) _ (read-failure .ensures .1 .0) (recover .result) _ (recover .ensures .0) (if3 .left) (recover .ensures .1 .1 .0) (recover .ensures .1 .1 .1 .0) S in
     answered _ (args .text .now) _ _ _ (w .0) (put-recovery .ensures)
 
 pub report-spec : {M : Type 1} → statement M

@@ -4,7 +4,7 @@ use Prim.Native.Nat.{ℕ, _+_}
 use lib.ListN.{getD}
 use Rattle.theory.specs.Answers.{gather}
 use Rattle.recovery.specs.declared.Recovered.{Recovered}
-use Rattle.printing.specs.Bytes.{bytesOf}
+use Rattle.text.specs.Bytes.{bytesOf}
 use Rattle.printing.specs.Lines.{totalLine, keyOrphan, keyKept}
 use Rattle.printing.specs.Inner.Rows.{wordsRow}
 use Rattle.report.specs.Report.{processLineOf}

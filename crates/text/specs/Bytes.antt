@@ -4,6 +4,6 @@ use Prim.Native.Nat.{ℕ}
 use Prim.Native.Char.{code}
 use Prim.Native.String.{String, [] as empty, _∷_ as _then_}
 
-unfoldable pub bytesOf : String → List ℕ
+abbrev pub bytesOf : String → List ℕ
 bytesOf empty = []
 bytesOf (c then s) = code c ∷ bytesOf s
