@@ -41,7 +41,7 @@ fn first_line(epochs: &[u32], count: usize, set: u64, numbers: &mut [u32; 64])
 
 // The greatest permitted line without a lost message, for a failure of a set of processes right after event `cut`.
 // Leaves the epochs of the processes at the cut, and their phases at the line's restarts, or at the cut for those that
-// stay.
+// stay. What is lowered, process by process, is the line itself: its array is lent.
 pub fn greatest(full: &[u32], cut: usize, set: u64, epochs: &mut [u32], phases: &mut [u32]) -> Line
     requires { ⌜ (length (now epochs) ≡ 64) × (length (now phases) ≡ 64) × ((t : Trace) × (rule : Rule) × Sought t rule (now full) cut) ⌝ }
     ensures line { λ r. ⌜ ((t : Trace) (rule : Rule) → Marked t rule (now (full .entry)) → cut ≤ size t → r ≡ lineTo t (lineBy t rule cut set)) ⌝ }

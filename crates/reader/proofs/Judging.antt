@@ -1,6 +1,6 @@
 -- Laws of `judge`: one for each way out of the functions that judge a line, and what a line that is judged fit has.
 use Prim.Native.Nat.{ℕ, _<_, _≤_}
-use mathlib.Core.Path.{_≡_, refl, sym, _∙_}
+use mathlib.Core.Path.{_≡_, refl, sym, ap, _∙_}
 use mathlib.Core.List.{List}
 use mathlib.Core.Bool.{Bool, true, false, cond}
 use native.Mathlib.Omega.{arith}
@@ -117,9 +117,9 @@ unfit-event t e n h =
 -- an unfit line's number is 1 to 7
 pub unfit-number : (t : Trace) (x : Line) (n : ℕ) → judge t x ≡ Unfit n → (1 ≤ n) × (n ≤ 7)
 unfolding judge
-unfit-number t (line.the-variants.Procs m) n h = let q : _≡_ {A = ℕ} 1 n = cc in (omega arith, omega arith)
+unfit-number t (line.the-variants.Procs m) n h = let q = ap judgedNumber h in (omega (arith, q), omega (arith, q))
 unfit-number t (line.the-variants.Send a b v) n h = unfit-event t (Send a b v) n h
 unfit-number t (line.the-variants.Recv a b) n h = unfit-event t (Recv a b) n h
 unfit-number t (line.the-variants.Save a) n h = unfit-event t (Save a) n h
 unfit-number t (line.the-variants.Failure k m) n h = let z : _≡_ {A = ℕ} 0 1 = cc in absurd (let y : ⊥ = omega arith in y)
-unfit-number t line.the-variants.Malformed n h = let q : _≡_ {A = ℕ} 1 n = cc in (omega arith, omega arith)
+unfit-number t line.the-variants.Malformed n h = let q = ap judgedNumber h in (omega (arith, q), omega (arith, q))

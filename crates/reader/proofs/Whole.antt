@@ -18,7 +18,7 @@ use Rattle.lines.specs.declared.Line.{Line}
 use Rattle.lines.specs.Line.{kProcs, lineSaid, most, mostSet}
 use Rattle.reader.specs.Render.{renderEvents, render}
 use Rattle.lines.specs.Render.{renderFailure}
-use Rattle.reader.specs.Failure.{Failing, refused, failing, lastLine, failingOf, lastFailure}
+use Rattle.reader.specs.Failure.{Failing, refused, failing, lastLine, failingOf, lastFailure, failureAnswerOf}
 use Rattle.reader.specs.Verdict.{pieces, judge, Scan, linesFrom, firstLine, scanPieces, scan, Verdict, verdictOf, verdict}
 use Rattle.reader.proofs.Turns.{with-lf}
 use Rattle.lines.proofs.OneLine.{Says, failureText, failure-text, line-says, procs-line, failure-line}
@@ -226,15 +226,22 @@ pub taken-number : (text : List ℕ) (n k : ℕ) → Taken text (Scan.refused n 
 taken-number text n k (inl h) = wrong-number _ (h .rest) n (λ l w. miscount-number (lineSaid l) n w) (h .wrong)
 taken-number text n k (inr h) = wrong-number _ (h .rest) n (λ l w. unfit-number (h .last) (lineSaid l) n w) (h .wrong)
 
+-- of a refusal
+abbrev number : Failing → ℕ
+number f = failureAnswerOf f .number
+
+abbrev place : Failing → ℕ
+place f = failureAnswerOf f .place
+
 pub last-refused : (ls : List (List ℕ)) (k : ℕ) (t : Trace) (step set n j : ℕ) → lastLine ls k (failing t step set) ≡ refused n j
     → (n ≡ 1) × (k + 1 ≡ j) × (joined ls ≡ [] → ⊥)
 unfolding joined
 last-refused [] k t step set n j e = let z : _≡_ {A = ℕ} 0 1 = cc in absurd (let y : ⊥ = omega arith in y)
 last-refused ([] ∷ []) k t step set n j e = let z : _≡_ {A = ℕ} 0 1 = cc in absurd (let y : ⊥ = omega arith in y)
 last-refused ((b ∷ l) ∷ ls) k t step set n j e =
-    let y : _≡_ {A = ℕ} 1 n = cc in let z : k + 1 ≡ j = cc in (sym y, z, λ q. omega (arith, ap length (sym (joined-grow b l ls) ∙ q)))
+    (ap number (sym e), ap place e, λ q. omega (arith, ap length (sym (joined-grow b l ls) ∙ q)))
 last-refused ([] ∷ (l ∷ ls)) k t step set n j e =
-    let y : _≡_ {A = ℕ} 1 n = cc in let z : k + 1 ≡ j = cc in (sym y, z, λ q. omega (arith, ap length q))
+    (ap number (sym e), ap place e, λ q. omega (arith, ap length q))
 
 refused-of : (text : List ℕ) (n j : ℕ) (s : Scan) → Taken text s → failingOf s ≡ refused n j → (1 ≤ n) × (n ≤ 7)
 refused-of text n j (Scan.refused m k) h e = let y : m ≡ n = cc in let r = taken-number text m k h in (omega (arith, r .0), omega (arith, r .1))
