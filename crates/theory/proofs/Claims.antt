@@ -20,7 +20,8 @@ use Rattle.theory.specs.Epochs.{Rule, joined, epochAt, phaseAt, epochOf,
 use Rattle.theory.specs.Line.{inSet, Run, undone, lost, orphan, kept, orphanPhase, LossFree, restartIn, recorded, current, reached, Permitted, Greatest, lower, highest, greatestLine, usableAt, runAt}
 use Rattle.theory.specs.Inner.Lines.{Usable, Above}
 use Rattle.theory.specs.Replay.{State, ready}
-use Rattle.theory.specs.Inner.Record.{sentAgain, delivered, faultless, SameRecord}
+use Rattle.theory.specs.Record.{delivered, faultless, SameRecord}
+use Rattle.theory.specs.Inner.Record.{sentAgain}
 use Rattle.theory.specs.Order.{carriedOut, refused, choose, run, steps, mostSteps, Complete, complete, lowest, lowestOrder}
 use Rattle.theory.specs.Inner.Orders.{Allowed}
 use Rattle.theory.specs.Inner.Tests.{names, lossFree, sameRecord}
@@ -37,7 +38,7 @@ use Rattle.theory.proofs.Loss.{inv}
 use Rattle.theory.proofs.Epochs.{epoch-is, epochOf-at, phaseOf-send, logged-is, phase-recv, laws}
 use Rattle.theory.proofs.Lines.{now-is, now-few, usable-reached, stays-at, restart-epoch, restart-mono, number-of, lower-less}
 use Rattle.theory.proofs.Greatest.{highest-above, below-above, greatest-is, greatest-unique, floor-below}
-use Rattle.theory.proofs.Orders.{run-reaches, run-refused, complete-iff, order-iff, order-differs, order-progress, order-done, order-bound}
+use Rattle.theory.proofs.Orders.{run-reaches, run-refused, run-each, complete-iff, order-iff, order-differs, order-progress, order-done, order-bound}
 use Rattle.theory.proofs.Lowest.{lowest-some, lowest-iff, lowest-order}
 use Rattle.theory.proofs.Answers.{orphans-name, kept-name, lost-name, lost-none, lossFree-iff, sameRecord-iff, ready-iff}
 use Rattle.theory.proofs.Exact.{steps-within, exact-steps}
@@ -167,6 +168,11 @@ module _ (t : Trace) (w : wellFormed t ≡ true) (rule : Rule) where
       pub refused-place : (order : List ℕ) (i : ℕ) → run R order ≡ refused i
           → (m : ℕ) × (s : State) × (i ≡ suc m) × (m < length order) × (run R (take m order) ≡ carriedOut s) × (choose R s (getD order m 0) ≡ none)
       refused-place = run-refused R
+
+      -- "any order of choices from there, each allowed where it comes": these are carried out, and no others
+      pub each-allowed : (order : List ℕ) → ((s : State) × (run R order ≡ carriedOut s))
+          ↔ ((m : ℕ) → m < length order → (s : State) × (run R (take m order) ≡ carriedOut s) × Allowed R s (getD order m 0))
+      each-allowed = run-each R
 
       -- an order that is carried out, complete or not
       module _ (order : List ℕ) (s : State) (h : run R order ≡ carriedOut s) where
