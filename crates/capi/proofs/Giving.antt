@@ -24,7 +24,7 @@ use Rattle.messages.specs.Meaning.{Lists}
 use Rattle.writer.specs.Inner.Puts.{Puts}
 use Rattle.writer.specs.Buffer.{room, written}
 use Rattle.writer.proofs.Buffers.{then, same-bytes, whole}
-use Rattle.capi.specs.Answers.{restartNumbers, messagesNumbers, replayNumbers, lowestAnswer, ExactIn, LowestExactIn, AtMostIn, CarriesOutIn, CompletedIn, restartIn, RestartsIn, ListsIn, LowestEqualIn, EqualIn}
+use Rattle.capi.specs.Answers.{restartNumbers, messagesNumbers, replayNumbers, lowestAnswer, ExactIn, LowestExactIn, AtMostIn, CarriesOutIn, CompletedIn, restartGiven, RestartsIn, ListsIn, LowestEqualIn, EqualIn}
 
 pub answer-is : (vs ws before after : List ℕ) (next : ℕ) → vs ≡ ws → Puts vs before 0 after next → after ≡ written ws before
 answer-is vs ws before after next e h = whole ws before after next (same-bytes vs ws before after 0 next e h) .0
@@ -103,7 +103,7 @@ module _ (x : Restarted) (z : x .number ≡ 0) (n : Sized x) (rest : List ℕ) w
       ∙ append-assoc four (x .line .epochs) (x .epochs ++ (x .phases ++ rest))
 
   -- the restart that is read is the one whose numbers were written
-  restart-read : restartIn (restartNumbers x ++ rest) ≡ x
+  restart-read : restartGiven (restartNumbers x ++ rest) ≡ x
   restart-read =
       let a : take 64 after ≡ x .line .epochs = take-at (x .line .epochs) _ 64 (n .0) in
       let b : drop 64 after ≡ x .epochs ++ (x .phases ++ rest) = drop-at (x .line .epochs) _ 64 (n .0) in
@@ -111,8 +111,8 @@ module _ (x : Restarted) (z : x .number ≡ 0) (n : Sized x) (rest : List ℕ) w
       let d : drop 128 after ≡ x .phases ++ rest = sym (drop-drop 64 64 after) ∙ ap (drop 64) b ∙ drop-at (x .epochs) _ 64 (n .1) in
       let e : take 64 (drop 128 after) ≡ x .phases = ap (take 64) d ∙ take-at (x .phases) _ 64 (n .2) in
       let with : ℕ → Restarted = λ k. record { number = k; place = x .place; line = x .line; going = x .going; back = x .back; epochs = x .epochs; phases = x .phases } in
-      let f : restartIn (four ++ after) ≡ with 0 = rw (a, c, e) in
-      ap restartIn parts ∙ f ∙ ap with (sym z)
+      let f : restartGiven (four ++ after) ≡ with 0 = rw (a, c, e) in
+      ap restartGiven parts ∙ f ∙ ap with (sym z)
 
 pub restarts-in : (a : List ℕ) (step set : ℕ) (x : Restarted) (before answer : List ℕ) → x ≡ restartAnswer a step set → answer ≡ written (restartNumbers x) before
     → (x .number ≡ 0 → Restarts (held a) step set x) → RestartsIn a step set (x .number) answer
@@ -121,7 +121,7 @@ restarts-in a step set x before answer e w m z l =
     let k : length (restartNumbers x) ≡ 196 =
     omega (arith, length-append (four x z n [] ++ x .line .epochs ++ x .epochs) (x .phases), length-append (four x z n [] ++ x .line .epochs) (x .epochs), length-append (four x z n []) (x .line .epochs), n .0, n .1, n .2) in
     let room : length (restartNumbers x) ≤ length before = omega (arith, ap length w, written-length (restartNumbers x) before) in
-    let q : restartIn answer ≡ x = ap restartIn (w ∙ all-written (restartNumbers x) before room) ∙ restart-read x z n _ in
+    let q : restartGiven answer ≡ x = ap restartGiven (w ∙ all-written (restartNumbers x) before room) ∙ restart-read x z n _ in
     rw q (m z)
 
 first-four : (p o k l : ℕ) (before : List ℕ) (p′ o′ k′ l′ : ℕ) (rest : List ℕ) → p′ ∷ o′ ∷ k′ ∷ l′ ∷ rest ≡ written (p ∷ o ∷ k ∷ l ∷ []) before

@@ -88,8 +88,8 @@ CompletedIn a room step set l r answer =
 -- gets
 
 -- a restart, read from a slice that has room for all its numbers
-abbrev pub restartIn : List ℕ → Restarted
-restartIn answer =
+abbrev pub restartGiven : List ℕ → Restarted
+restartGiven answer =
     record {
       number = 0;
       place = getD answer 0 0;
@@ -102,7 +102,7 @@ restartIn answer =
 
 -- the line that is given is the greatest that loses no message, and those that go back are those that it says
 abbrev pub RestartsIn : List ℕ → ℕ → ℕ → ℕ → List ℕ → Type 0
-RestartsIn a step set r answer = r ≡ 0 → 196 ≤ length answer → Restarts (held a) step set (restartIn answer)
+RestartsIn a step set r answer = r ≡ 0 → 196 ≤ length answer → Restarts (held a) step set (restartGiven answer)
 
 -- the counts that are given are those of the messages that the run area w lists, and it lists what it says
 abbrev pub ListsIn : Run → ℕ → List ℕ → List ℕ → Type 0

@@ -130,25 +130,31 @@ module _ (R : Run) where
   unfolding run
   run-refused order i h = let r = refused-at (start R) 1 i order h in (r .0, r .1, omega (arith, r .2), r .3, r .4, r .5)
 
-  -- an order that is carried out: each choice is allowed in what those before it leave
-  allowed-at : (s t : State) (i : ℕ) (ns : List ℕ) → carry R s i ns ≡ carriedOut t → (m : ℕ) → m < length ns
-      → (u : State) × (carry R s i (take m ns) ≡ carriedOut u) × Allowed R u (getD ns m 0)
+  -- an order that is carried out: each choice is allowed in what those before it leave, and does its step
+  abbrev Steps : State → ℕ → List ℕ → ℕ → Type 0
+  Steps s i ns m =
+      (u v : State) × (carry R s i (take m ns) ≡ carriedOut u) × (choose R u (getD ns m 0) ≡ some v) × (carry R s i (take (suc m) ns) ≡ carriedOut v)
+
+  steps-at : (s t : State) (i : ℕ) (ns : List ℕ) → carry R s i ns ≡ carriedOut t → (m : ℕ) → m < length ns → Steps s i ns m
   unfolding carry
-  allowed-at s t i [] h m l = absurd (let z : ⊥ = omega arith in z)
-  allowed-at s t i (c ∷ ns) h m l = go (choose R s c) refl h m l (λ u k. allowed-at u t (suc i) ns k)
+  steps-at s t i [] h m l = absurd (let z : ⊥ = omega arith in z)
+  steps-at s t i (c ∷ ns) h m l = go (choose R s c) refl h m l (λ u k. steps-at u t (suc i) ns k)
     where
       go : (o : Option State) → choose R s c ≡ o → ifSome o (refused i) (λ u. carry R u (suc i) ns) ≡ carriedOut t → (m : ℕ) → m < suc (length ns)
-          → ((u : State) → carry R u (suc i) ns ≡ carriedOut t → (m : ℕ) → m < length ns
-          → (v : State) × (carry R u (suc i) (take m ns) ≡ carriedOut v) × Allowed R v (getD ns m 0))
-          → (v : State) × (carry R s i (take m (c ∷ ns)) ≡ carriedOut v) × Allowed R v (getD (c ∷ ns) m 0)
+          → ((u : State) → carry R u (suc i) ns ≡ carriedOut t → (m : ℕ) → m < length ns → Steps u (suc i) ns m) → Steps s i (c ∷ ns) m
       go none e k m l f = absurd (let z : _≡_ {A = ℕ} 0 1 = cc in omega arith)
-      go (some u) e k zero l f = (s, refl, (u, e))
-      go (some u) e k (suc m) l f = let r = f u k m (omega arith) in (r .0, rw e (r .1), r .2)
+      go (some u) e k zero l f = (s, u, refl, e, rw e)
+      go (some u) e k (suc m) l f = let r = f u k m (omega arith) in (r .0, r .1, rw e (r .2), r .3, rw e (r .4))
+
+  pub run-steps : (order : List ℕ) (s : State) → run R order ≡ carriedOut s → (m : ℕ) → m < length order
+      → (u v : State) × (run R (take m order) ≡ carriedOut u) × (choose R u (getD order m 0) ≡ some v) × (run R (take (suc m) order) ≡ carriedOut v)
+  unfolding run
+  run-steps order s h m l = steps-at (start R) s 1 order h m l
 
   pub run-each : (order : List ℕ) → ((s : State) × (run R order ≡ carriedOut s))
       ↔ ((m : ℕ) → m < length order → (s : State) × (run R (take m order) ≡ carriedOut s) × Allowed R s (getD order m 0))
   run-each order = (
-    λ r m l. unfold run in allowed-at (start R) (r .0) 1 order (unfold run in r .1) m l,
+    λ r m l. let g = run-steps order (r .0) (r .1) m l in (g .0, g .2, (g .1, g .3)),
     λ f. go f (run R order) refl,
   )
     where

@@ -1,0 +1,2 @@
+-- why they hold
+pub mod Numbers
