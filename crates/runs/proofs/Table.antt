@@ -7,6 +7,7 @@ use Prim.Native.Nat.{ℕ, _≤_}
 use Prim.Native.String.{String}
 use native.Mathlib.Omega.{arith}
 use lib.Count.{ones}
+use lib.Dec.{leb}
 use Rattle.words.specs.Area.{wordsFrom}
 use Rattle.text.specs.Key.{startsWith, fieldAt}
 use Rattle.text.specs.Number.{isDigit, pushed, digitsFrom, numberAt, lastDigits}
@@ -18,12 +19,12 @@ use Rattle.reader.specs.Failure.{lastFailure}
 use Rattle.reader.specs.Verdict.{pieces, faultHere, judgeEvent, judge, linesFrom, scanPieces, scan, Verdict, accepted, verdict}
 use Rattle.theory.specs.Inner.Tests.{two}
 use Rattle.theory.specs.Events.{size}
-use Rattle.theory.specs.Epochs.{ruleOf}
-use Rattle.theory.specs.Line.{inSet, Greatest, greatestLine, usableAt}
-use Rattle.theory.specs.Answers.{lineOf, Listed}
+use Rattle.theory.specs.Epochs.{Rule, ruleOf}
+use Rattle.theory.specs.Line.{inSet, LossFree, recorded, Greatest, greatestLine, usableAt}
+use Rattle.theory.specs.Answers.{lineOf, Listed, lostOnes}
 use Rattle.theory.specs.Refusals.{failureFault, permits, lineFault}
 use Rattle.theory.proofs.Runs.{opens}
-use Rattle.theory.proofs.Claims.{reached-usable, greatest-line, greatest-only}
+use Rattle.theory.proofs.Claims.{none-listed, reached-usable, greatest-line, greatest-only}
 use Rattle.recovery_line.specs.Given.{backOf}
 use Rattle.restart.specs.Restart.{engineLineOf, restartOf}
 use Rattle.printing.specs.Bytes.{bytesOf}
@@ -292,3 +293,23 @@ Lines =
 lines : Lines
 unfolding opens reads
 lines = (refl, refl, refl, refl, refl, refl)
+
+-- ---- "Misreadings"
+
+-- "Logging at equal epochs: the line of R2 would then lose nothing." By document 01's rule it loses message 2 from 0 to
+-- 1; by the rule that logs at equal epochs too it loses none
+abbrev pub atEqual : Rule
+atEqual p q k a b = leb a b
+
+abbrev lineR2 : ℕ → ℕ
+lineR2 = lineOf (32 ∷ 2 ∷ 32 ∷ [])
+
+abbrev pub EqualEpochs : Type 0
+EqualEpochs =
+    (lostOnes (recorded traceH (ruleOf traceH) 9 lineR2) ≡ message 0 1 2 2 ∷ [])
+    × (lostOnes (recorded traceH atEqual 9 lineR2) ≡ [])
+    × LossFree (recorded traceH atEqual 9 lineR2)
+
+pub equal-epochs : EqualEpochs
+unfolding opens
+equal-epochs = (refl, refl, none-listed traceH refl atEqual 9 (let c : 9 ≤ size traceH = omega arith in c) lineR2 .0 refl)
