@@ -7,7 +7,6 @@ use Prim.Native.Nat.{ℕ, _≤_}
 use Prim.Native.String.{String}
 use native.Mathlib.Omega.{arith}
 use lib.Count.{ones}
-use lib.Dec.{leb}
 use Rattle.words.specs.Area.{wordsFrom}
 use Rattle.text.specs.Key.{startsWith, fieldAt}
 use Rattle.text.specs.Number.{isDigit, pushed, digitsFrom, numberAt, lastDigits}
@@ -19,7 +18,7 @@ use Rattle.reader.specs.Failure.{lastFailure}
 use Rattle.reader.specs.Verdict.{pieces, faultHere, judgeEvent, judge, linesFrom, scanPieces, scan, Verdict, accepted, verdict}
 use Rattle.theory.specs.Inner.Tests.{two}
 use Rattle.theory.specs.Events.{size}
-use Rattle.theory.specs.Epochs.{Rule, ruleOf}
+use Rattle.theory.specs.Epochs.{ruleOf}
 use Rattle.theory.specs.Line.{inSet, LossFree, recorded, Greatest, greatestLine, usableAt}
 use Rattle.theory.specs.Answers.{lineOf, Listed, lostOnes}
 use Rattle.theory.specs.Refusals.{failureFault, permits, lineFault}
@@ -32,7 +31,7 @@ use Rattle.printing.specs.Inner.Texts.{linesOf}
 use Rattle.runs.specs.Texts.{linesH, linesL, linesS, linesT, linesFirst, failing, textH}
 use Rattle.report.specs.Report.{Answer, refused, given, Failure, failureOf, Recovery, recoveryOf, recovery, messageLines, printedOf, printed}
 use Rattle.printing.specs.Lines.{processLine, messageLine, totalLine, refusalLine}
-use Rattle.runs.specs.Answers.{recoveryIn, losses, Replayed, replay, exactStepsOf}
+use Rattle.runs.specs.Answers.{recoveryIn, losses, Replayed, replay, exactStepsOf, atEqual}
 
 -- all that a row computes with, beside what the theory's rows do: `opens`
 unfoldable pub reads : ℕ
@@ -298,9 +297,6 @@ lines = (refl, refl, refl, refl, refl, refl)
 
 -- "Logging at equal epochs: the line of R2 would then lose nothing." By document 01's rule it loses message 2 from 0 to
 -- 1; by the rule that logs at equal epochs too it loses none
-abbrev pub atEqual : Rule
-atEqual p q k a b = leb a b
-
 abbrev lineR2 : ℕ → ℕ
 lineR2 = lineOf (32 ∷ 2 ∷ 32 ∷ [])
 

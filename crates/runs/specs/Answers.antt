@@ -4,7 +4,9 @@ use mathlib.Core.List.{List}
 use mathlib.Core.Bool.{Bool}
 use Prim.Native.Nat.{ℕ}
 use lib.ListN.{length}
+use lib.Dec.{leb}
 use Rattle.words.specs.Area.{wordsFrom}
+use Rattle.theory.specs.Epochs.{Rule}
 use Rattle.theory.specs.Line.{Run, runAt}
 use Rattle.theory.specs.Order.{Outcome, carriedOut, run, steps, complete}
 use Rattle.theory.specs.Answers.{lineOf, Listed, lostOnes, exactSteps}
@@ -82,3 +84,8 @@ replay text l order = then (failureOf text) (λ f. unless (fault f l) (replayOf 
 
 unfoldable pub exactStepsOf : List ℕ → List ℕ → Answer ℕ
 exactStepsOf text l = then (failureOf text) (λ f. unless (fault f l) (given (exactSteps (runWith f l))))
+
+-- ---- "Misreadings": "Logging at equal epochs"
+
+abbrev pub atEqual : Rule
+atEqual p q k a b = leb a b
