@@ -4,22 +4,27 @@ use Prim.Native.Nat.{ℕ, _≤_}
 use mathlib.Core.Path.{_≡_}
 use mathlib.Core.Logic.{_↔_}
 use mathlib.Core.List.{List, [], _∷_, _++_}
-use lib.ListN.{length, getD}
-use Rattle.words.specs.Area.{wordsFrom}
+use lib.ListN.{length, getD, take, drop}
+use Rattle.words.specs.Area.{areaWords, wordsFrom}
 use mathlib.Core.Bool.{cond}
 use Rattle.reader.specs.declared.Answer.{Answer}
 use Rattle.reader.specs.declared.FailureAnswer.{FailureAnswer}
 use Rattle.rendering.specs.declared.WriteAnswer.{WriteAnswer}
 use Rattle.recovery_line.specs.declared.Line.{Line}
+use Rattle.table.specs.Held.{held}
+use Rattle.orders.specs.Record.{faultlessAt, listIn}
 use Rattle.orders.specs.declared.Replayed.{Replayed}
 use Rattle.theory.specs.Line.{Run, LossFree}
 use Rattle.theory.specs.Replay.{State}
+use Rattle.theory.specs.Record.{faultless}
 use Rattle.theory.specs.Order.{carriedOut, run, steps, mostSteps, Complete, lowestOrder}
 use Rattle.theory.specs.Answers.{exactSteps}
 use Rattle.preparing.specs.Faults.{runOf, lineFaultOf}
 use Rattle.recovery.specs.Answers.{replayAnswer, replayArea}
 use Rattle.restart.specs.declared.Restarted.{Restarted}
+use Rattle.restart.specs.Restart.{Restarts}
 use Rattle.messages.specs.declared.Counted.{Counted}
+use Rattle.messages.specs.Meaning.{Lists}
 
 -- a line from the slice of its numbers: its length is their count
 abbrev pub lineGiven : List ℕ → Line
@@ -78,3 +83,39 @@ abbrev pub CompletedIn : List ℕ → ℕ → ℕ → ℕ → Line → ℕ → L
 CompletedIn a room step set l r answer =
     lineFaultOf a room step set l ≡ 0
     → (r ≡ 0) × ((place n c : ℕ) (rest : List ℕ) → answer ≡ place ∷ n ∷ c ∷ rest → c ≡ 1)
+
+-- ---- Demands 2 and 3 (crates restart, messages, recovery: `Restarts`, `Lists`, `Equal`, `SameLists`), of what a caller
+-- gets
+
+-- a restart, read from a slice that has room for all its numbers
+abbrev pub restartGiven : List ℕ → Restarted
+restartGiven answer =
+    record {
+      number = 0;
+      place = getD answer 0 0;
+      line = record { epochs = take 64 (drop 4 answer); count = getD answer 1 0 };
+      going = getD answer 3 0;
+      back = getD answer 2 0;
+      epochs = take 64 (drop 68 answer);
+      phases = take 64 (drop 132 answer);
+    }
+
+-- the line that is given is the greatest that loses no message, and those that go back are those that it says
+abbrev pub RestartsIn : List ℕ → ℕ → ℕ → ℕ → List ℕ → Type 0
+RestartsIn a step set r answer = r ≡ 0 → 196 ≤ length answer → Restarts (held a) step set (restartGiven answer)
+
+-- the counts that are given are those of the messages that the run area w lists, and it lists what it says
+abbrev pub ListsIn : Run → ℕ → List ℕ → List ℕ → Type 0
+ListsIn R r answer w = (place o k l : ℕ) (rest : List ℕ) → r ≡ 0 → answer ≡ place ∷ o ∷ k ∷ l ∷ rest → Lists R o k l w
+
+-- a complete order leaves in the run area w the record of the run without failure exactly if the line loses no message:
+-- its words, and its lists on every channel; the lowest order is always complete
+abbrev pub LowestEqualIn : List ℕ → ℕ → Line → ℕ → List ℕ → Type 0
+LowestEqualIn a step l r w =
+    let R = runOf a step l in
+    r ≡ 0
+    → ((take areaWords w ≡ wordsFrom (faultlessAt (held a)) 0 areaWords) ↔ LossFree R)
+    × (((p q : ℕ) → listIn (held a) w p q ≡ faultless R p q) ↔ LossFree R)
+
+abbrev pub EqualIn : List ℕ → ℕ → Line → ℕ → List ℕ → List ℕ → Type 0
+EqualIn a step l r answer w = (place n : ℕ) (rest : List ℕ) → answer ≡ place ∷ n ∷ 1 ∷ rest → LowestEqualIn a step l r w

@@ -16,11 +16,11 @@ ghost use Rattle.rendering.specs.Write.{writeAnswer, writeBuffer};
 ghost use Rattle.rendering.specs.Meaning.{RoundTrip};
 ghost use Rattle.theory.specs.Order.{lowestOrder};
 ghost use Rattle.preparing.specs.Faults.{runOf};
-ghost use Rattle.recovery.specs.Answers.{replayAnswer, replayArea};
+ghost use Rattle.recovery.specs.Answers.{replayAnswer, replayArea, Recorded};
 ghost use Rattle.messages.specs.Messages.{messagesAnswer, messagesArea};
 ghost use Rattle.restart.specs.Restart.{restartAnswer};
 ghost use Rattle.report.specs.Report.{printed, StepsPrinted, reportBytes};
-ghost use Rattle.capi.specs.Answers.{lineGiven, readNumbers, failureNumbers, writeNumbers, restartNumbers, messagesNumbers, replayNumbers, lowestAnswer, lowestArea, ExactIn, LowestExactIn, AtMostIn, CarriesOutIn, CompletedIn};
+ghost use Rattle.capi.specs.Answers.{lineGiven, readNumbers, failureNumbers, writeNumbers, restartNumbers, messagesNumbers, replayNumbers, lowestAnswer, lowestArea, ExactIn, LowestExactIn, AtMostIn, CarriesOutIn, CompletedIn, RestartsIn, ListsIn, LowestEqualIn, EqualIn};
 use orders::Replayed;
 use recovery_line::Line;
 use restart::Restarted;
@@ -191,6 +191,7 @@ fn put_restart(answer: &mut [u64], r: Restarted) -> usize
 pub extern "C" fn hallback_restart(table: &[u32], step: u64, set: u64, answer: &mut [u64]) -> u32
     ensures number { λ r. ⌜ r ≡ restartAnswer (now (table .entry)) step set .number ⌝ }
     ensures numbers { λ _. ⌜ now (answer .exit) ≡ written (restartNumbers (restartAnswer (now (table .entry)) step set)) (now (answer .entry)) ⌝ }
+    ensures means { λ r. ⌜ RestartsIn (now (table .entry)) step set r (now (answer .exit)) ⌝ }
 {
     let r = restart::restart(table, step, set);
     put_restart(answer, r);
@@ -210,6 +211,7 @@ pub extern "C" fn hallback_messages(
     ensures number { λ r. ⌜ r ≡ messagesAnswer (now (table .entry)) (now (run .entry)) step set (lineGiven (now (line .entry))) .number ⌝ }
     ensures words { λ _. ⌜ now (run .exit) ≡ messagesArea (now (table .entry)) (now (run .entry)) step set (lineGiven (now (line .entry))) ⌝ }
     ensures numbers { λ _. ⌜ now (answer .exit) ≡ written (messagesNumbers (messagesAnswer (now (table .entry)) (now (run .entry)) step set (lineGiven (now (line .entry))))) (now (answer .entry)) ⌝ }
+    ensures means { λ r. ⌜ ListsIn (runOf (now (table .entry)) step (lineGiven (now (line .entry)))) r (now (answer .exit)) (now (run .exit)) ⌝ }
 {
     let c = messages::messages(table, step, set, line_from(line), run);
     put_four(
@@ -245,6 +247,8 @@ pub extern "C" fn hallback_replay(
     ensures exact { λ r. ⌜ ExactIn (runOf (now (table .entry)) step (lineGiven (now (line .entry)))) r (now (answer .exit)) ⌝ }
     ensures at_most { λ _. ⌜ AtMostIn (runOf (now (table .entry)) step (lineGiven (now (line .entry)))) (now (answer .exit)) ⌝ }
     ensures carried { λ r. ⌜ CarriesOutIn (runOf (now (table .entry)) step (lineGiven (now (line .entry)))) (now (order .entry)) r (now (answer .exit)) ⌝ }
+    ensures equal { λ r. ⌜ EqualIn (now (table .entry)) step (lineGiven (now (line .entry))) r (now (answer .exit)) (now (run .exit)) ⌝ }
+    ensures recorded { λ r. ⌜ Recorded (now (table .entry)) step (lineGiven (now (line .entry))) (now (order .entry)) r (now (run .exit)) ⌝ }
 {
     let r = recovery::replay(table, step, set, line_from(line), order, run);
     put_replayed(answer, r);
@@ -268,6 +272,8 @@ pub extern "C" fn hallback_lowest(
     ensures at_most { λ _. ⌜ AtMostIn (runOf (now (table .entry)) step (lineGiven (now (line .entry)))) (now (answer .exit)) ⌝ }
     ensures carried { λ r. ⌜ CarriesOutIn (runOf (now (table .entry)) step (lineGiven (now (line .entry)))) (lowestOrder (runOf (now (table .entry)) step (lineGiven (now (line .entry))))) r (now (answer .exit)) ⌝ }
     ensures completed { λ r. ⌜ CompletedIn (now (table .entry)) (length (now (run .entry))) step set (lineGiven (now (line .entry))) r (now (answer .exit)) ⌝ }
+    ensures equal { λ r. ⌜ LowestEqualIn (now (table .entry)) step (lineGiven (now (line .entry))) r (now (run .exit)) ⌝ }
+    ensures recorded { λ r. ⌜ Recorded (now (table .entry)) step (lineGiven (now (line .entry))) (lowestOrder (runOf (now (table .entry)) step (lineGiven (now (line .entry))))) r (now (run .exit)) ⌝ }
 {
     let r = recovery::lowest(table, step, set, line_from(line), run);
     put_replayed(answer, r);

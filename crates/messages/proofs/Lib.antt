@@ -1,1 +1,4 @@
+pub mod Rows
+pub mod Order
+pub mod Meaning
 pub mod Listing

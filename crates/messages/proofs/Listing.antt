@@ -1,14 +1,16 @@
 -- The list of the messages, from a full table and gates to the run area.
 use Prim.Native.Nat.{ℕ, _+_, _<_, _≤_}
-use mathlib.Core.Path.{_≡_, ap, _∙_}
+use mathlib.Core.Path.{_≡_, refl, sym, ap, _∙_}
 use mathlib.Core.List.{List, _++_}
 use native.Mathlib.Omega.{arith}
 use lib.ListN.{length, getD, take, drop, replicate, length-replicate, length-append, List·getD-append}
 use lib.Seq.{length-take-le, take-at, drop-at}
 use borrow.Author.Tests.{ne-eqb}
 use Rattle.words.specs.Area.{areaWords, wordsFrom}
-use Rattle.words.proofs.Area.{length-words, getD-words}
+use Rattle.words.proofs.Area.{length-words, words-at}
 use Rattle.theory.specs.Line.{Run}
+use Rattle.theory.specs.Answers.{orphans, keptOnes, lostOnes}
+use Rattle.theory.specs.Inner.Laws.{Laws}
 use Rattle.listing.specs.Listing.{listWord}
 use Rattle.listing.proofs.Whole.{rows-few}
 use Rattle.recovery_line.specs.declared.Line.{Line}
@@ -16,6 +18,8 @@ use Rattle.columns.specs.Inner.Given.{Given}
 use Rattle.messages.specs.declared.Counted.{Counted}
 use Rattle.preparing.specs.Faults.{runOf, lineFaultOf}
 use Rattle.messages.specs.Messages.{countsOf, messagesRefusal, messagesAnswer, messagesArea}
+use Rattle.messages.specs.Meaning.{Lists}
+use Rattle.messages.proofs.Meaning.{lists-mean}
 
 -- ---- Words that are cleared
 
@@ -40,7 +44,7 @@ module _ (area z : List ℕ) (n : areaWords ≤ length area) (q : z ≡ replicat
 
 module _ (R : Run) (cut : ℕ) (full gates : List ℕ) (G : Given R cut full gates) (w : List ℕ) (e : w ≡ wordsFrom (listWord R) 0 areaWords) where
   word-is : (k : ℕ) → k < 16384 → getD w k 0 ≡ listWord R k
-  word-is k h = ap (λ (x : List ℕ). getD x k 0) e ∙ getD-words (listWord R) 0 16384 k h ∙ ap (listWord R) (let q : 0 + k ≡ k = omega arith in q)
+  word-is k h = ap (λ (x : List ℕ). getD x k 0) e ∙ words-at (listWord R) 16384 k h
 
   -- the counts, as they stand in the list
   pub counted : record { number = 0; place = 0; orphans = getD w 0 0; kept = getD w 1 0; lost = getD w 2 0 } ≡ countsOf R
@@ -54,16 +58,30 @@ module _ (R : Run) (cut : ℕ) (full gates : List ℕ) (G : Given R cut full gat
 module _ (a area : List ℕ) (step set : ℕ) (l : Line) where
   abbrev pub Listed : Counted → List ℕ → Type 0
   Listed r w =
-      (r ≡ messagesAnswer a area step set l) × ((w ≡ messagesArea a area step set l) × (r .orphans + (r .kept + r .lost) ≤ 2048))
+      (r ≡ messagesAnswer a area step set l)
+      × ((w ≡ messagesArea a area step set l)
+      × ((r .orphans + (r .kept + r .lost) ≤ 2048) × (r .number ≡ 0 → Lists (runOf a step l) (r .orphans) (r .kept) (r .lost) w)))
 
   pub refuses-messages : (n : ℕ) (r : Counted) → n ≡ lineFaultOf a (length area) step set l → (n ≡ 0 → ⊥) → r ≡ messagesRefusal n → Listed r area
   unfolding messagesAnswer messagesArea
-  refuses-messages n r f z e = (e ∙ rw (← f, ne-eqb n 0 z), (rw (← f, ne-eqb n 0 z), rw e (omega arith)))
+  refuses-messages n r f z e =
+      (e ∙ rw (← f, ne-eqb n 0 z), (rw (← f, ne-eqb n 0 z), (rw e (omega arith), λ h. absurd (z (sym (ap (λ (x : Counted). x .number) e) ∙ h)))))
 
-  pub lists : (n : ℕ) (r : Counted) (w : List ℕ) → n ≡ lineFaultOf a (length area) step set l → n ≡ 0 → r ≡ countsOf (runOf a step l)
+  -- the words of the list, in the area
+  listed-front : (w : List ℕ) → w ≡ wordsFrom (listWord (runOf a step l)) 0 areaWords
+      → (k : ℕ) → k < 16384 → getD (w ++ drop areaWords area) k 0 ≡ listWord (runOf a step l) k
+  listed-front w e k h =
+      let g = listWord (runOf a step l) in
+      ap (λ (x : List ℕ). getD (x ++ drop 16384 area) k 0) e ∙ List·getD-append (wordsFrom g 0 16384) (drop 16384 area) 0 k (rw (length-words g 0 16384) h)
+      ∙ words-at g 16384 k h
+
+  pub lists : Laws (runOf a step l) → (n : ℕ) (r : Counted) (w : List ℕ) → n ≡ lineFaultOf a (length area) step set l → n ≡ 0 → r ≡ countsOf (runOf a step l)
       → w ≡ wordsFrom (listWord (runOf a step l)) 0 areaWords → r .orphans + (r .kept + r .lost) ≤ 2048 → Listed r (w ++ drop areaWords area)
   unfolding messagesAnswer messagesArea
-  lists n r w f z e q few = (e ∙ rw (← f, z), (ap (λ (x : List ℕ). x ++ drop 16384 area) q ∙ rw (← f, z), few))
+  lists L n r w f z e q few =
+      let R = runOf a step l in
+      let room : length (orphans R) + (length (keptOnes R) + length (lostOnes R)) ≤ 2048 = rw e at few in
+      (e ∙ rw (← f, z), (ap (λ (x : List ℕ). x ++ drop 16384 area) q ∙ rw (← f, z), (few, λ h. rw e (lists-mean R L (w ++ drop 16384 area) (listed-front w q) room))))
 
   -- what `messages` answers and leaves where nothing is wrong
   module _ (ok : lineFaultOf a (length area) step set l ≡ 0) where
@@ -76,5 +94,4 @@ module _ (a area : List ℕ) (step set : ℕ) (l : Line) where
     listed-at w e k h =
         let g = listWord (runOf a step l) in
         let q : w ≡ wordsFrom g 0 16384 ++ drop 16384 area = e ∙ rw ok in
-        ap (λ (x : List ℕ). getD x k 0) q ∙ List·getD-append (wordsFrom g 0 16384) (drop 16384 area) 0 k (rw (length-words g 0 16384) h)
-        ∙ getD-words g 0 16384 k h ∙ ap g (let z : 0 + k ≡ k = omega arith in z)
+        ap (λ (x : List ℕ). getD x k 0) q ∙ listed-front (wordsFrom g 0 16384) refl k h

@@ -1,6 +1,6 @@
 // The orphans, the kept and the lost messages of a line, counted, and listed in the run area. specs/Messages says what
-// `messages` answers and leaves for every input. It has no `requires`; `list_from` is the step of it that
-// `recovery::recover` takes too. Assumes nothing.
+// `messages` answers and leaves for every input, specs/Meaning what that means (demand 2). It has no `requires`;
+// `list_from` is the step of it that `recovery::recover` takes too. Assumes nothing.
 ghost use mathlib.Core.Path.{_≡_};
 ghost use Prim.Native.Nat.{_+_, _≤_};
 ghost use lib.ListN.{replicate};
@@ -8,7 +8,9 @@ ghost use Rattle.words.specs.Area.{areaWords, wordsFrom};
 ghost use Rattle.theory.specs.Line.{Run};
 ghost use Rattle.listing.specs.Listing.{listWord};
 ghost use Rattle.columns.specs.Inner.Given.{Given};
+ghost use Rattle.preparing.specs.Faults.{runOf};
 ghost use Rattle.messages.specs.Messages.{countsOf, messagesRefusal, messagesAnswer, messagesArea};
+ghost use Rattle.messages.specs.Meaning.{Lists};
 use columns::FULL_WORDS;
 use columns::GATE_WORDS;
 use recovery_line::Line;
@@ -58,6 +60,7 @@ pub fn messages(table: &[u32], step: u64, set: u64, line: Line, area: &mut [u32]
     ensures answer { λ r. ⌜ r ≡ messagesAnswer (now (table .entry)) (now (area .entry)) step set line ⌝ }
     ensures words { λ _. ⌜ now (area .exit) ≡ messagesArea (now (table .entry)) (now (area .entry)) step set line ⌝ }
     ensures few { λ r. ⌜ r .orphans + (r .kept + r .lost) ≤ 2048 ⌝ }
+    ensures means { λ r. ⌜ (r .number ≡ 0 → Lists (runOf (now (table .entry)) step line) (r .orphans) (r .kept) (r .lost) (now (area .exit))) ⌝ }
 {
     let mut full = [0u32; FULL_WORDS];
     let mut gates = [0u32; GATE_WORDS];

@@ -19,7 +19,7 @@ use Rattle.theory.specs.Lists.{iv}
 use Rattle.theory.specs.Events.{Kind, send, recv, other, size, eventAt, at, kind, rcvd, value}
 use Rattle.theory.specs.Line.{Run, LossFree}
 use Rattle.theory.specs.Replay.{State}
-use Rattle.theory.specs.Inner.Record.{entry, delivered, faultless, SameRecord}
+use Rattle.theory.specs.Record.{entry, delivered, faultless, SameRecord}
 use Rattle.theory.specs.Order.{carriedOut, run, complete}
 use Rattle.theory.specs.Inner.Laws.{Laws}
 use Rattle.theory.proofs.Base.{by, on, le?, both, length-iv}
@@ -33,7 +33,7 @@ use Rattle.links.proofs.Matches.{getD-iv, getD-map, getD-past}
 
 -- ---- Words by a rule
 
-words-cong : (f g : ℕ → ℕ) (n : ℕ) → ((k : ℕ) → k < n → f k ≡ g k) → wordsFrom f 0 n ≡ wordsFrom g 0 n
+pub words-cong : (f g : ℕ → ℕ) (n : ℕ) → ((k : ℕ) → k < n → f k ≡ g k) → wordsFrom f 0 n ≡ wordsFrom g 0 n
 words-cong f g n h =
     words-ext g n (wordsFrom f 0 n) (length-words f 0 n)
     (λ k l. getD-words f 0 n k l ∙ ap f (let e : 0 + k ≡ k = omega arith in e) ∙ h k l)

@@ -1,10 +1,13 @@
 -- What a replay leaves in the run area: the record. Word e the number, word takenBase + e the value of the message that
 -- receive e took; the rest 0. Definitions only.
-use Prim.Native.Nat.{ℕ, _-_}
+use Prim.Native.Nat.{ℕ, _+_, _-_}
 use lib.Dec.{ltb}
+use lib.ListN.{getD}
 use Rattle.trace.specs.Trace.{Trace, valueOf}
-use mathlib.Core.Bool.{cond}
-use Rattle.theory.specs.Events.{Kind, send, recv, other, eventAt, at, kind, rcvd, sendOf}
+use mathlib.Core.Bool.{_&&_, cond}
+use mathlib.Core.List.{List, map}
+use Rattle.theory.specs.Lists.{iv, keep}
+use Rattle.theory.specs.Events.{Kind, send, recv, other, size, eventAt, at, kind, recvs, rcvd, sendOf}
 use Rattle.theory.specs.Line.{Run}
 use Rattle.theory.specs.Replay.{State}
 use Rattle.machine.specs.Taken.{takenBase, recordEnd, takenNumber, takenValue}
@@ -30,3 +33,9 @@ module _ (t : Trace) where
   faultlessAt k =
       cond (ltb k takenBase) (receivedNumber k (kind t k))
       (cond (ltb k recordEnd) (receivedValue (k - takenBase) (kind t (k - takenBase))) 0)
+
+  -- "The delivery record has one list for each channel: number and value of each message its receiver received there,
+  -- in that order.": the list of a channel, read from the words of a run area. A receive that took no message has
+  -- number 0.
+  unfoldable pub listIn : List ℕ → ℕ → ℕ → List (ℕ × ℕ)
+  listIn w p q = map (λ e. (getD w e 0, getD w (takenBase + e) 0)) (keep (λ e. recvs t p q e && ltb 0 (getD w e 0)) (iv 0 (size t)))

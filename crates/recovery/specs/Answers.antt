@@ -12,10 +12,11 @@ use Rattle.words.specs.Area.{areaWords, wordsFrom}
 use Rattle.table.specs.Held.{held}
 use Rattle.theory.specs.Line.{LossFree}
 use Rattle.theory.specs.Replay.{State}
+use Rattle.theory.specs.Record.{delivered, faultless}
 use Rattle.theory.specs.Order.{carriedOut, run, steps, mostSteps, Complete, lowestOrder}
 use Rattle.theory.specs.Answers.{exactSteps}
 use Rattle.recovery_line.specs.declared.Line.{Line}
-use Rattle.orders.specs.Record.{faultlessAt}
+use Rattle.orders.specs.Record.{faultlessAt, listIn}
 use Rattle.orders.specs.declared.Replayed.{Replayed}
 use Rattle.orders.specs.Answer.{answerOf, wordsOf}
 use Rattle.preparing.specs.Faults.{runOf, lineFaultOf}
@@ -38,6 +39,20 @@ replayArea a area step set l order =
 abbrev pub Equal : List ℕ → ℕ → Line → Replayed → List ℕ → Type 0
 Equal a step l r w =
     r .number ≡ 0 → r .complete ≡ true → (take areaWords w ≡ wordsFrom (faultlessAt (held a)) 0 areaWords) ↔ LossFree (runOf a step l)
+
+-- "An accepted replay leaves in the run area the record of the order it carried out, complete or not, from a line with
+-- loss or without.": an order whose answer has the number n, 0, is carried out, and the lists read from the area are
+-- those of the state that it comes to, on every channel.
+abbrev pub Recorded : List ℕ → ℕ → Line → List ℕ → ℕ → List ℕ → Type 0
+Recorded a step l order n w =
+    let R = runOf a step l in
+    n ≡ 0 → (s : State) × (run R order ≡ carriedOut s) × ((p q : ℕ) → listIn (held a) w p q ≡ delivered R s p q)
+
+-- Demand 3 by lists: "Equal is the same numbers and values in the same order on every channel."
+abbrev pub SameLists : List ℕ → ℕ → Line → Replayed → List ℕ → Type 0
+SameLists a step l r w =
+    let R = runOf a step l in
+    r .number ≡ 0 → r .complete ≡ true → ((p q : ℕ) → listIn (held a) w p q ≡ faultless R p q) ↔ LossFree R
 
 -- An order that is not refused was carried out: "Steps is the length of the order carried out", and the answer says
 -- whether it is complete, "when no choice is allowed".

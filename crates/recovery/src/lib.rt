@@ -11,9 +11,10 @@ ghost use Rattle.theory.specs.Order.{lowestOrder};
 ghost use Rattle.theory.specs.Epochs.{ruleOf};
 ghost use Rattle.columns.specs.Inner.Given.{Marked};
 ghost use Rattle.preparing.specs.Faults.{runOf};
-ghost use Rattle.recovery.specs.Answers.{refusal, replayAnswer, replayArea, Equal, CarriesOut, StepsExact, StepsAtMost, Completed};
+ghost use Rattle.recovery.specs.Answers.{refusal, replayAnswer, replayArea, Equal, Recorded, SameLists, CarriesOut, StepsExact, StepsAtMost, Completed};
 ghost use Rattle.recovery.specs.Inner.Recovering.{Recovering, recoverRefusal};
 ghost use Rattle.messages.specs.Messages.{messagesAnswer, messagesArea};
+ghost use Rattle.messages.specs.Meaning.{Lists};
 ghost use Rattle.recovery.specs.Recover.{Succeeds};
 ghost use Rattle.restart.specs.Restart.{restartAnswer};
 use columns::FULL_WORDS;
@@ -51,6 +52,8 @@ pub fn replay(
     ensures exact { λ r. ⌜ StepsExact (now (table .entry)) step line r ⌝ }
     ensures at_most { λ r. ⌜ StepsAtMost (now (table .entry)) step line r ⌝ }
     ensures carried { λ r. ⌜ CarriesOut (now (table .entry)) step line (now (order .entry)) r ⌝ }
+    ensures recorded { λ r. ⌜ Recorded (now (table .entry)) step line (now (order .entry)) (r .number) (now (area .exit)) ⌝ }
+    ensures same_lists { λ r. ⌜ SameLists (now (table .entry)) step line r (now (area .exit)) ⌝ }
 {
     let mut full = [0u32; FULL_WORDS];
     let mut gates = [0u32; GATE_WORDS];
@@ -70,6 +73,8 @@ pub fn lowest(table: &[u32], step: u64, set: u64, line: Line, area: &mut [u32]) 
     ensures at_most { λ r. ⌜ StepsAtMost (now (table .entry)) step line r ⌝ }
     ensures carried { λ r. ⌜ CarriesOut (now (table .entry)) step line (lowestOrder (runOf (now (table .entry)) step line)) r ⌝ }
     ensures completed { λ r. ⌜ Completed (now (table .entry)) (length (now (area .entry))) step set line r ⌝ }
+    ensures recorded { λ r. ⌜ Recorded (now (table .entry)) step line (lowestOrder (runOf (now (table .entry)) step line)) (r .number) (now (area .exit)) ⌝ }
+    ensures same_lists { λ r. ⌜ SameLists (now (table .entry)) step line r (now (area .exit)) ⌝ }
 {
     let mut full = [0u32; FULL_WORDS];
     let mut gates = [0u32; GATE_WORDS];
@@ -127,6 +132,7 @@ pub fn recover(table: &mut [u32], step: u64, set: u64) -> Recovered
     ensures messages { λ r. ⌜ r .counted ≡ messagesAnswer (now (table .entry)) (now (table .entry)) step set (r .restarted .line) ⌝ }
     ensures words { λ r. ⌜ now (table .exit) ≡ messagesArea (now (table .entry)) (now (table .entry)) step set (r .restarted .line) ⌝ }
     ensures means { λ r. ⌜ (r .restarted .number ≡ 0 → Succeeds (now (table .entry)) step set r) ⌝ }
+    ensures lists { λ r. ⌜ (r .counted .number ≡ 0 → Lists (runOf (now (table .entry)) step (r .restarted .line)) (r .counted .orphans) (r .counted .kept) (r .counted .lost) (now (table .exit))) ⌝ }
 {
     let mut full = [0u32; FULL_WORDS];
     let fault = preparing::open_failure(table, AREA_WORDS, step, set, &mut full);

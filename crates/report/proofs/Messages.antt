@@ -5,14 +5,13 @@ use mathlib.Core.List.{List, [], _∷_, _++_, map, append-assoc, append-nil}
 use native.Mathlib.Omega.{arith}
 use lib.ListN.{length, getD}
 use Prim.Native.String.{String}
-use borrow.Author.Tests.{ne-eqb}
 use Rattle.theory.specs.Lists.{iv, keep}
 use Rattle.theory.specs.Events.{size, sent}
 use Rattle.theory.specs.Line.{Run}
 use Rattle.theory.specs.Answers.{Listed, gather, messages, orphans, keptOnes, lostOnes}
-use Rattle.listing.specs.Listing.{Row, rowOf, rowWord, rowsOf, listWord}
-use Rattle.listing.proofs.Laying.{row-words, row-numbers, row-phases}
+use Rattle.listing.specs.Listing.{rowOf, listWord}
 use Rattle.listing.proofs.Channels.{gather-cong}
+use Rattle.messages.proofs.Rows.{blank, At, orphans-at, kept-at}
 use Rattle.text.specs.Bytes.{bytesOf}
 use Rattle.printing.specs.Lines.{messageLine, keyOrphan, keyKept}
 use Rattle.report.specs.Report.{messageLines}
@@ -26,10 +25,6 @@ gather-first : {A : Type 0} (f : ℕ → List A) (n : ℕ) → gather f (suc n) 
 unfolding gather
 gather-first f zero = sym (append-nil (f 0))
 gather-first f (suc n) = ap (λ (x : List _). x ++ f (suc n)) (gather-first f n) ∙ append-assoc (f 0) (gather (λ i. f (suc i)) n) (f (suc n))
-
--- no message: what stands past the end of a list
-abbrev pub blank : Listed
-blank = record { from = 0; to = 0; number = 0; phase = 0 }
 
 abbrev lineAt : String → List Listed → ℕ → List ℕ
 lineAt key ms i = messageLine key (getD ms i blank .from) (getD ms i blank .to) (getD ms i blank .number) (getD ms i blank .phase)
@@ -76,23 +71,6 @@ messages-small R n f phase =
 
 -- ---- Rows
 
-pub front-row : (f : Row → ℕ) (class : ℕ) (ms : List Listed) (rest : List Row) (i : ℕ) → i < length ms
-    → getD (map f (map (rowOf class) ms ++ rest)) i 0 ≡ f (rowOf class (getD ms i blank))
-front-row f class [] rest i h = absurd (let y : ⊥ = omega arith in y)
-front-row f class (m ∷ ms) rest zero h = refl
-front-row f class (m ∷ ms) rest (suc i) h = front-row f class ms rest i (omega arith)
-
-pub later-row : (f : Row → ℕ) (class : ℕ) (ms : List Listed) (rest : List Row) (i : ℕ) → getD (map f (map (rowOf class) ms ++ rest)) (length ms + i) 0 ≡ getD (map f rest) i 0
-later-row f class [] rest i = ap (λ (j : ℕ). getD (map f rest) j 0) (let q : 0 + i ≡ i = omega arith in q)
-later-row f class (m ∷ ms) rest i =
-    ap (λ (j : ℕ). getD (map f (map (rowOf class) (m ∷ ms) ++ rest)) j 0) (let q : suc (length ms) + i ≡ suc (length ms + i) = omega arith in q) ∙ later-row f class ms rest i
-
--- the words of message i of a list `ms`, in a run area where it stands after `before` others
-pub record At (run : List ℕ) (before class : ℕ) (ms : List Listed) : Type 0 where
-  pub word : (i : ℕ) → i < length ms → getD run (17 + (before + i)) 0 ≡ rowOf class (getD ms i blank) .word
-  pub number : (i : ℕ) → i < length ms → getD run (2066 + (before + i)) 0 ≡ getD ms i blank .number
-  pub phase : (i : ℕ) → i < length ms → getD run (4115 + (before + i)) 0 ≡ getD ms i blank .phase
-
 row-line : (k : List ℕ) (key : String) (class w number phase : ℕ) (m : Listed) → k ≡ bytesOf key → Small m
     → w ≡ rowOf class m .word → number ≡ m .number → phase ≡ m .phase → wordsRow k w number phase ≡ messageLine key (m .from) (m .to) (m .number) (m .phase)
 row-line k key class w number phase m hk s hw hn hp =
@@ -113,42 +91,8 @@ lines-are k key run before class ms hk s h =
 
 module _ (R : Run) (few : R .trace .procs ≤ 64) (run : List ℕ) (words : (k : ℕ) → k < 16384 → getD run k 0 ≡ listWord R k)
     (room : length (orphans R) + (length (keptOnes R) + length (lostOnes R)) ≤ 2048) where
-  row-at : (k : ℕ) → 17 ≤ k → k < 16384 → getD run k 0 ≡ rowWord (rowsOf R) k
-  unfolding listWord
-  row-at k a b = words k b ∙ rw (ne-eqb k 0 (λ e. omega arith), ne-eqb k 1 (λ e. omega arith), ne-eqb k 2 (λ e. omega arith))
-
-  pub word-in : (j : ℕ) → j < 2048 → getD run (17 + j) 0 ≡ getD (map (λ r. r .word) (rowsOf R)) j 0
-  word-in j h = row-at (17 + j) (omega arith) (omega arith) ∙ row-words (rowsOf R) (17 + j) j refl (omega arith)
-
-  pub number-in : (j : ℕ) → j < 2048 → getD run (2066 + j) 0 ≡ getD (map (λ r. r .number) (rowsOf R)) j 0
-  number-in j h = row-at (2066 + j) (omega arith) (omega arith) ∙ row-numbers (rowsOf R) (2066 + j) j refl (omega arith)
-
-  pub phase-in : (j : ℕ) → j < 2048 → getD run (4115 + j) 0 ≡ getD (map (λ r. r .phase) (rowsOf R)) j 0
-  phase-in j h = row-at (4115 + j) (omega arith) (omega arith) ∙ row-phases (rowsOf R) (4115 + j) j refl
-
-  abbrev rest₁ : List Row
-  rest₁ = map (rowOf 2) (keptOnes R) ++ map (rowOf 3) (lostOnes R)
-
-  pub orphan-row : (f : Row → ℕ) (i : ℕ) → i < length (orphans R) → getD (map f (rowsOf R)) (0 + i) 0 ≡ f (rowOf 1 (getD (orphans R) i blank))
-  unfolding rowsOf
-  orphan-row f i h = ap (λ (j : ℕ). getD (map f (map (rowOf 1) (orphans R) ++ rest₁)) j 0) (let q : 0 + i ≡ i = omega arith in q) ∙ front-row f 1 (orphans R) rest₁ i h
-
-  pub kept-row : (f : Row → ℕ) (i : ℕ) → i < length (keptOnes R) → getD (map f (rowsOf R)) (length (orphans R) + i) 0 ≡ f (rowOf 2 (getD (keptOnes R) i blank))
-  unfolding rowsOf
-  kept-row f i h = later-row f 1 (orphans R) rest₁ i ∙ front-row f 2 (keptOnes R) (map (rowOf 3) (lostOnes R)) i h
-
   pub orphan-lines : (k : List ℕ) → k ≡ bytesOf keyOrphan → gather (messageRow k run 0) (length (orphans R)) ≡ messageLines keyOrphan (orphans R)
-  orphan-lines k e = lines-are k keyOrphan run 0 1 (orphans R) e (messages-small R few _ _)
-      (record {
-        word = λ i h. word-in (0 + i) (omega arith) ∙ orphan-row (λ r. r .word) i h;
-        number = λ i h. number-in (0 + i) (omega arith) ∙ orphan-row (λ r. r .number) i h;
-        phase = λ i h. phase-in (0 + i) (omega arith) ∙ orphan-row (λ r. r .phase) i h;
-      })
+  orphan-lines k e = lines-are k keyOrphan run 0 1 (orphans R) e (messages-small R few _ _) (orphans-at R run words room)
 
   pub kept-lines : (k : List ℕ) → k ≡ bytesOf keyKept → gather (messageRow k run (length (orphans R))) (length (keptOnes R)) ≡ messageLines keyKept (keptOnes R)
-  kept-lines k e = lines-are k keyKept run (length (orphans R)) 2 (keptOnes R) e (messages-small R few _ _)
-      (record {
-        word = λ i h. word-in (length (orphans R) + i) (omega arith) ∙ kept-row (λ r. r .word) i h;
-        number = λ i h. number-in (length (orphans R) + i) (omega arith) ∙ kept-row (λ r. r .number) i h;
-        phase = λ i h. phase-in (length (orphans R) + i) (omega arith) ∙ kept-row (λ r. r .phase) i h;
-      })
+  kept-lines k e = lines-are k keyKept run (length (orphans R)) 2 (keptOnes R) e (messages-small R few _ _) (kept-at R run words room)

@@ -32,7 +32,7 @@ use Rattle.theory.proofs.Claims.{record-iff, record-test, complete-test}
 use Rattle.theory.proofs.Epochs.{laws}
 use Rattle.theory.proofs.Refusals.{failure-fit, failure-9, line-fit, line-9}
 use Rattle.protocol.proofs.Passes.{held-long, held-formed, held-valid, held-few}
-use Rattle.listing.specs.Listing.{Row, rowOf, rowsOf, listWord}
+use Rattle.listing.specs.Listing.{listWord}
 use Rattle.recovery_line.specs.declared.Line.{Line}
 use Rattle.recovery_line.specs.Given.{lineIn}
 use Rattle.orders.specs.Record.{recordAt, faultlessAt}
@@ -45,6 +45,7 @@ use Rattle.recovery.specs.declared.Recovered.{Recovered}
 use Rattle.recovery.specs.Answers.{refusal, replayAnswer, replayArea, Completed}
 use Rattle.messages.specs.Messages.{messagesRefusal, countsOf, messagesAnswer, messagesArea}
 use Rattle.restart.specs.Restart.{engineLineOf, restartOf, restartRefusal, restartAnswer}
+use Rattle.messages.proofs.Rows.{At, orphans-at, kept-at, lost-at}
 use Rattle.messages.proofs.Listing.{Listed as Messages, counts-are, listed-at}
 use Rattle.recovery.proofs.Replaying.{Answered as Replay}
 use Rattle.recovery.proofs.Recovering.{Answered as Recover}
@@ -53,7 +54,6 @@ use Rattle.recovery.proofs.Taking.{not-refused}
 use Rattle.report.specs.Report.{Answer, refused, given, unless, then, Failure, engineRun, Recovery, recoveryOf, recovery, failureOf}
 use Rattle.report.proofs.Found.{run-is}
 use Rattle.report.proofs.Answers.{not-given, unless-given}
-use Rattle.report.proofs.Messages.{blank, At, front-row, later-row, word-in, number-in, phase-in, orphan-row, kept-row}
 use Rattle.runs.proofs.Table.{completed}
 use Rattle.runs.specs.Answers.{lineFrom, runWith, losses, Replayed as Told, fault, replayOf, replay, TakenWords, takenWordsIn, takenWordsOf, takenWords, exactStepsOf}
 
@@ -176,7 +176,7 @@ words-same f g i (suc n) h = ap₂ (λ (x : ℕ) (xs : List ℕ). x ∷ xs) (h i
 
 -- ---- The messages of a line that is not refused
 
-module _ (a run : List ℕ) (step set : ℕ) (l : Line) (R : Run) (same : codeRun a step l ≡ R) (few : R .trace .procs ≤ 64)
+module _ (a run : List ℕ) (step set : ℕ) (l : Line) (R : Run) (same : codeRun a step l ≡ R)
     (ok : lineFaultOf a (length run) step set l ≡ 0) (c : Counted) (w : List ℕ) (M : Messages a run step set l c w) where
   counts : c ≡ countsOf R
   counts = counts-are a run step set l ok c (M .0) ∙ ap countsOf same
@@ -185,35 +185,10 @@ module _ (a run : List ℕ) (step set : ℕ) (l : Line) (R : Run) (same : codeRu
   words k h = listed-at a run step set l ok w (M .1 .0) k h ∙ ap (λ (Q : Run). listWord Q k) same
 
   room : length (orphans R) + (length (keptOnes R) + length (lostOnes R)) ≤ 2048
-  room = rw counts at (M .1 .1)
-
-  -- rows of the list, from a place in it on
-  rows-at : (before class : ℕ) (ms : List Listed) → before + length ms ≤ 2048
-      → ((f : Row → ℕ) (i : ℕ) → i < length ms → getD (map f (rowsOf R)) (before + i) 0 ≡ f (rowOf class (getD ms i blank))) → At w before class ms
-  rows-at before class ms n row =
-      record {
-        word = λ i h. word-in R few w words room (before + i) (omega arith) ∙ row (λ r. r .word) i h;
-        number = λ i h. number-in R few w words room (before + i) (omega arith) ∙ row (λ r. r .number) i h;
-        phase = λ i h. phase-in R few w words room (before + i) (omega arith) ∙ row (λ r. r .phase) i h;
-      }
-
-  lost-row : (f : Row → ℕ) (i : ℕ) → i < length (lostOnes R)
-      → getD (map f (rowsOf R)) (length (orphans R) + length (keptOnes R) + i) 0 ≡ f (rowOf 3 (getD (lostOnes R) i blank))
-  unfolding rowsOf
-  lost-row f i h =
-      ap (λ (j : ℕ). getD (map f (rowsOf R)) j 0) (let q : length (orphans R) + length (keptOnes R) + i ≡ length (orphans R) + (length (keptOnes R) + i) = omega arith in q)
-      ∙ later-row f 1 (orphans R) _ (length (keptOnes R) + i) ∙ later-row f 2 (keptOnes R) (map (rowOf 3) (lostOnes R)) i
-      ∙ ap (λ (x : List Row). getD (map f x) i 0) (sym (append-nil (map (rowOf 3) (lostOnes R)))) ∙ front-row f 3 (lostOnes R) [] i h
+  room = rw counts at (M .1 .1 .0)
 
   lists : Lists (orphans R) (keptOnes R) (lostOnes R) c w
-  lists =
-      let n = room in
-      record {
-        counted = counts;
-        orphans-at = rows-at 0 1 (orphans R) (omega arith) (orphan-row R few w words room);
-        kept-at = rows-at (length (orphans R)) 2 (keptOnes R) (omega arith) (kept-row R few w words room);
-        lost-at = rows-at (length (orphans R) + length (keptOnes R)) 3 (lostOnes R) (omega arith) lost-row;
-      }
+  lists = record { counted = counts; orphans-at = orphans-at R w words room; kept-at = kept-at R w words room; lost-at = lost-at R w words room }
 
 -- ---- A table area that holds the trace of a text
 
@@ -223,9 +198,6 @@ module _ (text a : List ℕ) (step set : ℕ) (holds : holdsTrace a ≡ true) (e
 
   abbrev f : Failure
   f = record { trace = t; step = step; failed = set }
-
-  few-processes : t .procs ≤ 64
-  few-processes = held-valid a holds .few
 
   failure-is : failureFaultOf a step set ≡ failureFault t step set
   unfolding failureFaultOf
@@ -334,7 +306,7 @@ module _ (text a : List ℕ) (step set : ℕ) (holds : holdsTrace a ≡ true) (e
       listed c w M =
           subst (λ (z : Recovery). Lists (z .orphans) (z .kept) [] c w) found
           (subst (λ (ms : List Listed). Lists (orphans R) (keptOnes R) ms c w) none-lost
-          (lists a run₀ step set (r .line) R same few-processes ok c w M))
+          (lists a run₀ step set (r .line) R same ok c w M))
 
       module _ (y : Replayed) (v : List ℕ) (P : Replay a run₀ step set (r .line) (lowestOrder (codeRun a step (r .line))) y v)
           (C : Completed a (length run₀) step set (r .line) y) where
@@ -372,7 +344,7 @@ module _ (text a : List ℕ) (step set : ℕ) (holds : holdsTrace a ≡ true) (e
     lost-are ms h c w M =
         let (_, z, q) = told-lost ms h in
         subst (λ (ls : List Listed). Lists (orphans (runWith f l)) (keptOnes (runWith f l)) ls c w) q
-        (lists a run₀ step set (lineFrom l) (runWith f l) refl few-processes (fault-is ∙ z) c w M)
+        (lists a run₀ step set (lineFrom l) (runWith f l) refl (fault-is ∙ z) c w M)
 
     -- a line that loses no message, and the steps of its complete orders
     lost-nothing : losses text l ≡ given [] → LossFree (runWith f l)

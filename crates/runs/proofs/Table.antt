@@ -19,11 +19,11 @@ use Rattle.reader.specs.Verdict.{pieces, faultHere, judgeEvent, judge, linesFro
 use Rattle.theory.specs.Inner.Tests.{two}
 use Rattle.theory.specs.Events.{size}
 use Rattle.theory.specs.Epochs.{ruleOf}
-use Rattle.theory.specs.Line.{inSet, Greatest, greatestLine, usableAt}
-use Rattle.theory.specs.Answers.{lineOf, Listed}
+use Rattle.theory.specs.Line.{inSet, LossFree, recorded, Greatest, greatestLine, usableAt}
+use Rattle.theory.specs.Answers.{lineOf, Listed, lostOnes}
 use Rattle.theory.specs.Refusals.{failureFault, permits, lineFault}
 use Rattle.theory.proofs.Runs.{opens}
-use Rattle.theory.proofs.Claims.{reached-usable, greatest-line, greatest-only}
+use Rattle.theory.proofs.Claims.{none-listed, reached-usable, greatest-line, greatest-only}
 use Rattle.recovery_line.specs.Given.{backOf}
 use Rattle.restart.specs.Restart.{engineLineOf, restartOf}
 use Rattle.printing.specs.Inner.Texts.{linesOf}
@@ -32,7 +32,7 @@ use Rattle.report.specs.Report.{Answer, refused, given, Failure, failureOf, Rec
 use Rattle.printing.specs.Lines.{processLine, messageLine, totalLine, refusalLine}
 use Rattle.machine.specs.Taken.{takenNumber, takenValue}
 use Rattle.orders.specs.Record.{recordAt}
-use Rattle.runs.specs.Answers.{recoveryIn, losses, Replayed, replay, channelRecord, TakenWords, takenWords, exactStepsOf}
+use Rattle.runs.specs.Answers.{recoveryIn, losses, Replayed, replay, channelRecord, TakenWords, takenWords, exactStepsOf, atEqual}
 
 -- all that a row computes with, beside what the theory's rows do: `opens`
 unfoldable pub reads : ℕ
@@ -324,3 +324,20 @@ Lines =
 lines : Lines
 unfolding opens reads
 lines = (refl, refl, refl, refl, refl, refl)
+
+-- ---- "Misreadings"
+
+-- "Logging at equal epochs: the line of R2 would then lose nothing." By document 01's rule it loses message 2 from 0 to
+-- 1; by the rule that logs at equal epochs too it loses none
+abbrev lineR2 : ℕ → ℕ
+lineR2 = lineOf (32 ∷ 2 ∷ 32 ∷ [])
+
+abbrev pub EqualEpochs : Type 0
+EqualEpochs =
+    (lostOnes (recorded traceH (ruleOf traceH) 9 lineR2) ≡ message 0 1 2 2 ∷ [])
+    × (lostOnes (recorded traceH atEqual 9 lineR2) ≡ [])
+    × LossFree (recorded traceH atEqual 9 lineR2)
+
+pub equal-epochs : EqualEpochs
+unfolding opens
+equal-epochs = (refl, refl, none-listed traceH refl atEqual 9 (let c : 9 ≤ size traceH = omega arith in c) lineR2 .0 refl)

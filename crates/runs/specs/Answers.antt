@@ -4,9 +4,11 @@ use mathlib.Core.List.{List}
 use mathlib.Core.Bool.{Bool}
 use Prim.Native.Nat.{ℕ}
 use lib.ListN.{length}
+use lib.Dec.{leb}
 use Rattle.words.specs.Area.{wordsFrom}
 use Rattle.trace.specs.Trace.{Trace}
 use Rattle.theory.specs.Events.{size}
+use Rattle.theory.specs.Epochs.{Rule}
 use Rattle.theory.specs.Line.{Run, runAt}
 use Rattle.theory.specs.Order.{Outcome, carriedOut, run, steps, complete}
 use Rattle.theory.specs.Answers.{lineOf, Listed, lostOnes, exactSteps}
@@ -113,3 +115,8 @@ takenWords text l order = then (failureOf text) (λ f. unless (fault f l) (taken
 
 unfoldable pub exactStepsOf : List ℕ → List ℕ → Answer ℕ
 exactStepsOf text l = then (failureOf text) (λ f. unless (fault f l) (given (exactSteps (runWith f l))))
+
+-- ---- "Misreadings": "Logging at equal epochs"
+
+abbrev pub atEqual : Rule
+atEqual p q k a b = leb a b

@@ -15,7 +15,8 @@ use Rattle.theory.specs.Inner.Lists.{has}
 use Rattle.theory.specs.Events.{send, size, at, kind, sends, sent, rcvd, sendOf}
 use Rattle.theory.specs.Line.{Run, lost, orphan, kept, orphanPhase, LossFree}
 use Rattle.theory.specs.Replay.{State, resends, ready, takenBy}
-use Rattle.theory.specs.Inner.Record.{sentAgain, delivered, faultless, SameRecord}
+use Rattle.theory.specs.Record.{delivered, faultless, SameRecord}
+use Rattle.theory.specs.Inner.Record.{sentAgain}
 use Rattle.theory.specs.Answers.{Listed, gather, messages, orphans, keptOnes, lostOnes}
 use Rattle.theory.specs.Inner.Tests.{samePairs, names, lossFree, sameRecord}
 use Rattle.theory.specs.Inner.Laws.{Laws}

@@ -20,7 +20,8 @@ use Rattle.theory.specs.Epochs.{Rule, joined, epochAt, phaseAt, epochOf,
 use Rattle.theory.specs.Line.{inSet, Run, undone, lost, orphan, kept, orphanPhase, LossFree, restartIn, recorded, current, reached, Permitted, Greatest, lower, highest, greatestLine, usableAt, runAt}
 use Rattle.theory.specs.Inner.Lines.{Usable, Above}
 use Rattle.theory.specs.Replay.{State, ready}
-use Rattle.theory.specs.Inner.Record.{sentAgain, delivered, faultless, SameRecord}
+use Rattle.theory.specs.Record.{delivered, faultless, SameRecord}
+use Rattle.theory.specs.Inner.Record.{sentAgain}
 use Rattle.theory.specs.Order.{carriedOut, refused, choose, run, steps, mostSteps, Complete, complete, lowest, lowestOrder}
 use Rattle.theory.specs.Inner.Orders.{Allowed}
 use Rattle.theory.specs.Inner.Tests.{names, lossFree, sameRecord}
@@ -37,7 +38,7 @@ use Rattle.theory.proofs.Loss.{inv}
 use Rattle.theory.proofs.Epochs.{epoch-is, epochOf-at, phaseOf-send, logged-is, phase-recv, laws}
 use Rattle.theory.proofs.Lines.{now-is, now-few, usable-reached, stays-at, restart-epoch, restart-mono, number-of, lower-less}
 use Rattle.theory.proofs.Greatest.{highest-above, below-above, greatest-is, greatest-unique, floor-below}
-use Rattle.theory.proofs.Orders.{run-reaches, run-refused, complete-iff, order-iff, order-differs, order-progress, order-done, order-bound}
+use Rattle.theory.proofs.Orders.{run-reaches, run-refused, run-steps, run-each, complete-iff, order-iff, order-differs, order-progress, order-done, order-bound}
 use Rattle.theory.proofs.Lowest.{lowest-some, lowest-iff, lowest-order}
 use Rattle.theory.proofs.Answers.{orphans-name, kept-name, lost-name, lost-none, lossFree-iff, sameRecord-iff, ready-iff}
 use Rattle.theory.proofs.Exact.{steps-within, exact-steps}
@@ -168,10 +169,20 @@ module _ (t : Trace) (w : wellFormed t ≡ true) (rule : Rule) where
           → (m : ℕ) × (s : State) × (i ≡ suc m) × (m < length order) × (run R (take m order) ≡ carriedOut s) × (choose R s (getD order m 0) ≡ none)
       refused-place = run-refused R
 
+      -- "any order of choices from there, each allowed where it comes": these are carried out, and no others
+      pub each-allowed : (order : List ℕ) → ((s : State) × (run R order ≡ carriedOut s))
+          ↔ ((m : ℕ) → m < length order → (s : State) × (run R (take m order) ≡ carriedOut s) × Allowed R s (getD order m 0))
+      each-allowed = run-each R
+
       -- an order that is carried out, complete or not
       module _ (order : List ℕ) (s : State) (h : run R order ≡ carriedOut s) where
         abbrev I : Inv R s
         I = inv R the-laws s (length order) (run-reaches R order s h)
+
+        -- Demand 2: "A replay does the one step of each choice and no other": after m choices comes the step of the next
+        pub one-step : (m : ℕ) → m < length order
+            → (u v : State) × (run R (take m order) ≡ carriedOut u) × (choose R u (getD order m 0) ≡ some v) × (run R (take (suc m) order) ≡ carriedOut v)
+        one-step = run-steps R order s h
 
         -- demand 3 for any rule and any line
         pub record-iff : Complete R s → SameRecord R s ↔ LossFree R

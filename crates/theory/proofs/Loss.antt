@@ -15,7 +15,7 @@ use Rattle.theory.specs.Inner.Lists.{has}
 use Rattle.theory.specs.Events.{size, at, kind, sends, recvs, sent, rcvd}
 use Rattle.theory.specs.Line.{Run}
 use Rattle.theory.specs.Replay.{State, listed, takenBy, start}
-use Rattle.theory.specs.Inner.Record.{entry, delivered, faultless, SameRecord}
+use Rattle.theory.specs.Record.{entry, delivered, faultless, SameRecord}
 use Rattle.theory.specs.Inner.Laws.{Laws}
 use Rattle.theory.proofs.Base.{by, clash, false-or, iv-append, keep-append, keep-iv-cong, keep-above, each-map, each-keep-iv, keep-keep, cnt-iv, map-cnt, length-iv, has-append, has-keep, has-keep-not, has-iv, has-iv-not}
 use Rattle.theory.proofs.Events.{sends-split, recvs-split, sent-le, rcvd-le}

@@ -6,7 +6,7 @@ use mathlib.Core.Logic.{_↔_, _≢_}
 use mathlib.Core.Bool.{true, false}
 use mathlib.Core.List.{List, [], _∷_, map}
 use mathlib.Core.Option.{Option, none, some, bind, Option·some-injective, Option·none-ne-some}
-use Prim.Native.Nat.{ℕ, suc, _+_, _-_, _*_, _/_, _%_, _≤_, _<_}
+use Prim.Native.Nat.{ℕ, zero, suc, _+_, _-_, _*_, _/_, _%_, _≤_, _<_}
 use native.Mathlib.Omega.{arith}
 use lib.ListN.{length, getD, take}
 use lib.Dec.{ltb}
@@ -16,8 +16,8 @@ use Rattle.theory.specs.Lists.{keep, ifSome}
 use Rattle.theory.specs.Events.{size, sent, rcvd}
 use Rattle.theory.specs.Line.{Run, lost, LossFree}
 use Rattle.theory.specs.Replay.{Choice, process, hand, State, takenBy, start, step}
-use Rattle.theory.specs.Inner.Record.{entry, delivered, faultless, SameRecord}
-use Rattle.theory.specs.Order.{choiceOf, carriedOut, refused, isNone, choose, carry, run, steps, Complete, complete, mostSteps}
+use Rattle.theory.specs.Record.{entry, delivered, faultless, SameRecord}
+use Rattle.theory.specs.Order.{choiceOf, Outcome, carriedOut, refused, isNone, choose, carry, run, steps, Complete, complete, mostSteps}
 use Rattle.theory.specs.Inner.Orders.{Allowed}
 use Rattle.theory.specs.Inner.Laws.{Laws}
 use Rattle.theory.proofs.Base.{by, on, clash, le?, iv-prefix, all-true, all-at}
@@ -129,6 +129,44 @@ module _ (R : Run) where
       → (m : ℕ) × (s : State) × (i ≡ suc m) × (m < length order) × (run R (take m order) ≡ carriedOut s) × (choose R s (getD order m 0) ≡ none)
   unfolding run
   run-refused order i h = let r = refused-at (start R) 1 i order h in (r .0, r .1, omega (arith, r .2), r .3, r .4, r .5)
+
+  -- an order that is carried out: each choice is allowed in what those before it leave, and does its step
+  abbrev Steps : State → ℕ → List ℕ → ℕ → Type 0
+  Steps s i ns m =
+      (u v : State) × (carry R s i (take m ns) ≡ carriedOut u) × (choose R u (getD ns m 0) ≡ some v) × (carry R s i (take (suc m) ns) ≡ carriedOut v)
+
+  steps-at : (s t : State) (i : ℕ) (ns : List ℕ) → carry R s i ns ≡ carriedOut t → (m : ℕ) → m < length ns → Steps s i ns m
+  unfolding carry
+  steps-at s t i [] h m l = absurd (let z : ⊥ = omega arith in z)
+  steps-at s t i (c ∷ ns) h m l = go (choose R s c) refl h m l (λ u k. steps-at u t (suc i) ns k)
+    where
+      go : (o : Option State) → choose R s c ≡ o → ifSome o (refused i) (λ u. carry R u (suc i) ns) ≡ carriedOut t → (m : ℕ) → m < suc (length ns)
+          → ((u : State) → carry R u (suc i) ns ≡ carriedOut t → (m : ℕ) → m < length ns → Steps u (suc i) ns m) → Steps s i (c ∷ ns) m
+      go none e k m l f = absurd (let z : _≡_ {A = ℕ} 0 1 = cc in omega arith)
+      go (some u) e k zero l f = (s, u, refl, e, rw e)
+      go (some u) e k (suc m) l f = let r = f u k m (omega arith) in (r .0, r .1, rw e (r .2), r .3, rw e (r .4))
+
+  pub run-steps : (order : List ℕ) (s : State) → run R order ≡ carriedOut s → (m : ℕ) → m < length order
+      → (u v : State) × (run R (take m order) ≡ carriedOut u) × (choose R u (getD order m 0) ≡ some v) × (run R (take (suc m) order) ≡ carriedOut v)
+  unfolding run
+  run-steps order s h m l = steps-at (start R) s 1 order h m l
+
+  pub run-each : (order : List ℕ) → ((s : State) × (run R order ≡ carriedOut s))
+      ↔ ((m : ℕ) → m < length order → (s : State) × (run R (take m order) ≡ carriedOut s) × Allowed R s (getD order m 0))
+  run-each order = (
+    λ r m l. let g = run-steps order (r .0) (r .1) m l in (g .0, g .2, (g .1, g .3)),
+    λ f. go f (run R order) refl,
+  )
+    where
+      go : ((m : ℕ) → m < length order → (s : State) × (run R (take m order) ≡ carriedOut s) × Allowed R s (getD order m 0))
+          → (o : Outcome) → run R order ≡ o → (s : State) × (run R order ≡ carriedOut s)
+      go f (carriedOut s) e = (s, e)
+      go f (refused i) e =
+          let r = run-refused order i e in
+          let g = f (r .0) (r .3) in
+          let same : r .1 ≡ g .0 = cc in
+          let no : choose R (g .0) (getD order (r .0) 0) ≡ none = subst (λ (u : State). choose R u (getD order (r .0) 0) ≡ none) same (r .5) in
+          absurd (Option·none-ne-some (g .2 .0) (sym no ∙ g .2 .1))
 
   -- ---- Complete, as it can be tested
 

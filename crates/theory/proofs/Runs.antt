@@ -14,7 +14,7 @@ use Rattle.theory.specs.Events.{eventAt, at, kind, sends, recvs, checkpo
 use Rattle.theory.specs.Epochs.{note, notes, loggedBy}
 use Rattle.theory.specs.Line.{Run, sentBefore, sentAfter, received, receivedBefore, undone, lost, orphan, kept, orphanPhase, restartIn, highest, lowered, lowering, greatestLine, runAt, engineLine}
 use Rattle.theory.specs.Replay.{listed, keptOn, takenBy, resends, ready, gate, sendStep, recvStep, eventStep, processStep, handStep, step}
-use Rattle.theory.specs.Inner.Record.{delivered, faultless}
+use Rattle.theory.specs.Record.{delivered, faultless}
 use Rattle.theory.specs.Order.{choiceOf, choose, carry, run, steps, mostSteps, isNone, lowest, lowestFrom, complete}
 use Rattle.theory.specs.Answers.{lineOf, Listed, gather, messages, orphans, exactSteps}
 use Rattle.theory.specs.Inner.Tests.{two, samePairs, sameRecord, placeOf, leaves}

@@ -126,8 +126,13 @@ module _ (R : Run) where
       cnt-le (sends (R .trace) p q) (R .restart p) (size (R .trace)) (restart-n R L p),
     ))
 
+    -- no more messages are sent than there are events
+    pub sent-few : sum (R .trace .procs) (λ p. sum (R .trace .procs) (λ q. sent (R .trace) p q (size (R .trace)))) ≤ size (R .trace)
+    unfolding sent sends
+    sent-few = family2 (R .trace .procs) (λ p q e. sends (R .trace) p q e) (λ e. one-channel (R .trace .procs) (eventAt (R .trace) e)) (size (R .trace))
+
     pub work-bound : work (start R) ≤ size (R .trace) + size (R .trace)
-    unfolding work sends
+    unfolding work sent
     work-bound =
         let N = R .trace .procs in
         let T = size (R .trace) in
@@ -138,7 +143,7 @@ module _ (R : Run) where
           sum-le N (λ p. sum N (λ q. length (keptOn R p q))) (λ p. sum N (λ q. cnt (f p q) T))
               (λ p l. sum-le N (λ q. length (keptOn R p q)) (λ q. cnt (f p q) T) (λ q k. kept-le p q)),
           family N (λ z e. eqb z (at (R .trace) e)) (λ e. one-process N (at (R .trace) e)) T,
-          family2 N (λ p q e. f p q e) (λ e. one-channel N (eventAt (R .trace) e)) T,
+          sent-few,
         )
 
     pub reach-bound : (s : State) (n : ℕ) → Reach R s n → n ≤ size (R .trace) + size (R .trace)

@@ -3,6 +3,7 @@ pub mod Events
 pub mod Epochs
 pub mod Line
 pub mod Replay
+pub mod Record
 pub mod Order
 pub mod Answers
 pub mod Refusals

@@ -16,8 +16,9 @@ returns c =
     let e = (lowest .ensures .0) ∙ ap (lowestAnswer (args .table .now) ((args .run) .now) (args .step) (args .set)) (line-from .ensures) in
     let w = (lowest .ensures .1 .0) ∙ ap (lowestArea (args .table .now) ((args .run) .now) (args .step) (args .set)) (line-from .ensures) in
     let n = answer-is _ _ _ _ _ refl (put-replayed .ensures) in
-    let x = lowest-given (args .table .now) (args .step) _ (lowest .result) _ _ n _ (line-from .ensures) (args .run .now) (args .set) (lowest .ensures .0)
-    (lowest .ensures .1 .1 .1 .0) (lowest .ensures .1 .1 .1 .1 .0) (lowest .ensures .1 .1 .1 .1 .1 .0) (lowest .ensures .1 .1 .1 .1 .1 .1) in
+    let P = lowest .ensures .1 .1 in
+    let x = lowest-given (args .table .now) (args .step) _ (lowest .result) _ _ n _ (line-from .ensures) (args .run .now) _ (args .set) (lowest .ensures .0)
+    (P .0) (P .1 .0) (P .1 .1 .0) (P .1 .1 .1 .0) (P .1 .1 .1 .1 .0) (P .1 .1 .1 .1 .1 .0) (P .1 .1 .1 .1 .1 .1) in
     (ap (λ (y : Replayed). y .number) e, (w, (answer-is _ _ _ _ _ (ap replayNumbers e) (put-replayed .ensures), x)))
 
 pub hallback-lowest-spec : {M : Type 1} → statement M

@@ -18,7 +18,8 @@ returns c =
     let e = (replay .ensures .0) ∙ ap (λ (l : Line). replayAnswer (args .table .now) ((args .run) .now) (args .step) (args .set) l ((args .order) .now)) (line-from .ensures) in
     let w = (replay .ensures .1 .0) ∙ ap (λ (l : Line). replayArea (args .table .now) ((args .run) .now) (args .step) (args .set) l ((args .order) .now)) (line-from .ensures) in
     let n = answer-is _ _ _ _ _ refl (put-replayed .ensures) in
-    let x = replay-given (args .table .now) (args .step) _ (replay .result) _ _ n _ (line-from .ensures) (args .order .now) (replay .ensures .1 .1 .1) in
+    let P = replay .ensures .1 .1 in
+    let x = replay-given (args .table .now) (args .step) _ (replay .result) _ _ n _ (line-from .ensures) (args .order .now) _ (P .0) (P .1 .0) (P .1 .1 .0) (P .1 .1 .1 .0) (P .1 .1 .1 .1 .0) (P .1 .1 .1 .1 .1) in
     (ap (λ (y : Replayed). y .number) e, (w, (answer-is _ _ _ _ _ (ap replayNumbers e) (put-replayed .ensures), x)))
 
 pub hallback-replay-spec : {M : Type 1} → statement M

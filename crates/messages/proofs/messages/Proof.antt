@@ -62,7 +62,7 @@ returns-2 c =
     let zero = c .before .before .before .before .before .before .before .before .zero in
     let list-from = c .before .before .list-from in
     let P = (prepare .ensures .1) (if1 .left) in
-    rw (back-kept (args .area .now) _ (P .opened .enough) (zero .ensures)) (lists (args .table .now) (args .area .now) (args .step) (args .set) (args .line) _ _ _ (prepare .ensures .0) (if1 .left) ((list-from .ensures .0) _ (P .given)) ((list-from .ensures .1 .0) _ (P .given)) (list-from .ensures .1 .1))
+    rw (back-kept (args .area .now) _ (P .opened .enough) (zero .ensures)) (lists (args .table .now) (args .area .now) (args .step) (args .set) (args .line) (P .given .tells .laws) _ _ _ (prepare .ensures .0) (if1 .left) ((list-from .ensures .0) _ (P .given)) ((list-from .ensures .1 .0) _ (P .given)) (list-from .ensures .1 .1))
 
 pub messages-spec : {M : Type 1} → statement M
 messages-spec =

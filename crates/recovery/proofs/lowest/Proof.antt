@@ -17,7 +17,7 @@ returns c =
     let refused = c .refused in
     let order = lowestOrder (runOf (args .table .now) (args .step) (args .line)) in
     let x = refuses (args .table .now) (args .area .now) (args .step) (args .set) (args .line) order _ _ (prepare .ensures .0) (if1 .taken) (refused .ensures) in
-    (x .0, (x .1 .0, (x .1 .1 .0, (x .1 .1 .1 .0, (x .1 .1 .1 .1 .0, (x .1 .1 .1 .1 .1, not-completed (args .table .now) (args .area .now) (args .step) (args .set) (args .line) order _ (refused .result) (prepare .ensures .0) (if1 .taken)))))))
+    (x .0, (x .1 .0, (x .1 .1 .0, (x .1 .1 .1 .0, (x .1 .1 .1 .1 .0, (x .1 .1 .1 .1 .1 .0, (not-completed (args .table .now) (args .area .now) (args .step) (args .set) (args .line) order _ (refused .result) (prepare .ensures .0) (if1 .taken), x .1 .1 .1 .1 .1 .1)))))))
 
 slice-relend-prefix-lowest : tie.Need-slice-relend-prefix-lowest
 slice-relend-prefix-lowest c =
@@ -51,7 +51,7 @@ returns-2 c =
     let answer = (lowest .ensures .0) _ (P .given) in
     let words = (lowest .ensures .1) _ (P .given) in
     let x = carried (args .table .now) (args .area .now) (args .step) (args .set) (args .line) order (P .opened .holds) (P .given .tells .laws .cut-le) _ _ _ (prepare .ensures .0) (if1 .left) answer words in
-    (x .0, (x .1 .0, (x .1 .1 .0, (x .1 .1 .1 .0, (x .1 .1 .1 .1 .0, (x .1 .1 .1 .1 .1, completed (args .table .now) (args .area .now) (args .step) (args .set) (args .line) order (P .opened .holds) (P .given .tells .laws .cut-le) _ answer))))))
+    (x .0, (x .1 .0, (x .1 .1 .0, (x .1 .1 .1 .0, (x .1 .1 .1 .1 .0, (x .1 .1 .1 .1 .1 .0, (completed (args .table .now) (args .area .now) (args .step) (args .set) (args .line) order (P .opened .holds) (P .given .tells .laws .cut-le) _ answer, x .1 .1 .1 .1 .1 .1)))))))
 
 pub lowest-spec : {M : Type 1} → statement M
 lowest-spec =

@@ -42,7 +42,7 @@ put-recovery-requires c κs =
     let if1 = c .before .before .before .before .before .before .before .before .before .before .before .before .if1 in
     let read-failure = c .before .before .before .before .before .before .before .before .before .before .read-failure in
     let if2 = c .before .before .before .before .before .before .before .if2 in
-    let S = (recover .ensures .1 .1 .1 .1) (if3 .left) in
+    let S = (recover .ensures .1 .1 .1 .1 .0) (if3 .left) in
     let w = recovered (args .text .now) (if1 .left) (replicate areaWords 0) (length-replicate {A = ℕ} areaWords 0) (read-failure .result) (read-failure .ensures .0) (if2 .left) _ (read-failure .ensures .1 .0) (recover .result) _ (recover .ensures .0) (if3 .left) (recover .ensures .1 .1 .0) (recover .ensures .1 .1 .1 .0) S in
     (search needs, w .1 .0, w .1 .1)
 
@@ -55,7 +55,7 @@ returns-4 c =
     let read-failure = c .before .before .before .before .before .before .before .before .before .before .before .before .before .read-failure in
     let if2 = c .before .before .before .before .before .before .before .before .before .before .if2 in
     let put-recovery = c .before .before .put-recovery in
-    let S = (recover .ensures .1 .1 .1 .1) (if3 .left) in
+    let S = (recover .ensures .1 .1 .1 .1 .0) (if3 .left) in
     let w = recovered (args .text .now) (if1 .left) (replicate areaWords 0) (length-replicate {A = ℕ} areaWords 0) (read-failure .result) (read-failure .ensures .0) (if2 .left) _ (read-failure .ensures .1 .0) (recover .result) _ (recover .ensures .0) (if3 .left) (recover .ensures .1 .1 .0) (recover .ensures .1 .1 .1 .0) S in
     answered _ (args .text .now) _ _ _ (w .0) (put-recovery .ensures)
 

@@ -9,7 +9,7 @@ use Rattle.theory.specs.Lists.{iv, no-one, all-below}
 use Rattle.theory.specs.Events.{size, sent}
 use Rattle.theory.specs.Line.{Run, lost}
 use Rattle.theory.specs.Replay.{State}
-use Rattle.theory.specs.Inner.Record.{delivered, faultless}
+use Rattle.theory.specs.Record.{delivered, faultless}
 use Rattle.theory.specs.Order.{Outcome, carriedOut, refused}
 use Rattle.theory.specs.Answers.{Listed}
 

@@ -1,0 +1,80 @@
+-- Demand 3: "Take any accepted trace, any step for the failure, any set of zones it takes together, any line that puts
+-- each failed zone at a save it has made, and any order of choices from there, each allowed where it comes, that ends
+-- only when no choice is allowed. The delivery record the replay leaves equals that of the run without failure exactly
+-- when the line loses no message. Equal is the same numbers and values in the same order on every channel. .. an order
+-- with one not allowed is refused and has no record."
+-- Of what `replay` answers and leaves (`replayAnswer`, `replayArea`), for every table area, run area, failure, line and
+-- order; of `lowest` with its own order. What is accepted is Demand1's `replay-accepts`.
+use Prim.Native.Nat.{ℕ, suc, _≤_, _<_}
+use mathlib.Core.Path.{_≡_, sym, ap, _∙_}
+use mathlib.Core.Logic.{_↔_, _≢_}
+use mathlib.Core.Bool.{true}
+use mathlib.Core.List.{List, [], _∷_}
+use lib.ListN.{length, take, replicate}
+use Rattle.words.specs.Area.{areaWords, wordsFrom}
+use Rattle.table.specs.Held.{held}
+use Rattle.theory.specs.Line.{Run, lost, LossFree}
+use Rattle.theory.specs.Replay.{State}
+use Rattle.theory.specs.Record.{faultless}
+use Rattle.theory.specs.Order.{lowestOrder}
+use Rattle.theory.specs.Inner.Orders.{Allowed}
+use Rattle.theory.proofs.Orders.{order-progress, order-done, order-differs}
+use Rattle.recovery_line.specs.declared.Line.{Line}
+use Rattle.orders.specs.Record.{faultlessAt, listIn}
+use Rattle.preparing.specs.Faults.{runOf}
+use Rattle.recovery.specs.Answers.{replayAnswer, replayArea, Equal, SameLists}
+use Rattle.demands.proofs.Replays.{promised, Carried, accepted, carried-laws, two-told}
+use Rattle.demands.proofs.Fits.{eleven-area}
+
+module _ (a area : List ℕ) (step set : ℕ) (l : Line) (order : List ℕ) where
+  abbrev R : Run
+  R = runOf a step l
+
+  abbrev after : List ℕ
+  after = replayArea a area step set l order
+
+  -- "Equal is the same numbers and values in the same order on every channel.": the lists read from the run area after a
+  -- complete order are those of the run without failure exactly if the line loses no message
+  pub demand-3-lists : SameLists a step l (replayAnswer a area step set l order) after
+  demand-3-lists = promised a area step set l order .1 .1 .1 .1 .1 .1 .1
+
+  -- the same by the words of the area (the contracts of `replay` and `lowest` have both clauses)
+  pub demand-3-words : Equal a step l (replayAnswer a area step set l order) after
+  demand-3-words = promised a area step set l order .1 .1 .0
+
+  -- "an order with one not allowed is refused and has no record": zeros, which are no record of a trace's receives
+  pub no-record : replayAnswer a area step set l order .number ≡ 11 → take areaWords after ≡ replicate areaWords 0
+  no-record = eleven-area a area step set l order
+
+  module _ (ok : replayAnswer a area step set l order .number ≡ 0) where
+    -- "An accepted replay leaves in the run area the record of the order it carried out, complete or not, from a line
+    -- with loss or without."
+    pub leaves-its-record : (s : State) × Carried a area step set l order s
+    leaves-its-record = accepted a area step set l order ok
+
+    abbrev s : State
+    s = leaves-its-record .0
+
+    abbrev C : Carried a area step set l order s
+    C = leaves-its-record .1
+
+    -- "From a line without loss, an order carried out so far always has an allowed choice until each zone has done all
+    -- its events"
+    pub goes-on : LossFree R → (z e : ℕ) (es : List ℕ) → s .todo z ≡ e ∷ es → (c : ℕ) × Allowed R s c
+    goes-on = order-progress R (carried-laws a area step set l order s C) order s (C .carries)
+
+    -- "so a complete one does them all"
+    pub does-every-event : replayAnswer a area step set l order .complete ≡ true → LossFree R → (z : ℕ) → s .todo z ≡ []
+    does-every-event c f = order-done R (carried-laws a area step set l order s C) order s (C .carries) f (C .complete-is .0 c)
+
+    -- from a line that loses a message the list of its channel differs, whether the order is complete or not
+    pub lost-differs : (p q k : ℕ) → lost R p q k ≡ true → listIn (held a) after p q ≢ faultless R p q
+    lost-differs p q k h e = order-differs R (carried-laws a area step set l order s C) order s (C .carries) p q k h (sym (C .lists p q) ∙ e)
+
+-- "Two records are equal when they have the same list for every channel.": two accepted calls with one table area,
+-- whatever their run areas, failures, lines and orders, leave the same words exactly if they leave the same lists
+pub records-told : (a area other : List ℕ) (step other-step set other-set : ℕ) (l m : Line) (order other-order : List ℕ)
+    → replayAnswer a area step set l order .number ≡ 0 → replayAnswer a other other-step other-set m other-order .number ≡ 0
+    → let one = replayArea a area step set l order in let two = replayArea a other other-step other-set m other-order in
+    (take areaWords one ≡ take areaWords two) ↔ ((p q : ℕ) → listIn (held a) one p q ≡ listIn (held a) two p q)
+records-told = two-told

@@ -1,0 +1,11 @@
+-- the demands
+pub mod Demand1
+pub mod Demand2
+pub mod Demand3
+-- why they hold
+pub mod Numbers
+pub mod Few
+pub mod Restarting
+pub mod Listing
+pub mod Replays
+pub mod Fits

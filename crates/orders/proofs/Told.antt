@@ -1,0 +1,190 @@
+-- The words of a record tell its lists: read from a run area they are those of the order's state, whatever the line,
+-- complete or not; so two orders of one trace leave the same words exactly if they leave the same lists.
+use mathlib.Core.Path.{_≡_, refl, sym, ap, _∙_}
+use mathlib.Core.Logic.{_↔_, inl, inr}
+use mathlib.Core.Bool.{true, false, _&&_}
+use mathlib.Core.List.{List, [], _∷_, _++_, map}
+use Prim.Native.Nat.{ℕ, zero, suc, _+_, _-_, _≤_, _<_}
+use native.Mathlib.Omega.{arith}
+use lib.ListN.{length, getD, length-map}
+use lib.Dec.{leb, ltb, eqb}
+use borrow.Author.Tests.{ltb-true, leb-true, eqb-true, eq-eqb, lt-ltb, le-ltb, le-leb}
+use Rattle.words.specs.Area.{wordsFrom}
+use Rattle.words.proofs.Area.{words-at}
+use Rattle.trace.specs.Trace.{Trace}
+use Rattle.theory.specs.Lists.{iv, keep}
+use Rattle.theory.specs.Inner.Lists.{has}
+use Rattle.theory.specs.Events.{Kind, send, recv, other, size, at, kind, recvs, rcvd, value}
+use Rattle.theory.specs.Epochs.{ruleOf}
+use Rattle.theory.specs.Line.{Run, runAt}
+use Rattle.theory.specs.Replay.{State, start, takenBy, listed}
+use Rattle.theory.specs.Record.{entry, delivered, faultless}
+use Rattle.theory.specs.Order.{carriedOut, run}
+use Rattle.theory.specs.Inner.Laws.{Laws}
+use Rattle.theory.specs.Inner.Flow.{rBefore, sBefore, keptb, ahead, flow, Inv}
+use Rattle.theory.proofs.Base.{by, on, le?, both, clash, false-or, or-right, eqb-self, keep-keep, length-iv, has-append, has-keep, has-keep-is, has-iv-not}
+use Rattle.theory.proofs.WellFormed.{Valid}
+use Rattle.theory.proofs.Epochs.{laws}
+use Rattle.theory.proofs.Classes.{restart-n, kept-list}
+use Rattle.theory.proofs.Events.{recvs-is}
+use Rattle.theory.proofs.Loss.{taken-iv, ahead-listed, inv, same-numbers}
+use Rattle.theory.proofs.Orders.{run-reaches}
+use Rattle.machine.specs.Taken.{takenBase, recordEnd, tookNumber, tookValue, takenNumber, takenValue}
+use Rattle.orders.specs.Record.{recordAt, listIn}
+use Rattle.orders.proofs.Records.{words-cong}
+
+-- ---- No message has the number 0
+
+module _ (R : Run) (L : Laws R) where
+  start-no-zero : (p q : ℕ) → has 0 (flow R (start R) p q) ≡ false
+  start-no-zero p q =
+      let a : has 0 (takenBy R p q (R .restart q)) ≡ false = rw (taken-iv R p q (R .restart q)) (has-iv-not 0 0 (rBefore R p q) (inl (omega arith))) in
+      let b = has-keep 0 (keptb R p q) (iv 0 (sBefore R p q)) (has-iv-not 0 0 (sBefore R p q) (inl (omega arith))) in
+      let c : has 0 (ahead R p q (listed R p (R .restart p))) ≡ false =
+      rw (ahead-listed R p q (R .restart p) (restart-n R L p)) (has-keep 0 (λ k. ltb (rBefore R p q) k) _ (has-iv-not 0 (sBefore R p q) _ (inl (omega arith)))) in
+      rw (kept-list R L p q, has-append, a, has-append, b) c
+
+  got-no-zero : (s : State) → Inv R s → (p q : ℕ) → has 0 (s .got p q) ≡ false
+  got-no-zero s i p q = false-or _ _ (rw has-append at (rw (← i .flows p q) at (start-no-zero p q)))
+
+-- ---- Receives that take the messages of a list one after another, and none when it is used up
+
+has-map : (r : ℕ → ℕ) (e : ℕ) (es : List ℕ) → has e es ≡ true → has (r e) (map r es) ≡ true
+unfolding has
+has-map r e [] h = clash {b = false} h refl
+has-map r e (x ∷ es) h = by (eqb e x)
+    (λ u. let q : e ≡ x = eqb-true e x u in rw (q, eqb-self (r x)))
+    (λ u. or-right (eqb (r e) (r x)) (has (r e) (map r es)) (has-map r e es (rw u at h)))
+
+above : (x d k : ℕ) → has k (iv x d) ≡ true → x < k
+above x d k h = on (le? k x) (λ l. clash h (has-iv-not k x d (inl l))) (λ l. l)
+
+module _ (num val r v : ℕ → ℕ) where
+  -- receive e takes number `r e` on its channel: the messages of gs, from number x + 1 on
+  abbrev Takes : List ℕ → ℕ → List ℕ → Type 0
+  Takes es x gs = (e : ℕ) → has e es ≡ true → (num e ≡ getD gs (r e - suc x) 0) × (val e ≡ getD (map v gs) (r e - suc x) 0)
+
+  taken-list : (es gs : List ℕ) (x : ℕ) → map r es ≡ iv x (length es) → Takes es x gs → length gs ≤ length es → has 0 gs ≡ false
+      → map {B = ℕ × ℕ} (λ e. (num e, val e)) (keep (λ e. ltb 0 (num e)) es) ≡ map {B = ℕ × ℕ} (λ k. (k, v k)) gs
+  unfolding keep iv has
+  taken-list [] [] x m h l z = refl
+  taken-list [] (g ∷ gs) x m h l z = absurd (let y : ⊥ = omega arith in y)
+  taken-list (e ∷ es) [] x m h l z =
+      let m′ : map r es ≡ iv (suc x) (length es) = cc in
+      let n : num e ≡ 0 = h e (rw (eqb-self e)) .0 in
+      rw n (taken-list es [] (suc x) m′ (λ y u. h y (or-right (eqb y e) (has y es) u)) (omega arith) z)
+  taken-list (e ∷ es) (g ∷ gs) x m h l z =
+      let m′ : map r es ≡ iv (suc x) (length es) = cc in
+      let k : r e ≡ suc x = cc in
+      let first : r e - suc x ≡ 0 = omega arith in
+      let t = h e (rw (eqb-self e)) in
+      let n : num e ≡ g = rw first at (t .0) in
+      let w : val e ≡ v g = rw first at (t .1) in
+      let z′ = false-or (eqb 0 g) (has 0 gs) z in
+      let some : ltb 0 (num e) ≡ true = rw n (on (le? g 0) (λ u. let q : eqb 0 g ≡ true = eq-eqb 0 g (omega arith) in clash q z′) (λ u. lt-ltb 0 g u)) in
+      let rest : has 0 gs ≡ false = rw z′ at z in
+      let t′ : Takes es (suc x) gs = λ y u.
+      let a : suc x < r y = above (suc x) (length es) (r y) (rw (← m′) (has-map r y es u)) in
+      let b : r y - suc x ≡ suc (r y - suc (suc x)) = omega arith in
+      let c = h y (or-right (eqb y e) (has y es) u) in
+      rw b at c in
+      rw (some, n, w) (ap (λ (xs : List (ℕ × ℕ)). (g, v g) ∷ xs) (taken-list es gs (suc x) m′ t′ (omega arith) rest))
+
+-- ---- The lists of a run area
+
+module _ (R : Run) (L : Laws R) (few : size (R .trace) ≤ 2048) (s : State) (i : Inv R s) where
+  abbrev t : Trace
+  t = R .trace
+
+  abbrev n : ℕ
+  n = size (R .trace)
+
+  -- the receives on a channel
+  abbrev receives : ℕ → ℕ → List ℕ
+  receives p q = keep (recvs t p q) (iv 0 n)
+
+  receives-are : (p q : ℕ) → map (rcvd t p q) (receives p q) ≡ iv 0 (rcvd t p q n)
+  receives-are p q = unfold takenBy in taken-iv R p q n
+
+  receives-count : (p q : ℕ) → length (receives p q) ≡ rcvd t p q n
+  receives-count p q = sym (length-map (receives p q) (rcvd t p q)) ∙ ap length (receives-are p q) ∙ length-iv 0 (rcvd t p q n)
+
+  receive-at : (p q e : ℕ) → has e (receives p q) ≡ true → (0 < e) × (e ≤ n) × (recvs t p q e ≡ true)
+  receive-at p q e h =
+      let b = both (recvs t p q e) (has e (iv 0 n)) (sym (has-keep-is e (recvs t p q) (iv 0 n)) ∙ h) in (
+        above 0 n e (b .1),
+        on (le? e n) (λ l. l) (λ l. clash (b .1) (has-iv-not e 0 n (inr (omega arith)))),
+        b .0,
+      )
+
+  -- the words of a receive on the channel: what the state has at its place
+  words-of : (p q e : ℕ) → 0 < e → e ≤ n → recvs t p q e ≡ true
+      → (recordAt R s e ≡ getD (s .got p q) (rcvd t p q e - 1) 0) × (recordAt R s (takenBase + e) ≡ getD (map (value t p q) (s .got p q)) (rcvd t p q e - 1) 0)
+  unfolding recordAt takenNumber takenValue
+  words-of p q e h k r =
+      let (u, v) = recvs-is t p q e r in
+      let a : ltb e takenBase ≡ true = lt-ltb e takenBase (omega (arith, few)) in
+      let b : ltb (takenBase + e) takenBase ≡ false = le-ltb (takenBase + e) takenBase (omega arith) in
+      let c : ltb (takenBase + e) recordEnd ≡ true = lt-ltb (takenBase + e) recordEnd (omega (arith, few)) in
+      let d : takenBase + e - takenBase ≡ e = omega arith in
+      let f : (ltb 0 e && leb e n) ≡ true = rw (lt-ltb 0 e h, le-leb e n k) in
+      (rw (a, f, v, u), rw (b, c, d, f, v, u))
+
+  -- an area whose words are those of the state's record has its lists
+  pub told : (w : List ℕ) → ((k : ℕ) → k < recordEnd → getD w k 0 ≡ recordAt R s k) → (p q : ℕ) → listIn t w p q ≡ delivered R s p q
+  unfolding listIn delivered
+  told w h p q =
+      let count = receives-count p q in
+      let most : length (s .got p q) ≤ length (receives p q) = omega (arith, i .taken p q, count) in
+      let takes : Takes (λ e. getD w e 0) (λ e. getD w (takenBase + e) 0) (rcvd t p q) (value t p q) (receives p q) 0 (s .got p q) = λ e l.
+      let r = receive-at p q e l in
+      let x = words-of p q e (r .0) (r .1) (r .2) in
+      (h e (omega (arith, few, r .1)) ∙ x .0, h (takenBase + e) (omega (arith, few, r .1)) ∙ x .1) in
+      ap (map {B = ℕ × ℕ} (λ (e : ℕ). (getD w e 0, getD w (takenBase + e) 0))) (sym (keep-keep (λ e. ltb 0 (getD w e 0)) (recvs t p q) (iv 0 n)))
+      ∙ taken-list (λ e. getD w e 0) (λ e. getD w (takenBase + e) 0) (rcvd t p q) (value t p q) (receives p q) (s .got p q) 0
+      (receives-are p q ∙ ap (iv 0) (sym count)) takes most (got-no-zero R L s i p q)
+
+  pub told-words : (p q : ℕ) → listIn t (wordsFrom (recordAt R s) 0 16384) p q ≡ delivered R s p q
+  told-words = told (wordsFrom (recordAt R s) 0 16384) (λ k l. words-at (recordAt R s) 16384 k (omega arith))
+
+-- ---- Two orders of one trace, from any cuts and lines, complete or not
+
+module _ (t : Trace) (A : Valid t) (few : size t ≤ 2048) (cut other-cut : ℕ) (cl : cut ≤ size t) (ocl : other-cut ≤ size t) (line other-line : ℕ → ℕ)
+    (order other-order : List ℕ) (s u : State) (h : run (runAt t cut line) order ≡ carriedOut s) (k : run (runAt t other-cut other-line) other-order ≡ carriedOut u) where
+  abbrev F : Run
+  F = runAt t cut line
+
+  abbrev G : Run
+  G = runAt t other-cut other-line
+
+  LF : Laws F
+  LF = laws t (ruleOf t) A cut line cl
+
+  LG : Laws G
+  LG = laws t (ruleOf t) A other-cut other-line ocl
+
+  abbrev Same : Type 0
+  Same = (p q : ℕ) → delivered F s p q ≡ delivered G u p q
+
+  same-got : Same → (p q : ℕ) → s .got p q ≡ u .got p q
+  unfolding delivered
+  same-got d p q = same-numbers F LF p q (s .got p q) (u .got p q) (d p q)
+
+  same-took : Same → (e : ℕ) (c : Kind) → (tookNumber F (s .got) e c ≡ tookNumber G (u .got) e c) × (tookValue F (s .got) e c ≡ tookValue G (u .got) e c)
+  same-took d e (send q) = (refl, refl)
+  same-took d e (recv p) = rw (same-got d p (at t e)) (refl, refl)
+  same-took d e other = (refl, refl)
+
+  same-word : Same → (x : ℕ) → recordAt F s x ≡ recordAt G u x
+  unfolding recordAt takenNumber takenValue
+  same-word d x = rw (same-took d x (kind t x) .0, same-took d (x - takenBase) (kind t (x - takenBase)) .1)
+
+  -- the same words exactly if the same list on every channel
+  pub record-told : (wordsFrom (recordAt F s) 0 16384 ≡ wordsFrom (recordAt G u) 0 16384) ↔ Same
+  record-told = (
+    λ w p q.
+        sym (told-words F LF few s (inv F LF s (length order) (run-reaches F order s h)) p q)
+        ∙ ap (λ (x : List ℕ). listIn t x p q) w
+        ∙ told-words G LG few u (inv G LG u (length other-order) (run-reaches G other-order u k)) p q,
+    λ d. words-cong (recordAt F s) (recordAt G u) 16384 (λ x l. same-word d x),
+  )
