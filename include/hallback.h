@@ -114,9 +114,10 @@ uint32_t hallback_replay(const uint32_t *table, size_t table_len, uint64_t step,
 uint32_t hallback_lowest(const uint32_t *table, size_t table_len, uint64_t step, uint64_t set, const uint32_t *line,
                          size_t line_len, uint32_t *run, size_t run_len, uint64_t *answer, size_t answer_len);
 
-/* What the program hallback prints for a text with its failure line, a refusal too. Returns how many bytes were
-   written: all of the report, or as many as there is room for. Bytes past them stay. Its `steps=` are those of every
-   complete order from the line that it prints, which loses no message. */
+/* The report on a text with its failure line, a refusal too: what the program hallback prints for it. A text may have
+   any length here; that the program takes at most 65,536 bytes is its own limit. Returns how many bytes were written:
+   all of the report, or as many as there is room for. Bytes past them stay. Its `steps=` are those of every complete
+   order from the line that it prints, which loses no message. */
 size_t hallback_report(const uint8_t *text, size_t text_len, uint8_t *out, size_t out_len);
 
 #ifdef __cplusplus

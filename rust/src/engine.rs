@@ -232,7 +232,8 @@ pub fn lowest(
     replayed(number, answer)
 }
 
-/// Gives what the program prints about a text; `out` is where it is written.
+/// Gives the report on a text, what the program prints about it; `out` is where it is written. A
+/// text may have any length: the limit of 65,536 bytes is the program's own.
 ///
 /// [`REPORT_BYTES`](crate::REPORT_BYTES) bytes hold every report; what does not fit is cut off.
 ///

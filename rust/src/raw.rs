@@ -228,7 +228,7 @@ pub fn lowest(
     }
 }
 
-/// Writes what the program prints about this text and gives its length.
+/// Writes the report on this text and gives its length.
 pub fn report(text: &[u8], out: &mut [u8]) -> usize {
     unsafe { c::hallback_report(text.as_ptr(), text.len(), out.as_mut_ptr(), out.len()) }
 }

@@ -32,7 +32,7 @@ fn main() {
 
 #[cfg(hallback_archive)]
 mod compare {
-    use hallback::shapes::{each_trace, Random, Shape, Trace};
+    use hallback::shapes::{each_trace, Event, Random, Shape, Trace};
     use hallback::{raw, reference};
     use hallback::{Failure, Refusal, Replayed, Restart, STAY};
     use hallback::{AREA_WORDS, MAX_EVENTS, MAX_PROCS, TEXT_BYTES};
@@ -673,6 +673,9 @@ mod compare {
                 let length = 65_535 + self.random.below(3);
                 long.resize(length, b'\n');
                 self.report(&long);
+                let long = long_text(&mut self.random);
+                assert!(long.len() > 65_536);
+                self.report(&long);
             }
         }
 
@@ -811,6 +814,33 @@ mod compare {
             let area = self.short_area();
             self.read_failure(&trace.text_with(failure), area);
         }
+    }
+
+    /// A fit text that is longer than the program takes.
+    fn long_text(random: &mut Random) -> Vec<u8> {
+        let mut sent = Vec::new();
+        let mut events = Vec::new();
+        while events.len() < MAX_EVENTS {
+            let oldest = random.below(sent.len() + 1);
+            if oldest < sent.len() && random.percent(15) {
+                let (from, at) = sent.remove(oldest);
+                events.push(Event::Recv { at, from });
+                continue;
+            }
+            let at = 10 + random.below(MAX_PROCS - 10);
+            let to = 10 + (at - 9 + random.below(MAX_PROCS - 11)) % (MAX_PROCS - 10);
+            sent.push((at, to));
+            let val = 1_000_000_000 + random.below(3_000_000_000) as u32;
+            events.push(Event::Send { at, to, val });
+        }
+        let trace = Trace {
+            procs: MAX_PROCS,
+            events,
+        };
+        trace.text_with(Failure {
+            step: random.below(MAX_EVENTS + 1) as u64,
+            set: 1 << random.below(MAX_PROCS),
+        })
     }
 
     /// The numbers of an answer after its place.

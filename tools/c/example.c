@@ -1,7 +1,7 @@
 /* The library from C: reads the trace H of document 01, finds the restart line after its failure, carries out the
    lowest order from it, and compares the record with that of the line on which every process goes back to its start.
-   Then it changes the value of the first send and writes the trace back, and the longest text that there is. Prints
-   what it finds; 1 if that is not as expected. */
+   Then it changes the value of the first send and writes the trace back; and it writes back and reports the longest
+   text that there is. Prints what it finds; 1 if that is not as expected. */
 #include <stdio.h>
 #include <string.h>
 
@@ -35,13 +35,19 @@ static uint32_t kind(size_t e) {
     return table[HALLBACK_EVENT_BASE + e] >> 12;
 }
 
-/* The longest text that there is: 64 processes, and 2,048 sends with values of ten digits. */
+/* The longest text that there is: 64 processes, and 2,048 sends with values of ten digits. It is longer than what the
+   program hallback takes, but not too long to be reported. */
 static int longest_fits(void) {
     static char longest[80000];
     int n = sprintf(longest, "procs=64\n");
     for (int e = 0; e < 2048; e++) n += sprintf(longest + n, "ev=send at=63 to=62 val=4294967295\n");
-    return hallback_read((const uint8_t *)longest, n, table, HALLBACK_WORDS, answer, 1) == 0 &&
-           hallback_write(table, HALLBACK_WORDS, out, sizeof out, answer, 2) == 0 && answer[1] == (uint64_t)n;
+    if (hallback_read((const uint8_t *)longest, n, table, HALLBACK_WORDS, answer, 1) != 0 ||
+        hallback_write(table, HALLBACK_WORDS, out, sizeof out, answer, 2) != 0 || answer[1] != (uint64_t)n)
+        return 0;
+    n += sprintf(longest + n, "fail=2048 set=1\n");
+    static const char last[] = "out=total back=1 orphans=0 kept=2048 steps=2048\n";
+    size_t length = hallback_report((const uint8_t *)longest, n, out, sizeof out);
+    return length >= strlen(last) && memcmp(out + length - strlen(last), last, strlen(last)) == 0;
 }
 
 int main(void) {

@@ -19,7 +19,7 @@ ghost use Rattle.preparing.specs.Faults.{runOf};
 ghost use Rattle.recovery.specs.Answers.{replayAnswer, replayArea, Recorded};
 ghost use Rattle.messages.specs.Messages.{messagesAnswer, messagesArea};
 ghost use Rattle.restart.specs.Restart.{restartAnswer};
-ghost use Rattle.report.specs.Report.{printed, StepsPrinted, reportBytes};
+ghost use Rattle.report.specs.Report.{reported, StepsPrinted, reportBytes};
 ghost use Rattle.capi.specs.Answers.{lineGiven, readNumbers, failureNumbers, writeNumbers, restartNumbers, messagesNumbers, replayNumbers, lowestAnswer, lowestArea, ExactIn, LowestExactIn, AtMostIn, CarriesOutIn, CompletedIn, RestartsIn, ListsIn, LowestEqualIn, EqualIn};
 use orders::Replayed;
 use recovery_line::Line;
@@ -280,13 +280,14 @@ pub extern "C" fn hallback_lowest(
     r.number
 }
 
-// What the program prints for a text: how many bytes of it there are, or are room for.
+// The report on a text: how many bytes of it there are, or are room for.
 #[no_mangle]
 pub extern "C" fn hallback_report(text: &[u8], out: &mut [u8]) -> usize
-    ensures length { λ r. ⌜ r ≡ length (room (printed (now (text .entry))) (now (out .entry))) ⌝ }
-    ensures bytes { λ _. ⌜ now (out .exit) ≡ written (printed (now (text .entry))) (now (out .entry)) ⌝ }
+    ensures length { λ r. ⌜ r ≡ length (room (reported (now (text .entry))) (now (out .entry))) ⌝ }
+    ensures bytes { λ _. ⌜ now (out .exit) ≡ written (reported (now (text .entry))) (now (out .entry)) ⌝ }
     ensures exact { λ _. ⌜ StepsPrinted (now (text .entry)) ⌝ }
-    ensures few { λ _. ⌜ length (printed (now (text .entry))) ≤ reportBytes ⌝ }
+    ensures few { λ _. ⌜ length (reported (now (text .entry))) ≤ reportBytes ⌝ }
 {
-    report::report(text, out)
+    let r = report::report(text, out);
+    r.length
 }

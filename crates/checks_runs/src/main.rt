@@ -20,11 +20,11 @@ fn print_back(text: &[u8]) {
     roundtrip::print_trip(&table, text, &mut out);
 }
 
-// What the program prints for a text, its trace written back, and a line that ends it.
+// The report on a text, its trace written back, and a line that ends it.
 fn print_report(text: &[u8]) {
-    let mut out = [0u8; report::REPORT_BYTES];
-    let n = report::report(text, &mut out);
-    io::write_all(1, &out[..checks::most(&out, n)]);
+    let mut out = [0u8; program::REPORT_BYTES];
+    let r = report::report(text, &mut out);
+    io::write_all(1, &out[..checks::most(&out, r.length)]);
     print_back(text);
     io::write_all(1, b"-\n");
 }
@@ -39,11 +39,23 @@ fn print_reports(input: &[u8]) {
     }
 }
 
-// The program's own limit: of 65,537 bytes nothing is read, and of 65,536 the first line is.
+// What the program prints where it has read so many zeros, and its status.
+fn print_zeros(count: usize) {
+    let read = [0u8; program::READ_BYTES];
+    let mut out = [0u8; program::REPORT_BYTES];
+    let r = program::respond(&read, count, &mut out);
+    let n = r.length;
+    io::write_all(1, &out[..n]);
+    checks::print(b"status=#\n-\n", &[r.status as u64]);
+}
+
+// The program's own limit: of 65,537 bytes nothing is read, and of 65,536 the first line is. The library's report has
+// none.
 fn print_limits() {
+    print_zeros(65537);
+    print_zeros(65536);
     let text = [0u8; 65537];
     print_report(&text);
-    print_report(&text[..65536]);
 }
 
 fn run_all(input: &[u8]) {

@@ -1,12 +1,11 @@
--- What the program prints for a text that ends with a failure line (document 01, "Runs to check"): the engine's line
--- with all that is said of it, or a refusal's number and place.
+-- The report on a text that ends with a failure line (document 01, "Runs to check"): the engine's line with all that is
+-- said of it, or a refusal's number and place.
 use mathlib.Core.Path.{_≡_}
 use mathlib.Core.List.{List, [], _∷_, _++_}
-use mathlib.Core.Bool.{cond}
+use mathlib.Core.Bool.{Bool, true, false}
 use Prim.Native.Nat.{ℕ, zero, suc, _≤_}
 use Prim.Native.String.{String}
 use lib.ListN.{length, getD}
-use lib.Dec.{ltb}
 use Rattle.trace.specs.Trace.{Trace}
 use Rattle.reader.specs.Failure.{Failing, lastFailure}
 use Rattle.theory.specs.Line.{Run, runAt}
@@ -24,6 +23,10 @@ use Rattle.printing.specs.Lines.{processLine, messageLine, totalLine, refusalLi
 pub data Answer (A : Type 0) : Type 0 where
   refused : ℕ → ℕ → Answer A
   given : A → Answer A
+
+abbrev pub isRefusal : {A : Type 0} → Answer A → Bool
+isRefusal (refused n k) = true
+isRefusal (given a) = false
 
 -- refused with a number that is not 0, and place 0
 abbrev pub unless : {A : Type 0} → ℕ → Answer A → Answer A
@@ -101,12 +104,9 @@ printedOf (given r) =
     ++ messageLines keyKept (r .kept)
     ++ totalLine (r .restarted .back) (length (r .orphans)) (length (r .kept)) (r .steps)
 
--- "The program takes at most 65,536 bytes; more is 1 at place 0, before anything else."
-abbrev pub textMost : ℕ
-textMost = 65536
-
-unfoldable pub printed : List ℕ → List ℕ
-printed text = printedOf (cond (ltb textMost (length text)) (refused 1 0) (recovery text))
+-- the report, of a text of any length: "This limit is the program's own; the library has none."
+unfoldable pub reported : List ℕ → List ℕ
+reported text = printedOf (recovery text)
 
 -- Document 02, item 2, of what is printed: the engine's line loses no message and the lowest order is complete, so that
 -- `steps=` in the last line is exact; and at most twice the number of events
@@ -116,7 +116,7 @@ EndsExactly f bytes =
     ((front : List ℕ) × (bytes ≡ front ++ (bytesOf " steps=" ++ decimal n ++ 10 ∷ []))) × (n ≤ mostSteps (f .trace))
 
 abbrev pub StepsPrinted : List ℕ → Type 0
-StepsPrinted text = (f : Failure) → length text ≤ textMost → failureOf text ≡ given f → EndsExactly f (printed text)
+StepsPrinted text = (f : Failure) → failureOf text ≡ given f → EndsExactly f (reported text)
 
 -- a buffer of so many bytes holds every report
 abbrev pub reportBytes : ℕ

@@ -7,7 +7,7 @@ ghost use Rattle.words.specs.Area.{areaWords};
 ghost use Rattle.theory.specs.Answers.{gather};
 ghost use Rattle.writer.specs.Inner.Puts.{Puts};
 ghost use Rattle.writer.specs.Buffer.{room, written};
-ghost use Rattle.report.specs.Report.{processLineOf, printed, StepsPrinted, reportBytes};
+ghost use Rattle.report.specs.Report.{processLineOf, isRefusal, recovery, reported, StepsPrinted, reportBytes};
 ghost use Rattle.report.specs.Inner.Rows.{messageRow, recoveryRows};
 ghost use Rattle.printing.specs.Inner.Rows.{messageKey};
 use listing::ROW_BASE;
@@ -17,14 +17,11 @@ use recovery::Recovered;
 use restart::Restarted;
 use words::AREA_WORDS;
 
-// A buffer of so many bytes holds every report.
-pub const REPORT_BYTES: usize = 262144;
-
-// What the program takes: "at most 65,536 bytes"; and what it reads, a byte more, so that a longer input is seen to be
-// longer.
-const TEXT_MOST: usize = 65536;
-
-pub const READ_BYTES: usize = TEXT_MOST + 1;
+// How many bytes of a report were written, and whether it is a refusal.
+pub struct Reported {
+    pub length: usize,
+    pub refused: bool,
+}
 
 // A line for each process of the recovery line.
 fn put_processes(out: &mut [u8], r: Restarted) -> usize
@@ -95,24 +92,34 @@ fn put_recovery(out: &mut [u8], r: Recovered, run: &[u32]) -> usize
     )
 }
 
-// What the program prints for a text, into a lent buffer: how many bytes of it there are, or are room for.
-pub fn report(text: &[u8], out: &mut [u8]) -> usize
-    ensures length { λ r. ⌜ r ≡ length (room (printed (now (text .entry))) (now (out .entry))) ⌝ }
-    ensures bytes { λ _. ⌜ now (out .exit) ≡ written (printed (now (text .entry))) (now (out .entry)) ⌝ }
+// The report on a text, into a lent buffer: all its bytes, or as many as there is room for. A text may have any length.
+pub fn report(text: &[u8], out: &mut [u8]) -> Reported
+    ensures length { λ r. ⌜ r .length ≡ length (room (reported (now (text .entry))) (now (out .entry))) ⌝ }
+    ensures bytes { λ _. ⌜ now (out .exit) ≡ written (reported (now (text .entry))) (now (out .entry)) ⌝ }
     ensures exact { λ _. ⌜ StepsPrinted (now (text .entry)) ⌝ }
-    ensures few { λ _. ⌜ length (printed (now (text .entry))) ≤ reportBytes ⌝ }
+    ensures few { λ _. ⌜ length (reported (now (text .entry))) ≤ reportBytes ⌝ }
+    ensures refused { λ r. ⌜ r .refused ≡ isRefusal (recovery (now (text .entry))) ⌝ }
 {
-    if text.len() > TEXT_MOST {
-        return printing::put_refusal(out, 1, 0);
-    }
     let mut table = [0u32; AREA_WORDS];
     let read = reader::read_failure(text, &mut table);
     if read.number != 0 {
-        return printing::put_refusal(out, read.number, read.place);
+        let length = printing::put_refusal(out, read.number, read.place);
+        return Reported {
+            length,
+            refused: true,
+        };
     }
     let r = recovery::recover(&mut table, read.step, read.set);
     if r.restarted.number != 0 {
-        return printing::put_refusal(out, r.restarted.number, 0);
+        let length = printing::put_refusal(out, r.restarted.number, 0);
+        return Reported {
+            length,
+            refused: true,
+        };
     }
-    put_recovery(out, r, &table)
+    let length = put_recovery(out, r, &table);
+    Reported {
+        length,
+        refused: false,
+    }
 }

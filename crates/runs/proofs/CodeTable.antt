@@ -8,7 +8,7 @@ use mathlib.Core.Path.{_≡_, refl, sym, ap, _∙_}
 use mathlib.Core.Bool.{true, false}
 use mathlib.Core.List.{List, [], _∷_}
 use native.Mathlib.Omega.{arith}
-use lib.ListN.{length}
+use lib.ListN.{length, take}
 use Rattle.words.specs.Area.{areaWords, wordsFrom}
 use Rattle.reader.specs.Answer.{readAnswer, readArea}
 use Rattle.reader.specs.Failure.{Failing, failureAnswer, failureArea, lastFailure}
@@ -18,19 +18,36 @@ use Rattle.restart.specs.declared.Restarted.{Restarted}
 use Rattle.restart.proofs.Restarting.{Answered as Restart}
 use Rattle.writer.specs.Buffer.{room, written}
 use Rattle.printing.specs.Inner.Texts.{linesOf}
-use Rattle.report.specs.Report.{printed}
+use Rattle.report.specs.Report.{reported}
+use Rattle.program.specs.Program.{ReadFrom, printed, statusOf}
 use Rattle.runs.specs.Texts.{linesH, linesL, linesS, linesT, linesFirst, failing, textH}
-use Rattle.runs.proofs.Table.{reads, message, traceH, traceL, traceS, traceT, printed1, recovery1, recovery4, recovery5, recovery7, recovery8, recovery9, recovery10, table, receivesH, takenH, records-h}
+use Rattle.runs.proofs.Table.{reads, message, traceH, traceL, traceS, traceT, Said, printed1, recovery1, recovery4, recovery5, recovery7, recovery8, recovery9, recovery10, table, receivesH, takenH, records-h}
 use Rattle.runs.proofs.Calls.{cleared, Accepts, Reads, OnTable, Recovers, AllRefuse, Loses, AllHaveSteps, Finishes, Completes, Leaves, Stops, accepts, read-refused, failure-refused, recovers, all-refuse, loses, all-have-steps, finishes, completes, leaves, stops, reads as reads-failure}
 
 -- `report` writes these lines: into a buffer `out`, which it leaves as `after`, and it answers n
-abbrev pub Prints : List ℕ → List String → Type 0
-Prints text ls =
-    (out after : List ℕ) (n : ℕ) → n ≡ length (room (printed text) out) → after ≡ written (printed text) out
+abbrev pub Reports : List ℕ → List String → Type 0
+Reports text ls =
+    (out after : List ℕ) (n : ℕ) → n ≡ length (room (reported text) out) → after ≡ written (reported text) out
     → (n ≡ length (room (linesOf ls) out)) × (after ≡ written (linesOf ls) out)
 
-prints : (text : List ℕ) (ls : List String) → printed text ≡ linesOf ls → Prints text ls
-prints text ls e out after n h w = (h ∙ ap (λ (x : List ℕ). length (room x out)) e, w ∙ ap (λ (x : List ℕ). written x out) e)
+reports : (text : List ℕ) (ls : List String) → reported text ≡ linesOf ls → Reports text ls
+reports text ls e out after n h w = (h ∙ ap (λ (x : List ℕ). length (room x out)) e, w ∙ ap (λ (x : List ℕ). written x out) e)
+
+-- The program prints these lines for an input, and ends with a status: `respond` is given a buffer and a count, of which
+-- the bytes are the input's first, and by its contract n bytes of `after` are to write, and the status is s
+abbrev pub Prints : List ℕ → List String → ℕ → Type 0
+Prints input ls status =
+    (buffer after : List ℕ) (count n s : ℕ) → ReadFrom input buffer count
+    → ((i : List ℕ) → ReadFrom i buffer count → take n after ≡ printed i)
+    → ((i : List ℕ) → ReadFrom i buffer count → s ≡ statusOf i)
+    → (take n after ≡ linesOf ls) × (s ≡ status)
+
+-- both
+abbrev pub Says : List ℕ → List String → ℕ → Type 0
+Says text ls status = Prints text ls status × Reports text ls
+
+says : (text : List ℕ) (ls : List String) (status : ℕ) → Said text ls status → Says text ls status
+says text ls status (p, s, r) = ((λ b after count n k read wrote told. (wrote text read ∙ p, told text read ∙ s)), reports text ls r)
 
 -- ---- The texts as `read_failure` takes them: the trace, and the failure of the last line
 
@@ -79,7 +96,7 @@ refused12 = refl
 -- "R1: H as above."
 abbrev pub C1 : Type 0
 C1 =
-    Prints textH printed1
+    Says textH printed1 0
     × Accepts (linesOf linesH) traceH
     × Reads textH traceH 9 2
     × OnTable traceH (Recovers 9 2 recovery1)
@@ -88,7 +105,7 @@ C1 =
 c1 : C1
 c1 =
     let (p, v, f, x, s) = table .0 in (
-      prints textH printed1 p,
+      says textH printed1 0 p,
       accepts (linesOf linesH) traceH v,
       reads-failure textH traceH 9 2 fails1,
       recovers textH traceH 9 2 fails1 recovery1 x,
@@ -247,16 +264,25 @@ C11 =
     × Reads (failing linesH "fail=9 set=8") traceH 9 8
     × OnTable traceH (AllRefuse 9 0 9)
     × OnTable traceH (AllRefuse 9 8 9)
+    × Says (failing linesH "fail=9 set=0") ("refused=9 place=0" ∷ []) 1
+    × Says (failing linesH "fail=9 set=8") ("refused=9 place=0" ∷ []) 1
 
 c11 : C11
 c11 =
     let empty = failing linesH "fail=9 set=0" in
     let beyond = failing linesH "fail=9 set=8" in
-    let (x, y) = table .10 in
-    (reads-failure empty traceH 9 0 empty11, reads-failure beyond traceH 9 8 beyond11, all-refuse empty traceH 9 0 empty11 0 x, all-refuse beyond traceH 9 8 beyond11 0 y)
+    let line : List String = "refused=9 place=0" ∷ [] in
+    let (x, y, p, q) = table .10 in (
+      reads-failure empty traceH 9 0 empty11,
+      reads-failure beyond traceH 9 8 beyond11,
+      all-refuse empty traceH 9 0 empty11 0 x,
+      all-refuse beyond traceH 9 8 beyond11 0 y,
+      says empty line 1 p,
+      says beyond line 1 q,
+    )
 
--- "R12: a receive as first event is 5 at line 2." To `read` and to `read_failure`, which clear the table area, and to
--- `report`
+-- "R12: a receive as first event is 5 at line 2." To `read` and to `read_failure`, which clear the table area, to
+-- `report` and to the program
 abbrev pub C12 : Type 0
 C12 =
     ((before : List ℕ) → areaWords ≤ length before
@@ -264,13 +290,13 @@ C12 =
     × ((before : List ℕ) → areaWords ≤ length before
     → let text = failing linesFirst "fail=1 set=2" in
     (failureAnswer text before ≡ record { number = 5; place = 2; step = 0; set = 0 }) × (failureArea text before ≡ cleared before))
-    × Prints (failing linesFirst "fail=1 set=2") ("refused=5 place=2" ∷ [])
+    × Says (failing linesFirst "fail=1 set=2") ("refused=5 place=2" ∷ []) 1
 
 c12 : C12
 c12 =
     let text = failing linesFirst "fail=1 set=2" in
     let (v, p) = table .11 in
-    (read-refused (linesOf linesFirst) 5 2 v, failure-refused text 5 2 refused12, prints text ("refused=5 place=2" ∷ []) p)
+    (read-refused (linesOf linesFirst) 5 2 v, failure-refused text 5 2 refused12, says text ("refused=5 place=2" ∷ []) 1 p)
 
 -- ---- "Marked R1 to R12, to be proved together in one table"
 

@@ -28,7 +28,8 @@ use Rattle.recovery_line.specs.Given.{backOf}
 use Rattle.restart.specs.Restart.{engineLineOf, restartOf}
 use Rattle.printing.specs.Inner.Texts.{linesOf}
 use Rattle.runs.specs.Texts.{linesH, linesL, linesS, linesT, linesFirst, failing, textH}
-use Rattle.report.specs.Report.{Answer, refused, given, Failure, failureOf, Recovery, recoveryOf, recovery, messageLines, printedOf, printed}
+use Rattle.report.specs.Report.{Answer, refused, given, Failure, failureOf, Recovery, recoveryOf, recovery, messageLines, printedOf, reported}
+use Rattle.program.specs.Program.{answerTo, printed, statusOf}
 use Rattle.printing.specs.Lines.{processLine, messageLine, totalLine, refusalLine}
 use Rattle.machine.specs.Taken.{takenNumber, takenValue}
 use Rattle.orders.specs.Record.{recordAt}
@@ -36,7 +37,7 @@ use Rattle.runs.specs.Answers.{recoveryIn, losses, Replayed, replay, cha
 
 -- all that a row computes with, beside what the theory's rows do: `opens`
 unfoldable pub reads : ℕ
-unfolding linesOf failing startsWith fieldAt isDigit pushed digitsFrom numberAt lastDigits procsSaid sendSaid recvSaid saveSaid failSaid lineIn pieces faultHere judgeEvent judge linesFrom scanPieces scan verdict lastFailure failureFault permits lineFault failureOf losses replay channelRecord takenWords recordAt takenNumber takenValue exactStepsOf wordsFrom ones backOf engineLineOf restartOf recoveryOf recovery processLine messageLine messageLines totalLine refusalLine printedOf printed
+unfolding linesOf failing startsWith fieldAt isDigit pushed digitsFrom numberAt lastDigits procsSaid sendSaid recvSaid saveSaid failSaid lineIn pieces faultHere judgeEvent judge linesFrom scanPieces scan verdict lastFailure failureFault permits lineFault failureOf losses replay channelRecord takenWords recordAt takenNumber takenValue exactStepsOf wordsFrom ones backOf engineLineOf restartOf recoveryOf recovery processLine messageLine messageLines totalLine refusalLine printedOf reported answerTo printed statusOf
 reads = 0
 
 -- a message as the report lists it: from, to, number, phase
@@ -62,6 +63,10 @@ StepsFrom text l n = (losses text l ≡ given []) × (exactStepsOf text l ≡ gi
 
 -- ---- The rows
 
+-- what the program prints and its status, and the library's report, which is the same
+abbrev pub Said : List ℕ → List String → ℕ → Type 0
+Said text ls status = (printed text ≡ linesOf ls) × (statusOf text ≡ status) × (reported text ≡ linesOf ls)
+
 -- "R1: H as above." What is printed, byte for byte; then in parts: the trace and the failure that are read, and the
 -- recovery
 abbrev pub traceH : Trace
@@ -84,7 +89,7 @@ recovery1 =
 
 abbrev pub R1 : Type 0
 R1 =
-    (printed textH ≡ linesOf printed1)
+    Said textH printed1 0
     × (verdict (linesOf linesH) ≡ accepted traceH)
     × (failureOf textH ≡ given (record { trace = traceH; step = 9; failed = 2 }))
     × (recovery textH ≡ given recovery1)
@@ -92,7 +97,7 @@ R1 =
 
 r1 : R1
 unfolding opens reads
-r1 = (refl, refl, refl, refl, (refl, refl))
+r1 = ((refl, refl, refl), refl, refl, refl, (refl, refl))
 
 -- "R2: H with line 32,2,32 loses message 2 from 0 to 1." So the formula does not hold: order 1 is complete with 1 step,
 -- where it gives 3
@@ -238,26 +243,28 @@ r10 : R10
 unfolding opens reads
 r10 = (refl, refl, (refl, refl))
 
--- "R11: H with set 0 or 8 is 9."
+-- "R11: H with set 0 or 8 is 9." To the library, and to the program
 abbrev pub R11 : Type 0
 R11 =
     (recovery (failing linesH "fail=9 set=0") ≡ refused 9 0)
     × (recovery (failing linesH "fail=9 set=8") ≡ refused 9 0)
+    × Said (failing linesH "fail=9 set=0") ("refused=9 place=0" ∷ []) 1
+    × Said (failing linesH "fail=9 set=8") ("refused=9 place=0" ∷ []) 1
 
 r11 : R11
 unfolding opens reads
-r11 = (refl, refl)
+r11 = (refl, refl, (refl, refl, refl), (refl, refl, refl))
 
 -- "R12: a receive as first event is 5 at line 2." To the library; and to the program, which prints "only `refused=N
 -- place=P`"
 abbrev pub R12 : Type 0
 R12 =
     (verdict (linesOf linesFirst) ≡ Verdict.refused 5 2)
-    × (printed (failing linesFirst "fail=1 set=2") ≡ linesOf ("refused=5 place=2" ∷ []))
+    × Said (failing linesFirst "fail=1 set=2") ("refused=5 place=2" ∷ []) 1
 
 r12 : R12
 unfolding opens reads
-r12 = (refl, refl)
+r12 = (refl, (refl, refl, refl))
 
 -- ---- "Marked R1 to R12, to be proved together in one table"
 

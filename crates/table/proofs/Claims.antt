@@ -57,7 +57,7 @@ front-only a b la lb e = same-held (heldTrace a) (heldTrace b) (same-front a b l
 pub zero-refused : (a : List ℕ) → take areaWords a ≡ replicate areaWords 0 → (holdsTrace a ≡ false) × (heldTrace a ≡ none)
 zero-refused a z = zero-not-held a z
 
--- "Equal traces have equal areas", and no two traces have one: well-formed traces with the same words are equal.
+-- No two traces have one area: well-formed traces with the same words are equal.
 pub one-trace : (s t : Trace) → wellFormed s ≡ true → wellFormed t ≡ true
     → wordsFrom (tableWord s) 0 areaWords ≡ wordsFrom (tableWord t) 0 areaWords → s ≡ t
 one-trace s t v w e =

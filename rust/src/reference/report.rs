@@ -1,12 +1,9 @@
-//! What the program prints.
+//! The report on a text.
 
 use super::machine::Lowest;
 use super::reader;
 use super::recorded::{Class, Recorded};
-use crate::{Cause, Refusal, AREA_WORDS};
-
-/// The most bytes the program takes.
-const PROGRAM_BYTES: usize = 65_536;
+use crate::{Refusal, AREA_WORDS};
 
 /// Bytes written one after the other, as far as there is room.
 struct Writer<'a> {
@@ -40,7 +37,8 @@ impl Writer<'_> {
     }
 }
 
-/// Writes what the program prints about a text, and gives its length.
+/// Writes the report on a text, and gives its length. A text may have any length: the limit of
+/// 65,536 bytes is the program's own.
 ///
 /// ```
 /// let mut out = vec![0; hallback::REPORT_BYTES];
@@ -59,9 +57,6 @@ pub fn report(text: &[u8], out: &mut [u8]) -> usize {
 
 /// Writes the answer, or nothing if there is a refusal.
 fn write_answer(text: &[u8], writer: &mut Writer) -> Result<(), Refusal> {
-    if text.len() > PROGRAM_BYTES {
-        return Err(Refusal::new(Cause::Form, 0));
-    }
     let mut table = Box::new([0; AREA_WORDS]);
     let failure = reader::read(text, &mut table, true)?;
     let recorded = Recorded::load(&table, failure)?;

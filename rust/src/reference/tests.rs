@@ -219,8 +219,11 @@ fn limits() {
         read_failure(with_failure.as_bytes(), &mut table),
         Ok(failure(2_048, 1))
     );
-    assert!(report_of(&vec![b'x'; 65_537]).starts_with("refused=1 place=0\n"));
-    assert!(report_of(&vec![b'x'; 65_536]).starts_with("refused=1 place=1\n"));
+    // a text may be longer than the program takes
+    assert_eq!(report_of(&vec![b'x'; 65_537]), "refused=1 place=1\n");
+    let sends = "ev=send at=63 to=62 val=4294967295\n".repeat(2_048);
+    let report = report_of(format!("procs=64\n{sends}fail=2048 set=1\n").as_bytes());
+    assert!(report.ends_with("out=total back=1 orphans=0 kept=2048 steps=2048\n"));
 }
 
 #[test]

@@ -1,65 +1,55 @@
 -- `report::report` meets its contract, one law for each way out.
 use Prim.Native.Nat.{ℕ}
+use mathlib.Core.Bool.{true, false}
 use lib.ListN.{replicate, length-replicate}
 use Rattle.words.specs.Area.{areaWords}
-use Rattle.report.proofs.Ways.{answered, too-long, text-refused, failure-refused, recovered}
+use Rattle.report.proofs.Ways.{answered, text-refused, failure-refused, recovered}
 use borrow.Author.Needs.{needs}
 use Rattle.report.proofs.report.Statement.{statement}
 use Rattle.report.proofs.report.Tie as tie
 
 returns : tie.Need-returns
 returns c =
-    let args = c .before .before .before .before .before .before .before .args in
+    let args = c .before .before .before .before .before .before .before .before .before .before .before .args in
+    let read-failure = c .before .before .before .before .before .before .before .read-failure in
     let if1 = c .before .before .before .before .if1 in
     let put-refusal = c .before .before .put-refusal in
-    answered _ (args .text .now) _ _ _ (too-long (args .text .now) (if1 .taken)) (put-refusal .ensures)
+    answered _ (args .text .now) _ _ _ true (text-refused (args .text .now) (replicate areaWords 0) (length-replicate {A = ℕ} areaWords 0) (read-failure .result) (read-failure .ensures .0) (if1 .taken)) (put-refusal .ensures)
 
 returns-2 : tie.Need-returns-2
 returns-2 c =
-    let args = c .before .before .before .before .before .before .before .before .before .before .before .before .args in
+    let args = c .before .before .before .before .before .before .before .before .before .before .before .before .before .before .before .before .args in
+    let read-failure = c .before .before .before .before .before .before .before .before .before .before .before .before .read-failure in
     let if1 = c .before .before .before .before .before .before .before .before .before .if1 in
-    let read-failure = c .before .before .before .before .before .before .before .read-failure in
+    let recover = c .before .before .before .before .before .before .before .recover in
     let if2 = c .before .before .before .before .if2 in
     let put-refusal2 = c .before .before .put-refusal2 in
-    answered _ (args .text .now) _ _ _ (text-refused (args .text .now) (if1 .left) (replicate areaWords 0) (length-replicate {A = ℕ} areaWords 0) (read-failure .result) (read-failure .ensures .0) (if2 .taken)) (put-refusal2 .ensures)
-
-returns-3 : tie.Need-returns-3
-returns-3 c =
-    let args = c .before .before .before .before .before .before .before .before .before .before .before .before .before .before .before .before .before .args in
-    let if1 = c .before .before .before .before .before .before .before .before .before .before .before .before .before .before .if1 in
-    let read-failure = c .before .before .before .before .before .before .before .before .before .before .before .before .read-failure in
-    let if2 = c .before .before .before .before .before .before .before .before .before .if2 in
-    let recover = c .before .before .before .before .before .before .before .recover in
-    let if3 = c .before .before .before .before .if3 in
-    let put-refusal3 = c .before .before .put-refusal3 in
-    answered _ (args .text .now) _ _ _ (failure-refused (args .text .now) (if1 .left) (replicate areaWords 0) (length-replicate {A = ℕ} areaWords 0) (read-failure .result) (read-failure .ensures .0) (if2 .left) _ (read-failure .ensures .1 .0) (recover .result .restarted) (recover .ensures .0) (if3 .taken)) (put-refusal3 .ensures)
+    answered _ (args .text .now) _ _ _ true (failure-refused (args .text .now) (replicate areaWords 0) (length-replicate {A = ℕ} areaWords 0) (read-failure .result) (read-failure .ensures .0) (if1 .left) _ (read-failure .ensures .1 .0) (recover .result .restarted) (recover .ensures .0) (if2 .taken)) (put-refusal2 .ensures)
 
 put-recovery-requires : tie.Need-put-recovery-requires
 put-recovery-requires c κs =
     let recover = c .before .before .before .before .before .recover in
-    let if3 = c .before .before .if3 in
-    let args = c .before .before .before .before .before .before .before .before .before .before .before .before .before .before .before .args in
-    let if1 = c .before .before .before .before .before .before .before .before .before .before .before .before .if1 in
+    let if2 = c .before .before .if2 in
+    let args = c .before .before .before .before .before .before .before .before .before .before .before .before .before .before .args in
     let read-failure = c .before .before .before .before .before .before .before .before .before .before .read-failure in
-    let if2 = c .before .before .before .before .before .before .before .if2 in
-    let S = (recover .ensures .1 .1 .1 .1 .0) (if3 .left) in
-    let w = recovered (args .text .now) (if1 .left) (replicate areaWords 0) (length-replicate {A = ℕ} areaWords 0) (read-failure .result) (read-failure .ensures .0) (if2 .left) _ (read-failure .ensures .1 .0) (recover .result) _ (recover .ensures .0) (if3 .left) (recover .ensures .1 .1 .0) (recover .ensures .1 .1 .1 .0) S in
+    let if1 = c .before .before .before .before .before .before .before .if1 in
+    let S = (recover .ensures .1 .1 .1 .1 .0) (if2 .left) in
+    let w = recovered (args .text .now) (replicate areaWords 0) (length-replicate {A = ℕ} areaWords 0) (read-failure .result) (read-failure .ensures .0) (if1 .left) _ (read-failure .ensures .1 .0) (recover .result) _ (recover .ensures .0) (if2 .left) (recover .ensures .1 .1 .0) (recover .ensures .1 .1 .1 .0) S in
     (search needs, w .1 .0, w .1 .1)
 
-returns-4 : tie.Need-returns-4
-returns-4 c =
+returns-3 : tie.Need-returns-3
+returns-3 c =
     let recover = c .before .before .before .before .before .before .before .before .recover in
-    let if3 = c .before .before .before .before .before .if3 in
-    let args = c .before .before .before .before .before .before .before .before .before .before .before .before .before .before .before .before .before .before .args in
-    let if1 = c .before .before .before .before .before .before .before .before .before .before .before .before .before .before .before .if1 in
+    let if2 = c .before .before .before .before .before .if2 in
+    let args = c .before .before .before .before .before .before .before .before .before .before .before .before .before .before .before .before .before .args in
     let read-failure = c .before .before .before .before .before .before .before .before .before .before .before .before .before .read-failure in
-    let if2 = c .before .before .before .before .before .before .before .before .before .before .if2 in
+    let if1 = c .before .before .before .before .before .before .before .before .before .before .if1 in
     let put-recovery = c .before .before .put-recovery in
-    let S = (recover .ensures .1 .1 .1 .1 .0) (if3 .left) in
-    let w = recovered (args .text .now) (if1 .left) (replicate areaWords 0) (length-replicate {A = ℕ} areaWords 0) (read-failure .result) (read-failure .ensures .0) (if2 .left) _ (read-failure .ensures .1 .0) (recover .result) _ (recover .ensures .0) (if3 .left) (recover .ensures .1 .1 .0) (recover .ensures .1 .1 .1 .0) S in
-    answered _ (args .text .now) _ _ _ (w .0) (put-recovery .ensures)
+    let S = (recover .ensures .1 .1 .1 .1 .0) (if2 .left) in
+    let w = recovered (args .text .now) (replicate areaWords 0) (length-replicate {A = ℕ} areaWords 0) (read-failure .result) (read-failure .ensures .0) (if1 .left) _ (read-failure .ensures .1 .0) (recover .result) _ (recover .ensures .0) (if2 .left) (recover .ensures .1 .1 .0) (recover .ensures .1 .1 .1 .0) S in
+    answered _ (args .text .now) _ _ _ false (w .0) (put-recovery .ensures)
 
 pub report-spec : {M : Type 1} → statement M
 report-spec =
     tie.close
-    (tie.spec (λ c κs. search needs) (λ c. search needs) returns (λ c. search needs) (λ c κs. search needs) (λ c κs. search needs) (λ c. search needs) returns-2 (λ c. search needs) (λ c κs. search needs) (λ c κs. search needs) (λ c. search needs) returns-3 (λ c. search needs) put-recovery-requires (λ c. search needs) returns-4)
+    (tie.spec (λ c. search needs) (λ c κs. search needs) (λ c κs. search needs) (λ c. search needs) returns (λ c. search needs) (λ c κs. search needs) (λ c κs. search needs) (λ c. search needs) returns-2 (λ c. search needs) put-recovery-requires (λ c. search needs) returns-3)
