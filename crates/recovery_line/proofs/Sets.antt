@@ -8,7 +8,7 @@ use native.Mathlib.Nat.{pow-suc, lt-of-lt-of-le, zero-div}
 use native.Mathlib.Numerals.{one-add}
 use lib.Dec.{eqb, ltb}
 use lib.ListN.{length, getD, take, drop, length-take, length-drop, List·getD-eq-default}
-use lib.Seq.{drop-cons, getD-take, take-all}
+use lib.Seq.{drop-cons, getD-take, take-all, length-take-le}
 use lib.Pow.{pow-mono, shr-shr}
 use lib.Count.{ones, ones-step}
 use borrow.Author.Tests.{eq-eqb, ne-eqb, lt-ltb, le-ltb}
@@ -43,22 +43,28 @@ unfolding backOf
 back-lt [] = omega arith
 back-lt (e ∷ l) = omega (arith, back-lt l, bit-lt (eqb e 32), pow-suc 2 (length l))
 
--- a turn of the loop
-module _ (line : List ℕ) (i set : ℕ) (p : 0 < i) (h : i ≤ length line) (e : set ≡ backOf (drop i line)) where
-  pub back-fits : length line ≤ 64 → set < 2 ^ 63
-  back-fits q = rw e (lt-of-lt-of-le (back-lt (drop i line)) (pow-mono (let z : length (drop i line) ≤ 63 = rw length-drop (omega arith) in z)))
+-- a turn of the loop, over the first `count` numbers
+module _ (all : List ℕ) (count i set : ℕ) (p : 0 < i) (h : i ≤ count) (few : count ≤ length all) (e : set ≡ backOf (drop i (take count all))) where
+  abbrev line : List ℕ
+  line = take count all
 
-  turn : backBit (getD line (i - 1) 0) + 2 * set ≡ backOf (drop (i - 1) line)
+  long : length line ≡ count
+  long = length-take-le count all few
+
+  pub back-fits : count ≤ 64 → set < 2 ^ 63
+  back-fits q = rw e (lt-of-lt-of-le (back-lt (drop i line)) (pow-mono (let z : length (drop i line) ≤ 63 = rw (length-drop, long) (omega arith) in z)))
+
+  turn : backBit (getD all (i - 1) 0) + 2 * set ≡ backOf (drop (i - 1) line)
   unfolding backOf
   turn =
-      ap (λ (m : ℕ). backBit (getD line (i - 1) 0) + 2 * m) (e ∙ ap (λ (k : ℕ). backOf (drop k line)) (let s : i ≡ suc (i - 1) = omega arith in s))
-      ∙ sym (ap backOf (drop-cons line (i - 1) 0 (omega arith)))
+      ap₂ (λ (x m : ℕ). backBit x + 2 * m) (sym (getD-take count all (i - 1) 0 (omega arith))) (e ∙ ap (λ (k : ℕ). backOf (drop k line)) (let s : i ≡ suc (i - 1) = omega arith in s))
+      ∙ sym (ap backOf (drop-cons line (i - 1) 0 (omega (arith, long))))
 
-  pub back-in : (getD line (i - 1) 0 ≡ 32 → ⊥) → set * 2 + 1 ≡ backOf (drop (i - 1) line)
-  back-in n = omega (arith, rw (ne-eqb (getD line (i - 1) 0) 32 n) at turn)
+  pub back-in : (getD all (i - 1) 0 ≡ 32 → ⊥) → set * 2 + 1 ≡ backOf (drop (i - 1) line)
+  back-in n = omega (arith, rw (ne-eqb (getD all (i - 1) 0) 32 n) at turn)
 
-  pub back-out : getD line (i - 1) 0 ≡ 32 → set * 2 ≡ backOf (drop (i - 1) line)
-  back-out n = omega (arith, rw (eq-eqb (getD line (i - 1) 0) 32 n) at turn)
+  pub back-out : getD all (i - 1) 0 ≡ 32 → set * 2 ≡ backOf (drop (i - 1) line)
+  back-out n = omega (arith, rw (eq-eqb (getD all (i - 1) 0) 32 n) at turn)
 
 -- bit z says of process z that it goes back
 back-bit : (l : List ℕ) (z : ℕ) → backOf l / 2 ^ z % 2 ≡ backBit (getD l z 32)

@@ -6,7 +6,7 @@ ghost use mathlib.Core.Bool.{_&&_, not};
 ghost use lib.Count.{ones};
 ghost use lib.Dec.{ltb};
 ghost use Prim.Native.Nat.{ℕ, min, _≤_};
-ghost use lib.ListN.{length, set};
+ghost use lib.ListN.{length, take, set};
 ghost use Rattle.theory.specs.Line.{inSet, staysIn};
 ghost use Rattle.recovery_line.specs.Given.{lineIn, numbersOf, backOf, backOnes};
 
@@ -19,13 +19,13 @@ pub struct Line {
 // A process that stays as it was at the cut.
 pub const STAYS: u32 = 32;
 
-// The set of the processes not at 32, from the highest down.
-fn set_of(numbers: &[u32]) -> u64
-    requires { ⌜ length (now numbers) ≤ 64 ⌝ }
-    ensures { λ r. ⌜ r ≡ backOf (now (numbers .entry)) ⌝ }
+// The set of the processes not at 32 among the first `count`, from the highest down.
+fn set_of(numbers: &[u32], count: usize) -> u64
+    requires { ⌜ (count ≤ length (now numbers)) × (count ≤ 64) ⌝ }
+    ensures { λ r. ⌜ r ≡ backOf (take count (now (numbers .entry))) ⌝ }
 {
     let mut set: u64 = 0;
-    let mut i = numbers.len();
+    let mut i = count;
     while i > 0 {
         i -= 1;
         set = set * 2;
@@ -48,9 +48,7 @@ pub fn back_set(line: Line) -> u64
     ensures set { λ r. ⌜ r ≡ backOf (numbersOf line) ⌝ }
     ensures bits { λ r. ⌜ ((z : ℕ) → inSet r z ≡ (ltb z (min (line .count) 64) && not (staysIn (lineIn line) z))) ⌝ }
 {
-    let numbers = line.epochs;
-    let count = places(line.count);
-    set_of(&numbers[..count])
+    set_of(&line.epochs, places(line.count))
 }
 
 // How many go back: the ones of the set.
