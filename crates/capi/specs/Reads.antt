@@ -1,5 +1,5 @@
--- What is promised of reading (crate reader, specs/Meaning), of what a caller gets: the number r that is returned, and a
--- slice that begins with the place and, of a text with a failure line, its step and its set.
+-- What is promised of reading (crate reader, specs/Meaning), of what a caller gets: the number r that is returned, and
+-- a slice that begins with the place and, of a text with a failure line, its step and its set.
 use Prim.Native.Nat.{ℕ}
 use mathlib.Core.Path.{_≡_}
 use mathlib.Core.List.{List, _∷_}

@@ -34,8 +34,8 @@ pub record FailureText (text : List ℕ) (t : Trace) (step set : ℕ) : Type 0 w
   pub set-most : set ≤ mostSet
   pub bytes : text ≡ render t ++ renderFailure step set
 
--- "An answer has the number (0 if accepted)"; demand 1: "Nothing unfit is accepted, nothing fit is refused": 0 exactly if
--- the area has 16,384 words and the text is that of a well-formed trace
+-- "An answer has the number (0 if accepted)"; demand 1: "Nothing unfit is accepted, nothing fit is refused": 0 exactly
+-- if the area has 16,384 words and the text is that of a well-formed trace
 abbrev pub ReadAccepts : List ℕ → ℕ → ℕ → Type 0
 ReadAccepts text size number = (number ≡ 0) ↔ ((areaWords ≤ size) × ((t : Trace) × TraceText text t))
 
@@ -65,8 +65,8 @@ pub record Unended (bytes : List ℕ) (n : ℕ) : Type 0 where
   pub plain : pieces bytes ≡ bytes ∷ []
   pub number : n ≡ 1
 
--- The line that begins here ends with LF and is at fault by itself: every text that has the same bytes up to that LF has
--- the same answer, whatever follows.
+-- The line that begins here ends with LF and is at fault by itself: every text that has the same bytes up to that LF
+-- has the same answer, whatever follows.
 pub record FaultyLine (Fault : List ℕ → ℕ → Type 0) (Same : List ℕ → Type 0) (bytes : List ℕ) (n : ℕ) : Type 0 where
   pub line : List ℕ
   pub rest : List ℕ
@@ -93,8 +93,8 @@ pub record LaterFault (Same : List ℕ → Type 0) (text : List ℕ) (n k : ℕ)
   pub bytes : text ≡ render before ++ after
   pub fault : AtFault (EventFault before) (λ (x : List ℕ). Same (render before ++ x)) after n
 
--- Line k follows a failure line, which is to be the last: the lines before it are those of a well-formed trace with k - 3
--- events and a failure line.
+-- Line k follows a failure line, which is to be the last: the lines before it are those of a well-formed trace with
+-- k - 3 events and a failure line.
 pub record PastFailure (Same : List ℕ → Type 0) (text : List ℕ) (n k : ℕ) : Type 0 where
   pub front : List ℕ
   pub before : Trace

@@ -116,7 +116,7 @@ fn append(table: &mut [u32], n: usize, e: Event)
     table[trace::VALUE_BASE + (n + 1)] = trace::value(e);
 }
 
-// The number of a judged line.
+// The number of a judged line, 0 where it is fit.
 fn number(j: Judged) -> u32
     ensures { λ r. ⌜ r ≡ judgedNumber j ⌝ }
 {

@@ -1,4 +1,5 @@
--- `reader::read_failure_in` meets its contract, one law for each end of the scan: the one that is wanted, and the others.
+-- `reader::read_failure_in` meets its contract, one law for each end of the scan: the one that is wanted, and the
+-- others.
 use Rattle.reader.proofs.Verdicts.{told-stopped, failing-other, failing-follows, failing-last}
 use native.Mathlib.Omega.{arith}
 use borrow.Author.Needs.{needs}

@@ -57,8 +57,8 @@ judgedNumber (Fit e) = 0
 judgedNumber (Fails step set) = 1
 judgedNumber (Unfit n) = n
 
--- The refusal by each way in which the lines end: a faulty line's own; 1 at the line after the last, where a failure line
--- is missing; 1 at a failure line, where none is due.
+-- The refusal by each way in which the lines end: a faulty line's own; 1 at the line after the last, where a failure
+-- line is missing; 1 at a failure line, where none is due.
 abbrev pub refusalOf : Scanned → Answer
 refusalOf (Refused n k) = record { number = n; place = k }
 refusalOf (Ended k) = record { number = 1; place = k }
