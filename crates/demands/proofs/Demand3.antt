@@ -5,22 +5,23 @@
 -- with one not allowed is refused and has no record."
 -- Of what `replay` answers and leaves (`replayAnswer`, `replayArea`), for every table area, run area, failure, line and
 -- order; of `lowest` with its own order. What is accepted is Demand1's `replay-accepts`.
-use Prim.Native.Nat.{ℕ, suc, _≤_, _<_}
-use mathlib.Core.Path.{_≡_, sym, ap, _∙_}
+use Prim.Native.Nat.{ℕ}
+use mathlib.Core.Path.{_≡_, sym, _∙_}
 use mathlib.Core.Logic.{_↔_, _≢_}
 use mathlib.Core.Bool.{true}
 use mathlib.Core.List.{List, [], _∷_}
-use lib.ListN.{length, take, replicate}
+use lib.ListN.{take, replicate}
 use Rattle.words.specs.Area.{areaWords, wordsFrom}
-use Rattle.table.specs.Held.{held}
+use Rattle.table.specs.Held.{held, holdsTrace}
 use Rattle.theory.specs.Line.{Run, lost, LossFree}
 use Rattle.theory.specs.Replay.{State}
 use Rattle.theory.specs.Record.{faultless}
-use Rattle.theory.specs.Order.{lowestOrder}
 use Rattle.theory.specs.Inner.Orders.{Allowed}
 use Rattle.theory.proofs.Orders.{order-progress, order-done, order-differs}
 use Rattle.recovery_line.specs.declared.Line.{Line}
 use Rattle.orders.specs.Record.{faultlessAt, listIn}
+use Rattle.orders.proofs.Told.{faultless-told}
+use Rattle.protocol.proofs.Passes.{held-few}
 use Rattle.preparing.specs.Faults.{runOf}
 use Rattle.recovery.specs.Answers.{replayAnswer, replayArea, Equal, SameLists}
 use Rattle.demands.proofs.Replays.{promised, Carried, accepted, carried-laws, two-told}
@@ -41,6 +42,11 @@ module _ (a area : List ℕ) (step set : ℕ) (l : Line) (order : List ℕ) wher
   -- the same by the words of the area (the contracts of `replay` and `lowest` have both clauses)
   pub demand-3-words : Equal a step l (replayAnswer a area step set l order) after
   demand-3-words = promised a area step set l order .1 .1 .0
+
+  -- "In the run without failure these are its receives in the whole trace, those after the cut too.": so `Equal`'s words
+  -- are words of these lists
+  pub faultless-lists : holdsTrace a ≡ true → (p q : ℕ) → listIn (held a) (wordsFrom (faultlessAt (held a)) 0 areaWords) p q ≡ faultless R p q
+  faultless-lists h = faultless-told R (held-few a h)
 
   -- "an order with one not allowed is refused and has no record": zeros, which are no record of a trace's receives
   pub no-record : replayAnswer a area step set l order .number ≡ 11 → take areaWords after ≡ replicate areaWords 0
