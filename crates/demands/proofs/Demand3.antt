@@ -5,19 +5,22 @@
 -- with one not allowed is refused and has no record."
 -- Of what `replay` answers and leaves (`replayAnswer`, `replayArea`), for every table area, run area, failure, line and
 -- order; of `lowest` with its own order. What is accepted is Demand1's `replay-accepts`.
-use Prim.Native.Nat.{ℕ}
+use Prim.Native.Nat.{ℕ, _≤_}
 use mathlib.Core.Path.{_≡_, sym, _∙_}
 use mathlib.Core.Logic.{_↔_, _≢_}
 use mathlib.Core.Bool.{true}
 use mathlib.Core.List.{List, [], _∷_}
-use lib.ListN.{take, replicate}
+use lib.ListN.{length, take, replicate}
 use Rattle.words.specs.Area.{areaWords, wordsFrom}
 use Rattle.table.specs.Held.{held, holdsTrace}
-use Rattle.theory.specs.Line.{Run, lost, LossFree}
-use Rattle.theory.specs.Replay.{State}
+use Rattle.theory.specs.Line.{Run, lost, orphan, orphanPhase, LossFree}
+use Rattle.theory.specs.Replay.{State, ready}
 use Rattle.theory.specs.Record.{faultless}
 use Rattle.theory.specs.Inner.Orders.{Allowed}
-use Rattle.theory.proofs.Orders.{order-progress, order-done, order-differs}
+use Rattle.theory.specs.Inner.Record.{sentAgain}
+use Rattle.theory.proofs.Answers.{ready-iff}
+use Rattle.theory.proofs.Loss.{inv}
+use Rattle.theory.proofs.Orders.{run-reaches, order-progress, order-done, order-differs}
 use Rattle.recovery_line.specs.declared.Line.{Line}
 use Rattle.orders.specs.Record.{faultlessAt, listIn}
 use Rattle.orders.proofs.Told.{faultless-told}
@@ -63,6 +66,12 @@ module _ (a area : List ℕ) (step set : ℕ) (l : Line) (order : List ℕ) wher
 
     abbrev C : Carried a area step set l order s
     C = leaves-its-record .1
+
+    -- "Phase r is ready when every orphan of phase r or less has been sent again." (Which choices are then allowed: Gates.)
+    pub ready-when : (r : ℕ) → (ready R s r ≡ true) ↔ ((p q k : ℕ) → orphan R p q k ≡ true → orphanPhase R p q k ≤ r → sentAgain R s p q k ≡ true)
+    ready-when =
+        let L = carried-laws a area step set l order s C in
+        ready-iff R L s (inv R L s (length order) (run-reaches R order s (C .carries)) .cursors)
 
     -- "From a line without loss, an order carried out so far always has an allowed choice until each zone has done all
     -- its events"
