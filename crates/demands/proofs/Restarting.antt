@@ -113,9 +113,6 @@ module _ (a : List ℕ) (step set : ℕ) (ok : restartAnswer a step set .number 
   pub count-is : restartAnswer a step set .line .count ≡ t .procs
   count-is = ap (λ (r : Restarted). r .line .count) answer-is
 
-  pub number-at : (z : ℕ) → z < t .procs → getD (restartAnswer a step set .line .epochs) z 0 ≡ engineLine t step set z
-  number-at z h = ap (λ (r : Restarted). getD (r .line .epochs) z 0) answer-is ∙ each-at t (valid t formed .few) (engineLine t step set) z h
-
   pub number-past : (z : ℕ) → t .procs ≤ z → getD (restartAnswer a step set .line .epochs) z 0 ≡ 0
   number-past z h =
       ap (λ (r : Restarted). getD (r .line .epochs) z 0) answer-is
