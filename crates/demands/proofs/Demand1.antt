@@ -5,7 +5,7 @@
 -- (The first half of the demand, no step outside lent memory, no number that wraps, no run without end, is that every
 -- function is proved and that none of these has a `requires`. For texts: crates/reader/proofs/Claims.)
 use Prim.Native.Nat.{ℕ, suc, _≤_, _<_}
-use mathlib.Core.Path.{_≡_, sym, ap, _∙_}
+use mathlib.Core.Path.{_≡_}
 use mathlib.Core.Logic.{_↔_}
 use mathlib.Core.Bool.{false}
 use mathlib.Core.List.{List}
@@ -58,7 +58,7 @@ module _ (a : List ℕ) (step set : ℕ) where
 
 module _ (a area : List ℕ) (step set : ℕ) (l : Line) where
   -- and the line has a number for each process, each permitted
-  pub messages-accepts : (messagesAnswer a area step set l .number ≡ 0) ↔ (Areas a (length area) step set l × FitLine (held a) step set (l .count) (lineIn l))
+  pub messages-accepts : (messagesAnswer a area step set l .number ≡ 0) ↔ (Areas a (length area) × FitLine (held a) step set (l .count) (lineIn l))
   messages-accepts = rw (messages-number a area step set l) (line-accepts a (length area) step set l)
 
   -- 12, 13, 8, 9, "10: the line hasn't N numbers, or one isn't permitted."
@@ -87,7 +87,7 @@ module _ (a area : List ℕ) (step set : ℕ) (l : Line) (order : List ℕ) wher
 
   -- and each choice is "allowed where it comes"
   pub replay-accepts : (answer .number ≡ 0)
-      ↔ (Areas a (length area) step set l
+      ↔ (Areas a (length area)
       × (FitLine (held a) step set (l .count) (lineIn l)
       × ((m : ℕ) → m < length order → (s : State) × (run R (take m order) ≡ carriedOut s) × Allowed R s (getD order m 0))))
   replay-accepts = replay-fit a area step set l order
@@ -98,7 +98,7 @@ module _ (a area : List ℕ) (step set : ℕ) (l : Line) (order : List ℕ) wher
 
   -- "11: a choice isn't allowed where it comes."
   pub replay-refuses-11 : (answer .number ≡ 11)
-      ↔ (Areas a (length area) step set l
+      ↔ (Areas a (length area)
       × (FitLine (held a) step set (l .count) (lineIn l)
       × ((m : ℕ) × (s : State) × (m < length order) × (run R (take m order) ≡ carriedOut s) × (choose R s (getD order m 0) ≡ none))))
   replay-refuses-11 = replay-eleven a area step set l order
@@ -126,5 +126,5 @@ module _ (a area : List ℕ) (step set : ℕ) (l : Line) (order : List ℕ) wher
 -- ---- `lowest`: the same with its own order, which is never refused with 11
 
 pub lowest-accepts : (a area : List ℕ) (step set : ℕ) (l : Line)
-    → (replayAnswer a area step set l (lowestOrder (runOf a step l)) .number ≡ 0) ↔ (Areas a (length area) step set l × FitLine (held a) step set (l .count) (lineIn l))
+    → (replayAnswer a area step set l (lowestOrder (runOf a step l)) .number ≡ 0) ↔ (Areas a (length area) × FitLine (held a) step set (l .count) (lineIn l))
 lowest-accepts = lowest-fit

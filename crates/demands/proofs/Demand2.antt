@@ -5,30 +5,24 @@
 -- Of what `restart`, `messages` and `replay` answer and leave, by their definitions, for every input that is not refused.
 -- What the definitions of epochs, phases and classes mean by events: crates/theory/proofs/Claims.
 use Prim.Native.Nat.{ℕ, suc, _≤_, _<_}
-use mathlib.Core.Path.{_≡_, sym, ap, _∙_}
-use mathlib.Core.Logic.{_↔_}
-use mathlib.Core.Bool.{true}
+use mathlib.Core.Path.{_≡_}
 use mathlib.Core.List.{List}
 use mathlib.Core.Option.{some}
 use lib.ListN.{length, getD, take}
-use Rattle.words.specs.Area.{areaWords, wordsFrom}
 use Rattle.trace.specs.Trace.{Trace}
 use Rattle.table.specs.Held.{held}
 use Rattle.theory.specs.Epochs.{phaseAt, ruleOf}
-use Rattle.theory.specs.Line.{inSet, Run, LossFree, restartIn, current, Permitted, usableAt, runAt, engineLine}
+use Rattle.theory.specs.Line.{inSet, Run, LossFree, restartIn, current, Permitted, usableAt, runAt}
 use Rattle.theory.specs.Replay.{State}
-use Rattle.theory.specs.Record.{delivered}
-use Rattle.theory.specs.Order.{carriedOut, choose, run, steps, mostSteps, Complete}
-use Rattle.theory.specs.Answers.{exactSteps}
+use Rattle.theory.specs.Order.{carriedOut, choose, run}
 use Rattle.recovery_line.specs.declared.Line.{Line}
 use Rattle.recovery_line.specs.Given.{lineIn}
-use Rattle.orders.specs.Record.{recordAt, listIn}
 use Rattle.preparing.specs.Faults.{runOf}
 use Rattle.restart.specs.Restart.{restartAnswer, Restarts}
 use Rattle.messages.specs.Messages.{countsOf, messagesAnswer, messagesArea}
 use Rattle.messages.specs.Meaning.{Lists}
-use Rattle.recovery.specs.Answers.{replayAnswer, replayArea, StepsExact, StepsAtMost}
-use Rattle.demands.proofs.Restarting.{restart-promised, epoch-at, phase-at, count-is, number-at, number-past, keeps-most}
+use Rattle.recovery.specs.Answers.{replayAnswer, StepsExact, StepsAtMost}
+use Rattle.demands.proofs.Restarting.{restart-promised, epoch-at, phase-at, count-is, number-past, keeps-most}
 use Rattle.demands.proofs.Listing.{messages-promised, counts-are}
 use Rattle.demands.proofs.Replays.{promised, Carried, accepted, step-of-each}
 

@@ -5,22 +5,26 @@
 -- with one not allowed is refused and has no record."
 -- Of what `replay` answers and leaves (`replayAnswer`, `replayArea`), for every table area, run area, failure, line and
 -- order; of `lowest` with its own order. What is accepted is Demand1's `replay-accepts`.
-use Prim.Native.Nat.{ℕ, suc, _≤_, _<_}
-use mathlib.Core.Path.{_≡_, sym, ap, _∙_}
+use Prim.Native.Nat.{ℕ, _≤_}
+use mathlib.Core.Path.{_≡_, sym, _∙_}
 use mathlib.Core.Logic.{_↔_, _≢_}
 use mathlib.Core.Bool.{true}
 use mathlib.Core.List.{List, [], _∷_}
 use lib.ListN.{length, take, replicate}
 use Rattle.words.specs.Area.{areaWords, wordsFrom}
-use Rattle.table.specs.Held.{held}
-use Rattle.theory.specs.Line.{Run, lost, LossFree}
-use Rattle.theory.specs.Replay.{State}
+use Rattle.table.specs.Held.{held, holdsTrace}
+use Rattle.theory.specs.Line.{Run, lost, orphan, orphanPhase, LossFree}
+use Rattle.theory.specs.Replay.{State, ready}
 use Rattle.theory.specs.Record.{faultless}
-use Rattle.theory.specs.Order.{lowestOrder}
 use Rattle.theory.specs.Inner.Orders.{Allowed}
-use Rattle.theory.proofs.Orders.{order-progress, order-done, order-differs}
+use Rattle.theory.specs.Inner.Record.{sentAgain}
+use Rattle.theory.proofs.Answers.{ready-iff}
+use Rattle.theory.proofs.Loss.{inv}
+use Rattle.theory.proofs.Orders.{run-reaches, order-progress, order-done, order-differs}
 use Rattle.recovery_line.specs.declared.Line.{Line}
 use Rattle.orders.specs.Record.{faultlessAt, listIn}
+use Rattle.orders.proofs.Told.{faultless-told}
+use Rattle.protocol.proofs.Passes.{held-few}
 use Rattle.preparing.specs.Faults.{runOf}
 use Rattle.recovery.specs.Answers.{replayAnswer, replayArea, Equal, SameLists}
 use Rattle.demands.proofs.Replays.{promised, Carried, accepted, carried-laws, two-told}
@@ -42,6 +46,11 @@ module _ (a area : List ℕ) (step set : ℕ) (l : Line) (order : List ℕ) wher
   pub demand-3-words : Equal a step l (replayAnswer a area step set l order) after
   demand-3-words = promised a area step set l order .1 .1 .0
 
+  -- "In the run without failure these are its receives in the whole trace, those after the cut too.": so `Equal`'s words
+  -- are words of these lists
+  pub faultless-lists : holdsTrace a ≡ true → (p q : ℕ) → listIn (held a) (wordsFrom (faultlessAt (held a)) 0 areaWords) p q ≡ faultless R p q
+  faultless-lists h = faultless-told R (held-few a h)
+
   -- "an order with one not allowed is refused and has no record": zeros, which are no record of a trace's receives
   pub no-record : replayAnswer a area step set l order .number ≡ 11 → take areaWords after ≡ replicate areaWords 0
   no-record = eleven-area a area step set l order
@@ -57,6 +66,12 @@ module _ (a area : List ℕ) (step set : ℕ) (l : Line) (order : List ℕ) wher
 
     abbrev C : Carried a area step set l order s
     C = leaves-its-record .1
+
+    -- "Phase r is ready when every orphan of phase r or less has been sent again." (Which choices are then allowed: Gates.)
+    pub ready-when : (r : ℕ) → (ready R s r ≡ true) ↔ ((p q k : ℕ) → orphan R p q k ≡ true → orphanPhase R p q k ≤ r → sentAgain R s p q k ≡ true)
+    ready-when =
+        let L = carried-laws a area step set l order s C in
+        ready-iff R L s (inv R L s (length order) (run-reaches R order s (C .carries)) .cursors)
 
     -- "From a line without loss, an order carried out so far always has an allowed choice until each zone has done all
     -- its events"

@@ -1,17 +1,17 @@
 -- The lists of a run's messages have room in the run area: no message is of two classes, and there are no more messages
 -- than events.
-use Prim.Native.Nat.{ℕ, _+_, _≤_, _<_}
-use mathlib.Core.Path.{_≡_, refl, sym, ap, _∙_}
-use mathlib.Core.Bool.{Bool, true, false, _&&_, _||_, not}
-use mathlib.Core.List.{List, [], _∷_, map}
+use Prim.Native.Nat.{ℕ, _+_, _≤_}
+use mathlib.Core.Path.{_≡_, refl, sym, _∙_}
+use mathlib.Core.Bool.{Bool, true, false}
+use mathlib.Core.List.{List, [], _∷_}
 use native.Mathlib.Omega.{arith}
 use lib.ListN.{length, length-map}
 use lib.Dec.{leb, ltb}
 use borrow.Author.Tests.{leb-true, ltb-true}
 use Rattle.theory.specs.Lists.{iv, keep, sum}
-use Rattle.theory.specs.Events.{size, sent, rcvd}
+use Rattle.theory.specs.Events.{size, sent}
 use Rattle.theory.specs.Line.{Run, lost, orphan, kept, orphanPhase}
-use Rattle.theory.specs.Answers.{Listed, messages, orphans, keptOnes, lostOnes}
+use Rattle.theory.specs.Answers.{messages, orphans, keptOnes, lostOnes}
 use Rattle.theory.specs.Inner.Laws.{Laws}
 use Rattle.theory.specs.Inner.Flow.{rBefore, rCut, sBefore}
 use Rattle.theory.proofs.Base.{by, both, clash, length-iv, sum-cong, sum-le, sum-add}

@@ -1,11 +1,9 @@
 -- What is accepted and what a refusal leaves, for Demand1.
-use Prim.Native.Nat.{ℕ, suc, _≤_, _<_}
+use Prim.Native.Nat.{ℕ, suc, _<_}
 use mathlib.Core.Path.{_≡_, refl, sym, ap, subst, _∙_}
 use mathlib.Core.Logic.{_↔_}
-use mathlib.Core.Bool.{Bool, true, false}
-use mathlib.Core.List.{List, _++_}
-use mathlib.Core.Option.{none, some, Option·none-ne-some}
-use native.Mathlib.Omega.{arith}
+use mathlib.Core.List.{List}
+use mathlib.Core.Option.{none, Option·none-ne-some}
 use lib.ListN.{length, getD, take, drop, replicate}
 use lib.Seq.{drop-at}
 use borrow.Author.Tests.{ne-eqb}
@@ -13,7 +11,6 @@ use Rattle.words.specs.Area.{areaWords, wordsFrom}
 use Rattle.words.proofs.Area.{length-words}
 use Rattle.words.proofs.Cases.{by-eq}
 use Rattle.table.specs.Held.{held}
-use Rattle.theory.specs.Events.{size}
 use Rattle.theory.specs.Epochs.{ruleOf}
 use Rattle.theory.specs.Line.{Run}
 use Rattle.theory.specs.Replay.{State}
@@ -30,12 +27,10 @@ use Rattle.recovery_line.specs.Given.{lineIn}
 use Rattle.listing.specs.Listing.{listWord}
 use Rattle.orders.specs.declared.Replayed.{Replayed}
 use Rattle.preparing.specs.Faults.{runOf, failureFaultOf, lineFaultOf}
-use Rattle.restart.specs.declared.Restarted.{Restarted}
 use Rattle.restart.specs.Restart.{restartRefusal, restartAnswer}
-use Rattle.messages.specs.declared.Counted.{Counted}
 use Rattle.messages.specs.Messages.{messagesRefusal, messagesAnswer, messagesArea}
 use Rattle.recovery.specs.Answers.{replayAnswer, replayArea}
-use Rattle.demands.proofs.Numbers.{Left, left-iff, Areas, restart-number, messages-number, line-accepts}
+use Rattle.demands.proofs.Numbers.{left-iff, Areas, restart-number, messages-number, line-accepts}
 use Rattle.demands.proofs.Replays.{Ends, done, stopped, unfit, ends, zero-done, eleven-stopped, answer-stopped, front-stopped, area-unfit}
 
 restart-unfit : (a : List ℕ) (step set : ℕ) → (failureFaultOf a step set ≡ 0 → ⊥) → restartAnswer a step set ≡ restartRefusal (failureFaultOf a step set)
@@ -70,7 +65,7 @@ module _ (a area : List ℕ) (step set : ℕ) (l : Line) where
       (λ z. rw (ne-eqb fault 0 z))
 
   abbrev Fit : Type 0
-  Fit = Areas a (length area) step set l × FitLine (held a) step set (l .count) (lineIn l)
+  Fit = Areas a (length area) × FitLine (held a) step set (l .count) (lineIn l)
 
   module _ (order : List ℕ) where
     abbrev R : Run
@@ -83,7 +78,7 @@ module _ (a area : List ℕ) (step set : ℕ) (l : Line) where
     fit-iff = line-accepts a (length area) step set l
 
     pub replay-fit : (answer .number ≡ 0)
-        ↔ (Areas a (length area) step set l
+        ↔ (Areas a (length area)
         × (FitLine (held a) step set (l .count) (lineIn l)
         × ((m : ℕ) → m < length order → (s : State) × (run R (take m order) ≡ carriedOut s) × Allowed R s (getD order m 0))))
     replay-fit =
@@ -101,7 +96,7 @@ module _ (a area : List ℕ) (step set : ℕ) (l : Line) where
         (r .0, r .1, ap (λ (y : Replayed). y .place) (answer-stopped a area step set l order (x .0) z (x .1)) ∙ r .2, r .3, r .4, r .5)
 
     pub replay-eleven : (answer .number ≡ 11)
-        ↔ (Areas a (length area) step set l
+        ↔ (Areas a (length area)
         × (FitLine (held a) step set (l .count) (lineIn l)
         × ((m : ℕ) × (s : State) × (m < length order) × (run R (take m order) ≡ carriedOut s) × (choose R s (getD order m 0) ≡ none))))
     replay-eleven = (
@@ -132,7 +127,7 @@ module _ (a area : List ℕ) (step set : ℕ) (l : Line) where
         go (unfit z) = area-unfit a area step set l order z
 
   pub lowest-fit : (replayAnswer a area step set l (lowestOrder (runOf a step l)) .number ≡ 0)
-      ↔ (Areas a (length area) step set l × FitLine (held a) step set (l .count) (lineIn l))
+      ↔ (Areas a (length area) × FitLine (held a) step set (l .count) (lineIn l))
   lowest-fit =
       let order = lowestOrder (runOf a step l) in
       let z = zero-done a area step set l order in

@@ -1,6 +1,6 @@
 -- What `messages` answers and leaves, by its definitions: the promises of its contract.
-use Prim.Native.Nat.{ℕ, _+_, _≤_, _<_}
-use mathlib.Core.Path.{_≡_, refl, sym, ap, subst, _∙_}
+use Prim.Native.Nat.{ℕ, _+_, _≤_}
+use mathlib.Core.Path.{_≡_, refl, sym, subst, _∙_}
 use mathlib.Core.List.{List, _++_}
 use native.Mathlib.Omega.{arith}
 use lib.ListN.{length, drop}
@@ -18,10 +18,9 @@ use Rattle.recovery_line.specs.declared.Line.{Line}
 use Rattle.recovery_line.specs.Given.{lineIn}
 use Rattle.listing.specs.Listing.{listWord}
 use Rattle.preparing.specs.Faults.{runOf, lineFaultOf}
-use Rattle.messages.specs.declared.Counted.{Counted}
 use Rattle.messages.specs.Messages.{countsOf, messagesRefusal, messagesAnswer, messagesArea}
 use Rattle.messages.proofs.Listing.{Listed, refuses-messages, lists}
-use Rattle.demands.proofs.Numbers.{Left, left-iff, Areas, line-accepts, messages-number}
+use Rattle.demands.proofs.Numbers.{left-iff, line-accepts, messages-number}
 use Rattle.demands.proofs.Few.{messages-few}
 
 module _ (a area : List ℕ) (step set : ℕ) (l : Line) where

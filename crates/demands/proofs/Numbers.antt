@@ -1,14 +1,14 @@
 -- The number of each answer: which call is accepted, and why another is refused.
 use Prim.Native.Nat.{ℕ, _^_, _≤_, _<_}
-use mathlib.Core.Path.{_≡_, refl, sym, ap, subst, _∙_}
+use mathlib.Core.Path.{_≡_, sym, subst}
 use mathlib.Core.Logic.{_⊎_, inl, inr, _↔_}
-use mathlib.Core.Bool.{Bool, true, false, _&&_, _||_, not, cond}
+use mathlib.Core.Bool.{true, _&&_, _||_}
 use mathlib.Core.List.{List}
 use mathlib.Core.Option.{some}
 use native.Mathlib.Omega.{arith}
 use lib.Dec.{leb, ltb, eqb}
 use lib.ListN.{length}
-use borrow.Author.Tests.{ltb-true, ltb-false, lt-ltb, le-ltb, eqb-true, eq-eqb, ne-eqb}
+use borrow.Author.Tests.{ltb-true, ltb-false, lt-ltb, le-ltb, ne-eqb}
 use Rattle.words.specs.Area.{areaWords}
 use Rattle.words.proofs.Cases.{by-bool, by-eq, clash}
 use Rattle.trace.specs.Trace.{Trace}
@@ -35,6 +35,10 @@ use Rattle.messages.specs.Messages.{messagesAnswer}
 -- trace that the area holds; the reading would change nothing
 abbrev pub Left : List ℕ → Type 0
 Left a = (text : List ℕ) × (verdict text ≡ accepted (held a)) × (areaWords ≤ length a) × (readArea text a ≡ a)
+
+-- a table area that is so left, and a run area of `room` words
+abbrev pub Areas : List ℕ → ℕ → Type 0
+Areas a room = Left a × (areaWords ≤ room)
 
 pub left-iff : (a : List ℕ) → (holdsTrace a ≡ true) ↔ Left a
 left-iff a = (
@@ -174,10 +178,6 @@ module _ (a : List ℕ) (room step set : ℕ) (l : Line) where
   abbrev line-fault : ℕ
   line-fault = lineFaultOf a room step set l
 
-  -- of a table area and a run area
-  abbrev pub Areas : Type 0
-  Areas = Left a × (areaWords ≤ room)
-
   not-rest : (n : ℕ) → (n ≡ 0 → ⊥) → (n ≡ 8 → ⊥) → (n ≡ 9 → ⊥) → (n ≡ 10 → ⊥) → rest ≡ n → ⊥
   not-rest = line-not held-trace step set (l .count) (lineIn l)
 
@@ -189,7 +189,7 @@ module _ (a : List ℕ) (room step set : ℕ) (l : Line) where
   unfolding lineFaultOf
   line-13 = areas-13 a room rest (not-rest 13 (λ e. omega arith) (λ e. omega arith) (λ e. omega arith) (λ e. omega arith))
 
-  line-else : (n : ℕ) → (n ≡ 12 → ⊥) → (n ≡ 13 → ⊥) → (line-fault ≡ n) ↔ (Areas × (rest ≡ n))
+  line-else : (n : ℕ) → (n ≡ 12 → ⊥) → (n ≡ 13 → ⊥) → (line-fault ≡ n) ↔ (Areas a room × (rest ≡ n))
   unfolding lineFaultOf
   line-else n b c =
       let f = areas-else a room rest n b c in
@@ -202,12 +202,12 @@ module _ (a : List ℕ) (room step set : ℕ) (l : Line) where
   pub record LineNumbers (n : ℕ) : Type 0 where
     pub twelve : (n ≡ 12) ↔ ((length a < areaWords) ⊎ (room < areaWords))
     pub thirteen : (n ≡ 13) ↔ ((areaWords ≤ length a) × (areaWords ≤ room) × (Left a → ⊥))
-    pub eight : (n ≡ 8) ↔ (Areas × (size held-trace < step))
-    pub nine : (n ≡ 9) ↔ (Areas × ((step ≤ size held-trace) × UnfitSet held-trace set))
+    pub eight : (n ≡ 8) ↔ (Areas a room × (size held-trace < step))
+    pub nine : (n ≡ 9) ↔ (Areas a room × ((step ≤ size held-trace) × UnfitSet held-trace set))
     pub ten : (n ≡ 10)
-        ↔ (Areas × (FitFailure held-trace step set × (((l .count ≡ held-trace .procs) × Permitted held-trace (ruleOf held-trace) step (usableAt held-trace step) (inSet set) (lineIn l)) → ⊥)))
+        ↔ (Areas a room × (FitFailure held-trace step set × (((l .count ≡ held-trace .procs) × Permitted held-trace (ruleOf held-trace) step (usableAt held-trace step) (inSet set) (lineIn l)) → ⊥)))
 
-  pub line-accepts : (line-fault ≡ 0) ↔ (Areas × FitLine held-trace step set (l .count) (lineIn l))
+  pub line-accepts : (line-fault ≡ 0) ↔ (Areas a room × FitLine held-trace step set (l .count) (lineIn l))
   line-accepts = under (line-else 0 (λ e. omega arith) (λ e. omega arith)) (line-taken held-trace step set (l .count) (lineIn l))
 
   pub line-numbers : LineNumbers line-fault

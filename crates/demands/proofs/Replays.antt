@@ -1,8 +1,8 @@
 -- What a replay answers and leaves, by its definitions: the promises of its contract, and what the order comes to.
-use Prim.Native.Nat.{ℕ, suc, _≤_, _<_}
+use Prim.Native.Nat.{ℕ, suc, _<_}
 use mathlib.Core.Path.{_≡_, refl, sym, ap, subst, _∙_}
 use mathlib.Core.Logic.{_↔_}
-use mathlib.Core.Bool.{Bool, true, false, cond}
+use mathlib.Core.Bool.{true, false}
 use mathlib.Core.List.{List, _++_}
 use mathlib.Core.Option.{some}
 use native.Mathlib.Omega.{arith}
@@ -12,9 +12,8 @@ use borrow.Author.Tests.{ne-eqb}
 use Rattle.words.specs.Area.{areaWords, wordsFrom}
 use Rattle.words.proofs.Area.{length-words}
 use Rattle.words.proofs.Cases.{by-eq}
-use Rattle.table.specs.Held.{held, holdsTrace}
-use Rattle.theory.specs.Events.{size}
-use Rattle.theory.specs.Line.{Run, LossFree}
+use Rattle.table.specs.Held.{held}
+use Rattle.theory.specs.Line.{Run}
 use Rattle.theory.specs.Replay.{State}
 use Rattle.theory.specs.Record.{delivered}
 use Rattle.theory.specs.Order.{Outcome, carriedOut, refused, choose, run, steps, Complete, complete}
@@ -33,7 +32,7 @@ use Rattle.orders.proofs.Told.{record-told}
 use Rattle.preparing.specs.Faults.{runOf, lineFaultOf}
 use Rattle.recovery.specs.Answers.{refusal, replayAnswer, replayArea}
 use Rattle.recovery.proofs.Replaying.{Answered, refuses, carried}
-use Rattle.demands.proofs.Numbers.{Left, left-iff, Areas, LineNumbers, line-not-11, line-accepts, line-numbers}
+use Rattle.demands.proofs.Numbers.{left-iff, Areas, LineNumbers, line-not-11, line-accepts, line-numbers}
 
 module _ (a area : List ℕ) (step set : ℕ) (l : Line) (order : List ℕ) where
   abbrev R : Run
@@ -182,7 +181,7 @@ module _ (a area : List ℕ) (step set : ℕ) (l : Line) (order : List ℕ) wher
 
   -- it comes to the state s: the answer, and the record in the run area, by words and by lists
   pub record Carried (s : State) : Type 0 where
-    pub areas : Areas a (length area) step set l
+    pub areas : Areas a (length area)
     pub fit : FitLine (held a) step set (l .count) (lineIn l)
     pub carries : run R order ≡ carriedOut s
     pub steps-are : answer .steps ≡ steps order

@@ -1,11 +1,10 @@
 -- What a restart answers, by its definition: the promises of its contract, and each number that it gives.
-use Prim.Native.Nat.{ℕ, _+_, _≤_, _<_}
+use Prim.Native.Nat.{ℕ, _≤_, _<_}
 use mathlib.Core.Path.{_≡_, refl, sym, ap, _∙_}
-use mathlib.Core.Bool.{Bool, true, false, not}
+use mathlib.Core.Bool.{true}
 use mathlib.Core.List.{List}
 use native.Mathlib.Omega.{arith}
-use lib.Count.{ones}
-use lib.ListN.{length, getD, List·getD-eq-default}
+use lib.ListN.{getD, List·getD-eq-default}
 use borrow.Author.Tests.{lt-ltb, le-ltb}
 use Rattle.words.specs.Area.{wordsFrom}
 use Rattle.words.proofs.Area.{length-words, words-at}
@@ -15,7 +14,7 @@ use Rattle.trace.specs.Fit.{wellFormed}
 use Rattle.table.specs.Held.{held}
 use Rattle.theory.specs.Events.{size}
 use Rattle.theory.specs.Epochs.{phaseAt, ruleOf}
-use Rattle.theory.specs.Line.{inSet, sentBefore, received, receivedBefore, undone, lost, LossFree, restartIn, recorded, current, Permitted, Greatest, usableAt, runAt, engineLine}
+use Rattle.theory.specs.Line.{inSet, sentBefore, received, receivedBefore, undone, lost, LossFree, restartIn, current, Permitted, Greatest, usableAt, runAt, engineLine}
 use Rattle.theory.specs.Inner.Refusals.{FitFailure}
 use Rattle.theory.proofs.WellFormed.{valid}
 use Rattle.theory.proofs.Epochs.{laws}
@@ -27,7 +26,6 @@ use Rattle.recovery_line.specs.Given.{each, lineIn, lineTo, restartPhaseIn, num
 use Rattle.recovery_line.proofs.Sets.{back-ones, back-bits}
 use Rattle.restart.specs.declared.Restarted.{Restarted}
 use Rattle.restart.specs.Restart.{engineLineOf, restartBy, restartOf, restartAnswer, Restarts}
-use Rattle.preparing.specs.Faults.{failureFaultOf}
 use Rattle.demands.proofs.Numbers.{Left, left-iff, restart-number, failure-numbers}
 
 -- a line as a struct has the numbers that it was made of
@@ -114,9 +112,6 @@ module _ (a : List ℕ) (step set : ℕ) (ok : restartAnswer a step set .number 
 
   pub count-is : restartAnswer a step set .line .count ≡ t .procs
   count-is = ap (λ (r : Restarted). r .line .count) answer-is
-
-  pub number-at : (z : ℕ) → z < t .procs → getD (restartAnswer a step set .line .epochs) z 0 ≡ engineLine t step set z
-  number-at z h = ap (λ (r : Restarted). getD (r .line .epochs) z 0) answer-is ∙ each-at t (valid t formed .few) (engineLine t step set) z h
 
   pub number-past : (z : ℕ) → t .procs ≤ z → getD (restartAnswer a step set .line .epochs) z 0 ≡ 0
   number-past z h =

@@ -7,7 +7,7 @@ use mathlib.Core.List.{List, [], _∷_}
 use native.Mathlib.Omega.{arith}
 use native.Mathlib.Nat.{zero-add}
 use lib.ListN.{length, getD}
-use Rattle.theory.specs.Line.{Run, lost, orphan, kept, orphanPhase, LossFree}
+use Rattle.theory.specs.Line.{Run, lost, orphan, kept, orphanPhase}
 use Rattle.theory.specs.Answers.{Listed, messages, orphans, keptOnes, lostOnes}
 use Rattle.theory.specs.Inner.Laws.{Laws}
 use Rattle.theory.specs.Inner.Tests.{names}
@@ -15,7 +15,7 @@ use Rattle.theory.proofs.Answers.{orphans-name, kept-name, lost-name, lost-none
 use Rattle.listing.specs.Listing.{rowOf, listWord}
 use Rattle.messages.specs.Meaning.{rowIn, classIn, Precedes, RowsOf, Lists}
 use Rattle.messages.proofs.Rows.{blank, At, orphans-at, kept-at, lost-at}
-use Rattle.messages.proofs.Order.{Is, each-is, ascends, named-at}
+use Rattle.messages.proofs.Order.{each-is, ascends, named-at}
 
 -- a word of a row, taken apart
 apart : (w class : ℕ) (m : Listed) → m .from < 64 → m .to < 64 → w ≡ rowOf class m .word → (w % 64 ≡ m .from) × (w / 64 % 64 ≡ m .to) × (w / 4096 ≡ class)

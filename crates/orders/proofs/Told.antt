@@ -3,12 +3,12 @@
 use mathlib.Core.Path.{_≡_, refl, sym, ap, _∙_}
 use mathlib.Core.Logic.{_↔_, inl, inr}
 use mathlib.Core.Bool.{true, false, _&&_}
-use mathlib.Core.List.{List, [], _∷_, _++_, map}
-use Prim.Native.Nat.{ℕ, zero, suc, _+_, _-_, _≤_, _<_}
+use mathlib.Core.List.{List, [], _∷_, map}
+use Prim.Native.Nat.{ℕ, suc, _+_, _-_, _≤_, _<_}
 use native.Mathlib.Omega.{arith}
 use lib.ListN.{length, getD, length-map}
 use lib.Dec.{leb, ltb, eqb}
-use borrow.Author.Tests.{ltb-true, leb-true, eqb-true, eq-eqb, lt-ltb, le-ltb, le-leb}
+use borrow.Author.Tests.{eqb-true, eq-eqb, lt-ltb, le-ltb, le-leb}
 use Rattle.words.specs.Area.{wordsFrom}
 use Rattle.words.proofs.Area.{words-at}
 use Rattle.trace.specs.Trace.{Trace}
@@ -26,11 +26,12 @@ use Rattle.theory.proofs.Base.{by, on, le?, both, clash, false-or, or-right, eq
 use Rattle.theory.proofs.WellFormed.{Valid}
 use Rattle.theory.proofs.Epochs.{laws}
 use Rattle.theory.proofs.Classes.{restart-n, kept-list}
-use Rattle.theory.proofs.Events.{recvs-is}
+use Rattle.theory.proofs.Events.{recvs-is, rcvd-le, rcvd-lt}
 use Rattle.theory.proofs.Loss.{taken-iv, ahead-listed, inv, same-numbers}
 use Rattle.theory.proofs.Orders.{run-reaches}
 use Rattle.machine.specs.Taken.{takenBase, recordEnd, tookNumber, tookValue, takenNumber, takenValue}
-use Rattle.orders.specs.Record.{recordAt, listIn}
+use Rattle.orders.specs.Record.{recordAt, faultlessAt, listIn}
+use Rattle.links.proofs.Matches.{getD-iv, getD-map}
 use Rattle.orders.proofs.Records.{words-cong}
 
 -- ---- No message has the number 0
@@ -92,7 +93,7 @@ module _ (num val r v : ℕ → ℕ) where
 
 -- ---- The lists of a run area
 
-module _ (R : Run) (L : Laws R) (few : size (R .trace) ≤ 2048) (s : State) (i : Inv R s) where
+module _ (R : Run) where
   abbrev t : Trace
   t = R .trace
 
@@ -117,35 +118,85 @@ module _ (R : Run) (L : Laws R) (few : size (R .trace) ≤ 2048) (s : State) (i 
         b .0,
       )
 
-  -- the words of a receive on the channel: what the state has at its place
-  words-of : (p q e : ℕ) → 0 < e → e ≤ n → recvs t p q e ≡ true
-      → (recordAt R s e ≡ getD (s .got p q) (rcvd t p q e - 1) 0) × (recordAt R s (takenBase + e) ≡ getD (map (value t p q) (s .got p q)) (rcvd t p q e - 1) 0)
-  unfolding recordAt takenNumber takenValue
-  words-of p q e h k r =
-      let (u, v) = recvs-is t p q e r in
-      let a : ltb e takenBase ≡ true = lt-ltb e takenBase (omega (arith, few)) in
-      let b : ltb (takenBase + e) takenBase ≡ false = le-ltb (takenBase + e) takenBase (omega arith) in
-      let c : ltb (takenBase + e) recordEnd ≡ true = lt-ltb (takenBase + e) recordEnd (omega (arith, few)) in
-      let d : takenBase + e - takenBase ≡ e = omega arith in
-      let f : (ltb 0 e && leb e n) ≡ true = rw (lt-ltb 0 e h, le-leb e n k) in
-      (rw (a, f, v, u), rw (b, c, d, f, v, u))
-
-  -- an area whose words are those of the state's record has its lists
-  pub told : (w : List ℕ) → ((k : ℕ) → k < recordEnd → getD w k 0 ≡ recordAt R s k) → (p q : ℕ) → listIn t w p q ≡ delivered R s p q
-  unfolding listIn delivered
-  told w h p q =
+  -- an area in which the receives of a channel have taken the messages gs, one after another, has this list
+  list-is : (w : List ℕ) (p q : ℕ) (gs : List ℕ)
+      → ((e : ℕ) → 0 < e → e ≤ n → recvs t p q e ≡ true
+      → (getD w e 0 ≡ getD gs (rcvd t p q e - 1) 0) × (getD w (takenBase + e) 0 ≡ getD (map (value t p q) gs) (rcvd t p q e - 1) 0))
+      → length gs ≤ rcvd t p q n → has 0 gs ≡ false → listIn t w p q ≡ map (entry R p q) gs
+  unfolding listIn
+  list-is w p q gs h most z =
       let count = receives-count p q in
-      let most : length (s .got p q) ≤ length (receives p q) = omega (arith, i .taken p q, count) in
-      let takes : Takes (λ e. getD w e 0) (λ e. getD w (takenBase + e) 0) (rcvd t p q) (value t p q) (receives p q) 0 (s .got p q) = λ e l.
-      let r = receive-at p q e l in
-      let x = words-of p q e (r .0) (r .1) (r .2) in
-      (h e (omega (arith, few, r .1)) ∙ x .0, h (takenBase + e) (omega (arith, few, r .1)) ∙ x .1) in
+      let takes : Takes (λ e. getD w e 0) (λ e. getD w (takenBase + e) 0) (rcvd t p q) (value t p q) (receives p q) 0 gs = λ e l.
+      let r = receive-at p q e l in h e (r .0) (r .1) (r .2) in
       ap (map {B = ℕ × ℕ} (λ (e : ℕ). (getD w e 0, getD w (takenBase + e) 0))) (sym (keep-keep (λ e. ltb 0 (getD w e 0)) (recvs t p q) (iv 0 n)))
-      ∙ taken-list (λ e. getD w e 0) (λ e. getD w (takenBase + e) 0) (rcvd t p q) (value t p q) (receives p q) (s .got p q) 0
-      (receives-are p q ∙ ap (iv 0) (sym count)) takes most (got-no-zero R L s i p q)
+      ∙ taken-list (λ e. getD w e 0) (λ e. getD w (takenBase + e) 0) (rcvd t p q) (value t p q) (receives p q) gs 0
+      (receives-are p q ∙ ap (iv 0) (sym count)) takes (omega arith) z
 
-  pub told-words : (p q : ℕ) → listIn t (wordsFrom (recordAt R s) 0 16384) p q ≡ delivered R s p q
-  told-words = told (wordsFrom (recordAt R s) 0 16384) (λ k l. words-at (recordAt R s) 16384 k (omega arith))
+module _ (R : Run) (few : size (R .trace) ≤ 2048) where
+  -- the words of a receive are among those of the record
+  module _ (e : ℕ) (h : 0 < e) (k : e ≤ size (R .trace)) where
+    low : ltb e takenBase ≡ true
+    low = lt-ltb e takenBase (omega (arith, few))
+
+    high : ltb (takenBase + e) takenBase ≡ false
+    high = le-ltb (takenBase + e) takenBase (omega arith)
+
+    within : ltb (takenBase + e) recordEnd ≡ true
+    within = lt-ltb (takenBase + e) recordEnd (omega (arith, few))
+
+    back : takenBase + e - takenBase ≡ e
+    back = omega arith
+
+    event : (ltb 0 e && leb e (size (R .trace))) ≡ true
+    event = rw (lt-ltb 0 e h, le-leb e (size (R .trace)) k)
+
+  module _ (L : Laws R) (s : State) (i : Inv R s) where
+    -- what the state has at the place of a receive
+    words-of : (p q e : ℕ) → 0 < e → e ≤ n R → recvs (t R) p q e ≡ true
+        → (recordAt R s e ≡ getD (s .got p q) (rcvd (t R) p q e - 1) 0)
+        × (recordAt R s (takenBase + e) ≡ getD (map (value (t R) p q) (s .got p q)) (rcvd (t R) p q e - 1) 0)
+    unfolding recordAt takenNumber takenValue
+    words-of p q e h k r =
+        let (u, v) = recvs-is (t R) p q e r in
+        (rw (low e h k, event e h k, v, u), rw (high e h k, within e h k, back e h k, event e h k, v, u))
+
+    -- an area whose words are those of the state's record has its lists
+    pub told : (w : List ℕ) → ((k : ℕ) → k < recordEnd → getD w k 0 ≡ recordAt R s k) → (p q : ℕ) → listIn (t R) w p q ≡ delivered R s p q
+    unfolding delivered
+    told w h p q =
+        list-is R w p q (s .got p q)
+        (λ e a b r. let x = words-of p q e a b r in (h e (omega (arith, few)) ∙ x .0, h (takenBase + e) (omega (arith, few)) ∙ x .1))
+        (omega (arith, i .taken p q)) (got-no-zero R L s i p q)
+
+    pub told-words : (p q : ℕ) → listIn (t R) (wordsFrom (recordAt R s) 0 16384) p q ≡ delivered R s p q
+    told-words = told (wordsFrom (recordAt R s) 0 16384) (λ k l. words-at (recordAt R s) 16384 k (omega arith))
+
+  -- the words of the run without failure have its lists
+  faultless-of : (p q e : ℕ) → 0 < e → e ≤ n R → recvs (t R) p q e ≡ true
+      → (faultlessAt (t R) e ≡ rcvd (t R) p q e) × (faultlessAt (t R) (takenBase + e) ≡ value (t R) p q (rcvd (t R) p q e))
+  unfolding faultlessAt value
+  faultless-of p q e h k r =
+      let (u, v) = recvs-is (t R) p q e r in
+      (rw (low e h k, v, u), rw (high e h k, within e h k, back e h k, v, u))
+
+  pub faultless-told : (p q : ℕ) → listIn (t R) (wordsFrom (faultlessAt (t R)) 0 16384) p q ≡ faultless R p q
+  unfolding faultless
+  faultless-told p q =
+      let w = wordsFrom (faultlessAt (t R)) 0 16384 in
+      let m = rcvd (t R) p q (n R) in
+      list-is R w p q (iv 0 m)
+      (λ e a b r.
+      let x = faultless-of p q e a b r in
+      let j = rcvd (t R) p q e in
+      let pos : 0 < j = omega (arith, rcvd-lt (t R) p q 0 e r a) in
+      let most : j ≤ m = rcvd-le (t R) p q e (n R) b in
+      let g : getD (iv 0 m) (j - 1) 0 ≡ j = getD-iv 0 m (j - 1) (omega arith) ∙ omega arith in (
+        words-at (faultlessAt (t R)) 16384 e (omega (arith, few)) ∙ x .0 ∙ sym g,
+        words-at (faultlessAt (t R)) 16384 (takenBase + e) (omega (arith, few)) ∙ x .1
+            ∙ sym (getD-map (value (t R) p q) (iv 0 m) (j - 1) (omega (arith, length-iv 0 m)) ∙ ap (value (t R) p q) g),
+      ))
+      (omega (arith, length-iv 0 m)) (has-iv-not 0 0 m (inl (omega arith)))
+      ∙ ap (map (entry R p q)) (sym (taken-iv R p q (n R)))
 
 -- ---- Two orders of one trace, from any cuts and lines, complete or not
 
@@ -183,8 +234,8 @@ module _ (t : Trace) (A : Valid t) (few : size t ≤ 2048) (cut other-cut : ℕ)
   pub record-told : (wordsFrom (recordAt F s) 0 16384 ≡ wordsFrom (recordAt G u) 0 16384) ↔ Same
   record-told = (
     λ w p q.
-        sym (told-words F LF few s (inv F LF s (length order) (run-reaches F order s h)) p q)
+        sym (told-words F few LF s (inv F LF s (length order) (run-reaches F order s h)) p q)
         ∙ ap (λ (x : List ℕ). listIn t x p q) w
-        ∙ told-words G LG few u (inv G LG u (length other-order) (run-reaches G other-order u k)) p q,
+        ∙ told-words G few LG u (inv G LG u (length other-order) (run-reaches G other-order u k)) p q,
     λ d. words-cong (recordAt F s) (recordAt G u) 16384 (λ x l. same-word d x),
   )
