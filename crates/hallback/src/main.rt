@@ -13,9 +13,10 @@ struct Input {
 }
 
 // Reads standard input until the buffer is full, the input ends or a read fails.
-fn read_input(buffer: &mut [u8]) -> Input
-    ensures { λ r. ⌜ r .count ≤ length (now (buffer .exit)) ⌝ }
+fn read_input(text: &mut [u8; program::READ_BYTES]) -> Input
+    ensures { λ r. ⌜ r .count ≤ length (now (text .exit)) ⌝ }
 {
+    let buffer: &mut [u8] = text;
     let mut count: usize = 0;
     while count < buffer.len() {
         let got = libc::read(libc::STDIN_FILENO, &mut buffer[count..]);

@@ -1,19 +1,19 @@
 -- Each way out of `respond`: a refusal of an input that is too long, or the report of what was read.
 use Prim.Native.Nat.{ℕ, _+_, _<_, _≤_}
-use mathlib.Core.Path.{_≡_, refl, sym, ap, _∙_}
+use mathlib.Core.Path.{_≡_, sym, ap, _∙_}
 use mathlib.Core.List.{List}
-use mathlib.Core.Bool.{Bool, true, false, cond}
+use mathlib.Core.Bool.{Bool, cond}
 use native.Mathlib.Omega.{arith}
 use lib.ListN.{length, take}
 use lib.Seq.{take-append-seam, take-all, length-take-le}
-use borrow.Author.Tests.{lt-ltb, le-ltb}
 use Rattle.writer.specs.Inner.Puts.{Puts}
 use Rattle.writer.specs.Buffer.{room, written}
 use Rattle.writer.proofs.Buffers.{whole, next-within}
 use Rattle.printing.specs.Lines.{refusalLine}
-use Rattle.report.specs.Report.{isRefusal, failureOf, recovery, printedOf, reported, StepsPrinted, reportBytes}
+use Rattle.report.specs.Report.{isRefusal, failureOf, recovery, reported, StepsPrinted, reportBytes}
 use Rattle.report.proofs.Lengths.{refusal-few}
-use Rattle.program.specs.Program.{ReadFrom, answerTo, printed, statusOf, StepsShown}
+use Rattle.program.specs.Program.{ReadFrom, printed, statusOf, StepsShown}
+use Rattle.program.proofs.Claims.{too-long-printed, reported-printed}
 use Rattle.program.proofs.Reading.{too-long, whole-read}
 
 -- what is promised of an input: what stands in the buffer, how much of it, and the status
@@ -71,24 +71,22 @@ module _ (buffer out after : List ℕ) (count n : ℕ) (longer : length buffer �
 
   -- more than 65,536 bytes were read
   pub refuses-long : (status : ℕ) → 65536 < count → Puts (refusalLine 1 0) out 0 after n → status ≡ 1 → Contract status
-  unfolding printed answerTo statusOf printedOf
   refuses-long status h p hs =
       let w = whole (refusalLine 1 0) out after n p in
       contract (refusalLine 1 0) status (w .1)
       (λ input r.
       let more = too-long input buffer count 65536 longer r h in
-      let long = lt-ltb 65536 (length input) more in
-      holds input (refusalLine 1 0) status (rw long) (refusal-few 1 0) (w .1) (w .0) (rw long hs) (λ f short. absurd (let z : ⊥ = omega arith in z)))
+      let (e, s) = too-long-printed input more in
+      holds input (refusalLine 1 0) status (sym e) (refusal-few 1 0) (w .1) (w .0) (hs ∙ sym s) (λ f short. absurd (let z : ⊥ = omega arith in z)))
 
   -- the whole input was read and is reported
   pub reports : (text : List ℕ) (b : Bool) (status : ℕ) → text ≡ take count buffer → count ≤ 65536 → n ≡ length (room (reported text) out)
       → after ≡ written (reported text) out → StepsPrinted text → length (reported text) ≤ reportBytes → b ≡ isRefusal (recovery text)
       → status ≡ cond b 1 0 → Contract status
-  unfolding printed answerTo statusOf reported
   reports text b status t h hn ha exact few hb hs =
       contract (reported text) status hn
       (λ input r.
       let e : text ≡ input = t ∙ whole-read input buffer count 65536 longer r h in
       let n = ap length (sym e ∙ t) in
-      let short = le-ltb 65536 (length input) (omega (arith, length-take-le count buffer (omega arith))) in
-      holds input (reported text) status (rw (short, e)) few hn ha (rw (short, ← e, ← hb) hs) (λ f _ q. rw (short, ← e) (exact f (ap failureOf e ∙ q))))
+      let (p, s) = reported-printed input (omega (arith, length-take-le count buffer (omega arith))) in
+      holds input (reported text) status (ap reported e ∙ sym p) few hn ha (rw (s, ← e, ← hb) hs) (λ f _ q. rw (p, ← e) (exact f (ap failureOf e ∙ q))))

@@ -21,7 +21,7 @@ printed input = printedOf (answerTo input)
 unfoldable pub statusOf : List ℕ → ℕ
 statusOf input = cond (isRefusal (answerTo input)) 1 0
 
--- the first `count` bytes of a buffer are the first of an input: as many as the buffer has, or all where there are fewer
+-- the first `count` bytes of a buffer are the first of an input: as many as the buffer has, or all of it
 abbrev pub ReadFrom : List ℕ → List ℕ → ℕ → Type 0
 ReadFrom input buffer count = take count buffer ≡ take (length buffer) input
 

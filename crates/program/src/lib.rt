@@ -23,6 +23,7 @@ pub struct Outcome {
     pub status: u8,
 }
 
+// The status of an answer.
 fn status_of(refused: bool) -> u8
     ensures { λ r. ⌜ r ≡ cond refused 1 0 ⌝ }
 {

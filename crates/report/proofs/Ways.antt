@@ -43,11 +43,12 @@ pub record Reports (bytes text : List ℕ) (refuses : Bool) : Type 0 where
 
 -- from what was written to the contract
 pub answered : (x text out after : List ℕ) (n : ℕ) (b : Bool) → Reports x text b → Puts x out 0 after n
-    → (n ≡ length (room (reported text) out))
-    × ((after ≡ written (reported text) out) × (StepsPrinted text × ((length (reported text) ≤ reportBytes) × (b ≡ isRefusal (recovery text)))))
+    → (b ≡ isRefusal (recovery text))
+    × ((n ≡ length (room (reported text) out))
+    × ((after ≡ written (reported text) out) × (StepsPrinted text × (length (reported text) ≤ reportBytes))))
 answered x text out after n b r h =
     let w = whole (reported text) out after n (same-bytes x (reported text) out after 0 n (r .are) h) in
-    (w .1, (w .0, (r .exact, (rw (r .are) at (r .few), r .told))))
+    (r .told, (w .1, (w .0, (r .exact, rw (r .are) at (r .few)))))
 
 -- what follows from the failure that a text tells: a refusal, or what is written of its recovery
 module _ (text : List ℕ) where

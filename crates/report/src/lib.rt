@@ -94,11 +94,11 @@ fn put_recovery(out: &mut [u8], r: Recovered, run: &[u32]) -> usize
 
 // The report on a text, into a lent buffer: all its bytes, or as many as there is room for. A text may have any length.
 pub fn report(text: &[u8], out: &mut [u8]) -> Reported
+    ensures refused { λ r. ⌜ r .refused ≡ isRefusal (recovery (now (text .entry))) ⌝ }
     ensures length { λ r. ⌜ r .length ≡ length (room (reported (now (text .entry))) (now (out .entry))) ⌝ }
     ensures bytes { λ _. ⌜ now (out .exit) ≡ written (reported (now (text .entry))) (now (out .entry)) ⌝ }
     ensures exact { λ _. ⌜ StepsPrinted (now (text .entry)) ⌝ }
     ensures few { λ _. ⌜ length (reported (now (text .entry))) ≤ reportBytes ⌝ }
-    ensures refused { λ r. ⌜ r .refused ≡ isRefusal (recovery (now (text .entry))) ⌝ }
 {
     let mut table = [0u32; AREA_WORDS];
     let read = reader::read_failure(text, &mut table);

@@ -33,8 +33,8 @@ Reports text ls =
 reports : (text : List ℕ) (ls : List String) → reported text ≡ linesOf ls → Reports text ls
 reports text ls e out after n h w = (h ∙ ap (λ (x : List ℕ). length (room x out)) e, w ∙ ap (λ (x : List ℕ). written x out) e)
 
--- The program prints these lines for an input, and ends with a status: `respond` is given a buffer and a count, of which
--- the bytes are the input's first, and by its contract n bytes of `after` are to write, and the status is s
+-- the program prints these lines for an input, and ends with a status: `respond` is given a buffer that has the input's
+-- first bytes, and by its contract n bytes of `after` are to write, and the status is s
 abbrev pub Prints : List ℕ → List String → ℕ → Type 0
 Prints input ls status =
     (buffer after : List ℕ) (count n s : ℕ) → ReadFrom input buffer count

@@ -24,7 +24,7 @@ returns-2 c =
     let args = c .before .before .before .before .before .before .args in
     let status-of2 = c .status-of2 in
     let e = report .ensures in
-    reports (args .read .now) (args .out .now) _ (args .count) _ (search needs) (search needs) (search needs) _ (report .result .refused) _ refl (search needs) (e .0) (e .1 .0) (e .1 .1 .0) (e .1 .1 .1 .0) (e .1 .1 .1 .1) (status-of2 .ensures)
+    reports (args .read .now) (args .out .now) _ (args .count) _ (search needs) (search needs) (search needs) _ (report .result .refused) _ refl (search needs) (e .1 .0) (e .1 .1 .0) (e .1 .1 .1 .0) (e .1 .1 .1 .1) (e .0) (status-of2 .ensures)
 
 pub respond-spec : {M : Type 1} → statement M
 respond-spec =
