@@ -1,6 +1,6 @@
 -- From the definitions that a row of the table computes to what the calls answer and leave, by their contracts:
--- `reader::read_failure` reads a text into a table area, and then `restart`, `messages`, `replay`, `lowest` and `recover`
--- are called on what it left there.
+-- `reader::read_failure` reads a text into a table area, and then `restart`, `messages`, `replay`, `lowest` and
+-- `recover` are called on what it left there.
 use Prim.Native.Nat.{ℕ, zero, suc, _+_, _<_, _≤_}
 use mathlib.Core.Path.{_≡_, refl, sym, ap, ap₂, subst, _∙_}
 use mathlib.Core.Bool.{Bool, true, false}
