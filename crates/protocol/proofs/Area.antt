@@ -1,73 +1,128 @@
--- The full table, word by word, from what its columns and its other words are.
-use Prim.Native.Nat.{ℕ, suc, _+_, _-_, _<_, _≤_}
-use mathlib.Core.Path.{_≡_, refl, sym, ap, _∙_}
-use mathlib.Core.Bool.{true, false}
+-- The full table by one rule for its words: it has the columns, the flags and the other words, and it is the only table
+-- that has them.
+use Prim.Native.Nat.{ℕ, _+_, _-_, _<_, _≤_}
+use mathlib.Core.Path.{_≡_, sym, ap, _∙_}
+use mathlib.Core.Bool.{true, false, cond}
 use mathlib.Core.List.{List}
 use native.Mathlib.Omega.{arith}
-use lib.ListN.{length, getD}
-use lib.Dec.{leb, ltb, eqb}
+use lib.ListN.{length, getD, List·getD-eq-default}
 use borrow.Author.Tests.{lt-ltb, le-ltb, le-leb, lt-leb, eq-eqb, ne-eqb}
 use Rattle.words.specs.Area.{wordsFrom}
-use Rattle.words.proofs.Area.{words-ext}
-use Rattle.words.proofs.Cases.{by-eq, by-lt}
-use Rattle.trace.specs.declared.Event.{Event}
-use Rattle.trace.specs.declared.Event.the-variants.{Send, Recv, Save}
+use Rattle.words.proofs.Area.{length-words, words-at}
+use Rattle.words.proofs.Cases.{by-lt}
 use Rattle.trace.specs.Trace.{Trace}
+use Rattle.trace.specs.Table.{tableWord}
 use Rattle.table.specs.Held.{held, holdsTrace}
-use Rattle.theory.specs.Events.{size, eventAt, at, checkpoints}
+use Rattle.theory.specs.Events.{Kind, size, at, kind, sends, recvs, checkpoints, sent, rcvd, sendOf, recvOf}
 use Rattle.theory.specs.Epochs.{epochAt, phaseAt, loggedBy, ruleOf}
-use Rattle.theory.proofs.Base.{eqb-self}
+use Rattle.theory.proofs.Events.{sends-is, recvs-is, checkpoints-is}
 use Rattle.columns.specs.Inner.Columns.{fullWords, Columns, Flagged, Others}
-use Rattle.columns.proofs.Moves.{send-here, recv-here}
+use Rattle.columns.proofs.Others.{same-table}
 use Rattle.protocol.specs.Inner.Area.{numberWord, matchWord, columnWord, fullWord, fullArea}
+use Rattle.protocol.proofs.Passes.{held-few}
 
-module _ (t : Trace) (before full : List ℕ) (C : Columns t full) (M : Flagged t (loggedBy t (ruleOf t)) full) (O : Others t (size t) before full) where
-  save-here : (x a : ℕ) → eventAt t (suc x) ≡ Save a → checkpoints t a (suc x) ≡ true
-  unfolding checkpoints
-  save-here x a e = rw e (eqb-self a)
+module _ (t : Trace) (few : size t ≤ 2048) (before : List ℕ) where
+  abbrev pub table : List ℕ
+  table = wordsFrom (fullWord t before) 0 fullWords
 
-  number-is : (x : ℕ) → suc x ≤ size t → (v : Event) → eventAt t (suc x) ≡ v → getD full (6163 + suc x) 0 ≡ numberWord t (suc x) v
-  number-is x h (Send a b v) e = C .number-send a b (suc x) (send-here t x a b v e) (omega arith) h
-  number-is x h (Recv a b) e = M b a (suc x) (recv-here t x a b e) (omega arith) h
-  number-is x h (Save a) e = O .number-checkpoint a (suc x) (save-here x a e) (omega arith) h
+  -- the rules of the four columns
+  abbrev numbers : ℕ → ℕ
+  numbers = λ e. numberWord t e (kind t e)
 
-  match-is : (x : ℕ) → suc x ≤ size t → (v : Event) → eventAt t (suc x) ≡ v → getD full (12310 + suc x) 0 ≡ matchWord t (suc x) v
-  match-is x h (Send a b v) e = C .match-send a b (suc x) (send-here t x a b v e) (omega arith) h
-  match-is x h (Recv a b) e = C .match-recv b a (suc x) (recv-here t x a b e) (omega arith) h
-  match-is x h (Save a) e = O .match-checkpoint a (suc x) (save-here x a e) (omega arith) h
+  abbrev epochs : ℕ → ℕ
+  epochs = λ e. epochAt t (ruleOf t) (at t e) e
 
-  -- a word of a column: of an event, or as it was
-  in-column : (base k : ℕ) (f : ℕ → ℕ) → base < k → ((x : ℕ) → suc x ≤ size t → getD full (base + suc x) 0 ≡ f (suc x))
-      → (base + size t < k → getD full k 0 ≡ getD before k 0) → getD full k 0 ≡ columnWord t before base f k
-  in-column base k f h told rest = rw (lt-ltb base k h)
-      (by-lt (base + size t) k
-      (λ q. rw (lt-leb k (base + size t) q) (rest q))
-      (λ m. let i : base + suc (k - suc base) ≡ k = omega arith in
-      let j : suc (k - suc base) ≡ k - base = omega arith in
-      rw (le-leb k (base + size t) m) (ap (λ n. getD full n 0) (sym i) ∙ told (k - suc base) (omega arith) ∙ ap f j)))
+  abbrev phases : ℕ → ℕ
+  phases = λ e. phaseAt t (ruleOf t) (at t e) e
 
-  word-is : (k : ℕ) → getD full k 0 ≡ fullWord t before k
+  abbrev matches : ℕ → ℕ
+  matches = λ e. matchWord t e (kind t e)
+
+  at-place : (k : ℕ) → k < 14359 → getD table k 0 ≡ fullWord t before k
+  at-place k h = words-at (fullWord t before) 14359 k h
+
+  -- ---- A word of each plane
+
+  trace-word : (k : ℕ) → k < 4114 → getD table k 0 ≡ tableWord t k
   unfolding fullWord
-  word-is k =
-      by-lt k 4114 (λ h. rw (lt-ltb k 4114 h) (C .words k h))
-      (λ f. let trace : ltb k 4114 ≡ false = le-ltb k 4114 f in
-      by-eq k 6163 (λ e. rw (trace, eq-eqb k 6163 e) (ap (λ n. getD full n 0) e ∙ O .number-none))
-      (λ n. let none : eqb k 6163 ≡ false = ne-eqb k 6163 n in
-      by-lt 8212 k
-      (λ h. let number : leb k 8212 ≡ false = lt-leb k 8212 h in
-      by-lt 10261 k
-      (λ h. let epoch : leb k 10261 ≡ false = lt-leb k 10261 h in
-      by-lt 12310 k
-      (λ h. rw (trace, none, number, epoch, lt-leb k 12310 h) (in-column 12310 k (λ e. matchWord t e (eventAt t e)) h (λ x l. match-is x l _ refl) (O .after-match k)))
-      (λ g. rw (trace, none, number, epoch, le-leb k 12310 g) (in-column 10261 k (λ e. phaseAt t (ruleOf t) (at t e) e) h (λ x l. C .phase (suc x) (omega arith) l) (λ q. O .after-phase k q g))))
-      (λ g. rw (trace, none, number, le-leb k 10261 g) (in-column 8212 k (λ e. epochAt t (ruleOf t) (at t e) e) h (λ x l. C .epoch (suc x) (omega arith) l) (λ q. O .after-epoch k q g))))
-      (λ g. rw (trace, none, le-leb k 8212 g)
-      (by-lt k 6163
-      (λ h. rw (le-ltb 6163 k (omega arith)) (O .free k f h))
-      (λ h. in-column 6163 k (λ e. numberWord t e (eventAt t e)) (omega (arith, n)) (λ x l. number-is x l _ refl) (λ q. O .after-number k q g))))))
+  trace-word k h = at-place k (omega arith) ∙ rw (lt-ltb k 4114 h)
 
-  pub table-is : full ≡ wordsFrom (fullWord t before) 0 fullWords
-  table-is = words-ext (fullWord t before) fullWords full (C .whole) (λ k h. word-is k)
+  none-word : getD table 6163 0 ≡ 0
+  unfolding fullWord
+  none-word = at-place 6163 (omega arith)
+
+  number-word : (k : ℕ) → 4114 ≤ k → (k ≡ 6163 → ⊥) → k ≤ 8212 → getD table k 0 ≡ columnWord t before 6163 numbers k
+  unfolding fullWord
+  number-word k h n l = at-place k (omega arith) ∙ rw (le-ltb k 4114 h, ne-eqb k 6163 n, le-leb k 8212 l)
+
+  epoch-word : (k : ℕ) → 8212 < k → k ≤ 10261 → getD table k 0 ≡ columnWord t before 8212 epochs k
+  unfolding fullWord
+  epoch-word k h l =
+      at-place k (omega arith) ∙ rw (le-ltb k 4114 (omega arith), ne-eqb k 6163 (λ e. omega arith), lt-leb k 8212 h, le-leb k 10261 l)
+
+  phase-word : (k : ℕ) → 10261 < k → k ≤ 12310 → getD table k 0 ≡ columnWord t before 10261 phases k
+  unfolding fullWord
+  phase-word k h l =
+      at-place k (omega arith)
+      ∙ rw (le-ltb k 4114 (omega arith), ne-eqb k 6163 (λ e. omega arith), lt-leb k 8212 (omega arith), lt-leb k 10261 h, le-leb k 12310 l)
+
+  match-word : (k : ℕ) → 12310 < k → k < 14359 → getD table k 0 ≡ columnWord t before 12310 matches k
+  unfolding fullWord
+  match-word k h l =
+      at-place k l
+      ∙ rw (le-ltb k 4114 (omega arith), ne-eqb k 6163 (λ e. omega arith), lt-leb k 8212 (omega arith), lt-leb k 10261 (omega arith), lt-leb k 12310 h)
+
+  -- ---- A word of a column: of an event, or as it was
+
+  of-event : (base e : ℕ) (f : ℕ → ℕ) → 0 < e → e ≤ size t → columnWord t before base f (base + e) ≡ f e
+  of-event base e f h l =
+      let i : base + e - base ≡ e = omega arith in
+      rw (lt-ltb base (base + e) (omega arith), le-leb (base + e) (base + size t) (omega arith)) (ap f i)
+
+  as-was : (base k : ℕ) (f : ℕ → ℕ) → base + size t < k → columnWord t before base f k ≡ getD before k 0
+  as-was base k f h = rw (lt-ltb base k (omega arith), lt-leb k (base + size t) h)
+
+  number-of : (e : ℕ) (k : Kind) → kind t e ≡ k → 0 < e → e ≤ size t → getD table (6163 + e) 0 ≡ numberWord t e k
+  number-of e k q h l =
+      number-word (6163 + e) (omega arith) (λ z. omega arith) (omega arith) ∙ of-event 6163 e numbers h l ∙ ap (numberWord t e) q
+
+  match-of : (e : ℕ) (k : Kind) → kind t e ≡ k → 0 < e → e ≤ size t → getD table (12310 + e) 0 ≡ matchWord t e k
+  match-of e k q h l =
+      match-word (12310 + e) (omega arith) (omega arith) ∙ of-event 12310 e matches h l ∙ ap (matchWord t e) q
+
+  pub table-columns : Columns t table
+  table-columns = record {
+    whole = length-words (fullWord t before) 0 fullWords;
+    words = trace-word;
+    number-send = λ p q e s h l. let (z, k) = sends-is t p q e s in number-of e _ k h l ∙ ap (λ x. sent t x q e) z;
+    epoch = λ e h l. epoch-word (8212 + e) (omega arith) (omega arith) ∙ of-event 8212 e epochs h l;
+    phase = λ e h l. phase-word (10261 + e) (omega arith) (omega arith) ∙ of-event 10261 e phases h l;
+    match-send = λ p q e s h l. let (z, k) = sends-is t p q e s in match-of e _ k h l ∙ ap (λ x. recvOf t x q (sent t x q e)) z;
+    match-recv = λ p q e s h l. let (z, k) = recvs-is t p q e s in match-of e _ k h l ∙ ap (λ x. sendOf t p x (rcvd t p x e)) z;
+  }
+
+  pub table-flags : Flagged t (loggedBy t (ruleOf t)) table
+  table-flags p q e s h l =
+      let (z, k) = recvs-is t p q e s in
+      number-of e _ k h l ∙ ap (λ x. cond (loggedBy t (ruleOf t) p x (rcvd t p x e)) 1 0) z
+
+  pub table-others : length before ≡ fullWords → Others t (size t) before table
+  table-others long = record {
+    number-checkpoint = λ z e s h l. number-of e _ (checkpoints-is t z e s .1) h l;
+    match-checkpoint = λ z e s h l. match-of e _ (checkpoints-is t z e s .1) h l;
+    free = λ k h m. number-word k h (λ z. omega arith) (omega arith) ∙ rw (le-ltb 6163 k (omega arith));
+    number-none = none-word;
+    after-number = λ k h m. number-word k (omega arith) (λ z. omega arith) m ∙ as-was 6163 k numbers h;
+    after-epoch = λ k h m. epoch-word k (omega arith) m ∙ as-was 8212 k epochs h;
+    after-phase = λ k h m. phase-word k (omega arith) m ∙ as-was 10261 k phases h;
+    after-match = λ k h. by-lt k 14359
+        (λ m. match-word k (omega arith) m ∙ as-was 12310 k matches h)
+        (λ m. List·getD-eq-default table 0 {n = k} (rw (length-words (fullWord t before) 0 14359) m) ∙ sym (List·getD-eq-default before 0 {n = k} (omega arith)));
+  }
+
+  -- no other table has all three
+  pub table-is : length before ≡ fullWords → (full : List ℕ) → Columns t full → Flagged t (loggedBy t (ruleOf t)) full → Others t (size t) before full → full ≡ table
+  table-is long full C M O = same-table t (loggedBy t (ruleOf t)) before full table C M O table-columns table-flags (table-others long)
 
 -- ---- Each way out of `tabulate`
 
@@ -81,7 +136,19 @@ module _ (area before : List ℕ) where
     unfolding fullArea
     area-none h = rw (eq-eqb (length before) fullWords l, h)
 
+    -- what the equation means
+    pub area-means : holdsTrace area ≡ true
+        → Columns (held area) (fullArea area before)
+        × Flagged (held area) (loggedBy (held area) (ruleOf (held area))) (fullArea area before)
+        × Others (held area) (size (held area)) before (fullArea area before)
+    unfolding fullArea
+    area-means h =
+        let few = held-few area h in
+        rw (eq-eqb (length before) fullWords l, h)
+        (table-columns (held area) few before, table-flags (held area) few before, table-others (held area) few before l)
+
     pub area-filled : (full : List ℕ) → holdsTrace area ≡ true → Columns (held area) full → Flagged (held area) (loggedBy (held area) (ruleOf (held area))) full
         → Others (held area) (size (held area)) before full → full ≡ fullArea area before
     unfolding fullArea
-    area-filled full h C M O = rw (eq-eqb (length before) fullWords l, h) (table-is (held area) before full C M O)
+    area-filled full h C M O =
+        rw (eq-eqb (length before) fullWords l, h) (table-is (held area) (held-few area h) before l full C M O)

@@ -1,6 +1,6 @@
 // The full table of the trace that a table area holds, filled in one pass over the events (crate columns says what its
-// words mean, specs/Inner/Area each word of it). proofs/Claims says that the laws of a recorded run follow. No public
-// function has a `requires`. Assumes nothing.
+// words mean, specs/Inner/Area what each one is). proofs/Claims says that these are the same, and that the laws of a
+// recorded run follow. No public function has a `requires`. Assumes nothing.
 ghost use mathlib.Core.Path.{_≡_};
 ghost use mathlib.Core.Bool.{true, false, _&&_};
 ghost use Prim.Native.Nat.{ℕ, _≤_, _<_};

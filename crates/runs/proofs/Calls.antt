@@ -1,6 +1,6 @@
 -- From the definitions that a row of the table computes to what the calls answer and leave, by their contracts:
--- `reader::read_failure` reads a text into a table area, and then `restart`, `messages`, `replay` and `lowest` of
--- recovery are called on what it left there.
+-- `reader::read_failure` reads a text into a table area, and then `restart`, `messages`, `replay`, `lowest` and
+-- `recover` are called on what it left there.
 use Prim.Native.Nat.{ℕ, zero, suc, _+_, _<_, _≤_}
 use mathlib.Core.Path.{_≡_, refl, sym, ap, ap₂, subst, _∙_}
 use mathlib.Core.Bool.{Bool, true, false}
@@ -57,8 +57,8 @@ use Rattle.report.proofs.Answers.{not-given, unless-given}
 use Rattle.runs.proofs.Table.{completed}
 use Rattle.runs.specs.Answers.{lineFrom, runWith, losses, Replayed as Told, fault, replayOf, replay, TakenWords, takenWordsIn, takenWordsOf, takenWords, exactStepsOf}
 
--- ---- What the rows say. `Restart`, `Messages` and `Replay` are the contracts of those calls: what they promise of the
--- answer, and of the run area that they leave.
+-- ---- What the rows say. `Restart`, `Messages`, `Replay` and `Recover` are the contracts of those calls: what they
+-- promise of the answer, and of the area that they leave.
 
 -- what a call leaves in an area after a refusal that clears it; "Words past 16,384 are never touched"
 abbrev pub cleared : List ℕ → List ℕ

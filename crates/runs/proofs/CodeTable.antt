@@ -303,9 +303,9 @@ c12 =
 pub code-table : C1 × C2 × C3 × C4 × C5 × C6 × C7 × C8 × C9 × C10 × C11 × C12
 code-table = (c1, c2, c3, c4, c5, c6, c7, c8, c9, c10, c11, c12)
 
--- ---- Not among them, but of the same texts: delivery records (`RecordsH` of Table), as `replay` leaves them in the run
--- area. Complete, from the line of R1: the record of the run without failure. Not complete: 1 has not received message
--- 2 from 0. Complete, from the line of R2, which loses that message: 1 never receives it
+-- ---- Not among them, but of the same texts: delivery records (`RecordsH` of Table), as `replay` leaves them in the
+-- run area. Complete, from the line of R1: the record of the run without failure. Not complete: 1 has not received
+-- message 2 from 0. Complete, from the line of R2, which loses that message: 1 never receives it
 
 abbrev pub LeftH : Type 0
 LeftH =

@@ -6,29 +6,27 @@ use mathlib.Core.List.{List}
 use lib.Dec.{leb, ltb, eqb}
 use lib.ListN.{length, getD}
 use Rattle.words.specs.Area.{wordsFrom}
-use Rattle.trace.specs.declared.Event.{Event}
-use Rattle.trace.specs.declared.Event.the-variants.{Send, Recv, Save}
 use Rattle.trace.specs.Trace.{Trace}
 use Rattle.trace.specs.Table.{tableWord}
 use Rattle.table.specs.Held.{held, holdsTrace}
-use Rattle.theory.specs.Events.{size, eventAt, at, sent, rcvd, sendOf, recvOf}
+use Rattle.theory.specs.Events.{Kind, send, recv, other, size, at, kind, sent, rcvd, sendOf, recvOf}
 use Rattle.theory.specs.Epochs.{epochAt, phaseAt, loggedBy, ruleOf}
 use Rattle.columns.specs.Inner.Columns.{numberBase, epochBase, phaseBase, matchBase, traceWords, fullWords}
 
 module _ (t : Trace) where
-  -- event e's word in the column of numbers: of a send its message's number; of a receive 1 if the message that it
-  -- takes is logged, else 0
-  abbrev pub numberWord : ℕ → Event → ℕ
-  numberWord e (Send a b v) = sent t a b e
-  numberWord e (Recv a b) = cond (loggedBy t (ruleOf t) b a (rcvd t b a e)) 1 0
-  numberWord e (Save a) = 0
+  -- event e's word in the column of numbers, by its kind: of a send its message's number; of a receive 1 if the message
+  -- that it takes is logged, else 0
+  abbrev pub numberWord : ℕ → Kind → ℕ
+  numberWord e (send q) = sent t (at t e) q e
+  numberWord e (recv p) = cond (loggedBy t (ruleOf t) p (at t e) (rcvd t p (at t e) e)) 1 0
+  numberWord e other = 0
 
   -- the event that it is matched with: the receive of the message that it sends, 0 where there is none; the send of the
   -- message that it takes
-  abbrev pub matchWord : ℕ → Event → ℕ
-  matchWord e (Send a b v) = recvOf t a b (sent t a b e)
-  matchWord e (Recv a b) = sendOf t b a (rcvd t b a e)
-  matchWord e (Save a) = 0
+  abbrev pub matchWord : ℕ → Kind → ℕ
+  matchWord e (send q) = recvOf t (at t e) q (sent t (at t e) q e)
+  matchWord e (recv p) = sendOf t p (at t e) (rcvd t p (at t e) e)
+  matchWord e other = 0
 
   -- a word of a column: by a rule for the events of the trace; the others as they were
   abbrev pub columnWord : List ℕ → ℕ → (ℕ → ℕ) → ℕ → ℕ
@@ -39,10 +37,10 @@ module _ (t : Trace) where
   fullWord before k =
       cond (ltb k traceWords) (tableWord t k)
       (cond (eqb k numberBase) 0
-      (cond (leb k epochBase) (columnWord before numberBase (λ e. numberWord e (eventAt t e)) k)
+      (cond (leb k epochBase) (columnWord before numberBase (λ e. numberWord e (kind t e)) k)
       (cond (leb k phaseBase) (columnWord before epochBase (λ e. epochAt t (ruleOf t) (at t e) e) k)
       (cond (leb k matchBase) (columnWord before phaseBase (λ e. phaseAt t (ruleOf t) (at t e) e) k)
-      (columnWord before matchBase (λ e. matchWord e (eventAt t e)) k)))))
+      (columnWord before matchBase (λ e. matchWord e (kind t e)) k)))))
 
 -- what `tabulate` leaves in a lent table: the full table of the trace that an area holds; else what was there
 unfoldable pub fullArea : List ℕ → List ℕ → List ℕ
