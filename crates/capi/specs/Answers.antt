@@ -84,8 +84,8 @@ CompletedIn a room step set l r answer =
     lineFaultOf a room step set l ≡ 0
     → (r ≡ 0) × ((place n c : ℕ) (rest : List ℕ) → answer ≡ place ∷ n ∷ c ∷ rest → c ≡ 1)
 
--- ---- Demands 2 and 3 (crates restart, messages, recovery: `Restarts`, `Lists`, `Equal`, `SameLists`), of what a caller
--- gets
+-- ---- Demands 2 and 3 (crates restart, messages, recovery: `Restarts`, `Lists`, `Equal`, `SameLists`), of what a
+-- caller gets
 
 -- a restart, read from a slice that has room for all its numbers
 abbrev pub restartGiven : List ℕ → Restarted

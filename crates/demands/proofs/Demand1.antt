@@ -1,6 +1,6 @@
 -- Demand 1: "Nothing unfit is accepted, nothing fit is refused, and no refusal leaves anything in a lent area but what
--- document 01 states." Of `restart`, `messages`, `replay` and `lowest`, by the definitions of what they answer and leave
--- (`restartAnswer`, `messagesAnswer`, `messagesArea`, `replayAnswer`, `replayArea`: the contracts give these for every
+-- document 01 states." Of `restart`, `messages`, `replay` and `lowest`, by the definitions of what they answer and
+-- leave (`restartAnswer`, `messagesAnswer`, `messagesArea`, `replayAnswer`, `replayArea`: the contracts give these for every
 -- input), for every table area a, run area, failure, line and order.
 -- (The first half of the demand, no step outside lent memory, no number that wraps, no run without end, is that every
 -- function is proved and that none of these has a `requires`. For texts: crates/reader/proofs/Claims.)
@@ -103,8 +103,8 @@ module _ (a area : List ℕ) (step set : ℕ) (l : Line) (order : List ℕ) wher
       × ((m : ℕ) × (s : State) × (m < length order) × (run R (take m order) ≡ carriedOut s) × (choose R s (getD order m 0) ≡ none))))
   replay-refuses-11 = replay-eleven a area step set l order
 
-  -- "for 11 the place in the order from 1": those before it are carried out, and it is not allowed in what they leave, so
-  -- that it is the first that is not
+  -- "for 11 the place in the order from 1": those before it are carried out, and it is not allowed in what they leave,
+  -- so that it is the first that is not
   pub refused-at-first : answer .number ≡ 11
       → (m : ℕ) × (s : State) × (answer .place ≡ suc m) × (m < length order) × (run R (take m order) ≡ carriedOut s) × (choose R s (getD order m 0) ≡ none)
   refused-at-first = eleven-place a area step set l order

@@ -2,7 +2,7 @@
 -- as document 01 fixes it, each counted if and only if its definition holds. A replay does the one step of each choice
 -- and no other; its record, steps and completeness are those of the order it was given, whatever the line. The line
 -- given is the greatest that loses no message: in no other such line does any zone keep more of its work."
--- Of what `restart`, `messages` and `replay` answer and leave, by their definitions, for every input that is not refused.
+-- Of what `restart`, `messages` and `replay` answer and leave, by their definitions, for every input that isn't refused.
 -- What the definitions of epochs, phases and classes mean by events: crates/theory/proofs/Claims.
 use Prim.Native.Nat.{ℕ, suc, _≤_, _<_}
 use mathlib.Core.Path.{_≡_}
@@ -40,7 +40,8 @@ module _ (a : List ℕ) (step set : ℕ) (ok : restartAnswer a step set .number 
       → getD (restartAnswer a step set .phases) z 0 ≡ phaseAt t (ruleOf t) z (restartIn t step (lineIn (restartAnswer a step set .line)) z)
   phases-are = phase-at a step set ok
 
-  -- "A restart line holds one number for each zone"; "Places of a line past its N numbers are 0 when the engine gives it"
+  -- "A restart line holds one number for each zone"; "Places of a line past its N numbers are 0 when the engine gives
+  -- it"
   pub one-for-each : restartAnswer a step set .line .count ≡ t .procs
   one-for-each = count-is a step set ok
 
@@ -87,8 +88,8 @@ module _ (a area : List ℕ) (step set : ℕ) (l : Line) (order : List ℕ) wher
       → (u v : State) × (run R (take m order) ≡ carriedOut u) × (choose R u (getD order m 0) ≡ some v) × (run R (take (suc m) order) ≡ carriedOut v)
   steps-one-by-one = step-of-each a area step set l order
 
-  -- "Steps is the length of the order carried out, and is at most twice the number of events."; whatever the line, complete
-  -- or not; a refusal has none (the contract of `replay` has the same clauses)
+  -- "Steps is the length of the order carried out, and is at most twice the number of events."; whatever the line,
+  -- complete or not; a refusal has none (the contract of `replay` has the same clauses)
   pub at-most-twice : StepsAtMost a step l (replayAnswer a area step set l order)
   at-most-twice = promised a area step set l order .1 .1 .1 .1 .0
 

@@ -37,8 +37,8 @@ module _ (a area : List ℕ) (step set : ℕ) (l : Line) (order : List ℕ) wher
   abbrev after : List ℕ
   after = replayArea a area step set l order
 
-  -- "Equal is the same numbers and values in the same order on every channel.": the lists read from the run area after a
-  -- complete order are those of the run without failure exactly if the line loses no message
+  -- "Equal is the same numbers and values in the same order on every channel.": the lists read from the run area after
+  -- a complete order are those of the run without failure exactly if the line loses no message
   pub demand-3-lists : SameLists a step l (replayAnswer a area step set l order) after
   demand-3-lists = promised a area step set l order .1 .1 .1 .1 .1 .1 .1
 
@@ -46,8 +46,8 @@ module _ (a area : List ℕ) (step set : ℕ) (l : Line) (order : List ℕ) wher
   pub demand-3-words : Equal a step l (replayAnswer a area step set l order) after
   demand-3-words = promised a area step set l order .1 .1 .0
 
-  -- "In the run without failure these are its receives in the whole trace, those after the cut too.": so `Equal`'s words
-  -- are words of these lists
+  -- "In the run without failure these are its receives in the whole trace, those after the cut too.": so `Equal`'s
+  -- words are words of these lists
   pub faultless-lists : holdsTrace a ≡ true → (p q : ℕ) → listIn (held a) (wordsFrom (faultlessAt (held a)) 0 areaWords) p q ≡ faultless R p q
   faultless-lists h = faultless-told R (held-few a h)
 
@@ -67,7 +67,7 @@ module _ (a area : List ℕ) (step set : ℕ) (l : Line) (order : List ℕ) wher
     abbrev C : Carried a area step set l order s
     C = leaves-its-record .1
 
-    -- "Phase r is ready when every orphan of phase r or less has been sent again." (Which choices are then allowed: Gates.)
+    -- "Phase r is ready when every orphan of phase r or less has been sent again." (Which choices are allowed: Gates.)
     pub ready-when : (r : ℕ) → (ready R s r ≡ true) ↔ ((p q k : ℕ) → orphan R p q k ≡ true → orphanPhase R p q k ≤ r → sentAgain R s p q k ≡ true)
     ready-when =
         let L = carried-laws a area step set l order s C in

@@ -1,5 +1,5 @@
--- Document 01, "Gates and steps": which choices are allowed in a state of the machine, each claim under its sentence. Of
--- every run and state; what a replay reaches is Demand3's `leaves-its-record`.
+-- Document 01, "Gates and steps": which choices are allowed in a state of the machine, each claim under its sentence.
+-- Of every run and state; what a replay reaches is Demand3's `leaves-its-record`.
 use Prim.Native.Nat.{ℕ, _+_, _*_, _≤_, _<_}
 use mathlib.Core.Path.{_≡_, refl, sym, _∙_}
 use mathlib.Core.Logic.{_↔_}
@@ -45,8 +45,8 @@ module _ (R : Run) (s : State) where
   event-free z e es (recv p) = recv-free z p es (s .chan p z) refl
   event-free z e es other = (λ x. tt, λ x. (moved R s z es, refl))
 
-  -- "0 to 63: that zone does its next listed event" "A choice is allowed when its gate is ready, the event or message is
-  -- there and nothing here makes it wait."
+  -- "0 to 63: that zone does its next listed event" "A choice is allowed when its gate is ready, the event or message
+  -- is there and nothing here makes it wait."
   pub zone-allowed : (z : ℕ) → z < 64
       → Allowed R s z ↔ ((e : ℕ) × (es : List ℕ) × (s .todo z ≡ e ∷ es) × (ready R s (gate R z) ≡ true) × Free z (kind (R .trace) e))
   unfolding step processStep
@@ -62,8 +62,8 @@ module _ (R : Run) (s : State) where
       there (e ∷ es) a false c u k = absurd (Option·none-ne-some u k)
       there (e ∷ es) a true c u k = (e, es, a, c, event-free z e es (kind (R .trace) e) .0 (u, k))
 
-  -- "64 + 64·P + Q: the oldest kept message from P to Q not yet handed over goes into the channel." "A kept message may be
-  -- handed over when its own phase is ready."
+  -- "64 + 64·P + Q: the oldest kept message from P to Q not yet handed over goes into the channel." "A kept message may
+  -- be handed over when its own phase is ready."
   pub hand-number : (c p q : ℕ) → choiceOf c ≡ some (hand p q) → c ≡ 64 + 64 * p + q
   unfolding numberOf
   hand-number c p q h = choice-is c (hand p q) h

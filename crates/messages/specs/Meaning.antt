@@ -39,8 +39,8 @@ pub record RowsOf (w : List ℕ) (first last class : ℕ) (is : ℕ → ℕ → 
   pub ascending : (i j : ℕ) → first < i → i < j → j ≤ last → Precedes (rowIn w i) (rowIn w j)
 
 -- What `messages` answers, o orphans, k kept and l lost messages of a run, and what it leaves: the orphans' rows, then
--- those of the kept, then those of the lost messages; the counts before them; and none lost exactly if the line loses no
--- message.
+-- those of the kept, then those of the lost messages; the counts before them; and none lost exactly if the line loses
+-- no message.
 pub record Lists (R : Run) (o k l : ℕ) (w : List ℕ) : Type 0 where
   pub orphan-rows : RowsOf w 0 o 1 (orphan R) (orphanPhase R)
   pub kept-rows : RowsOf w o (o + k) 2 (kept R) (R .carries)

@@ -179,7 +179,7 @@ module _ (t : Trace) (w : wellFormed t ≡ true) (rule : Rule) where
         abbrev I : Inv R s
         I = inv R the-laws s (length order) (run-reaches R order s h)
 
-        -- Demand 2: "A replay does the one step of each choice and no other": after m choices comes the step of the next
+        -- Demand 2: "A replay does the one step of each choice and no other": after m choices comes the next one's step
         pub one-step : (m : ℕ) → m < length order
             → (u v : State) × (run R (take m order) ≡ carriedOut u) × (choose R u (getD order m 0) ≡ some v) × (run R (take (suc m) order) ≡ carriedOut v)
         one-step = run-steps R order s h
