@@ -1,10 +1,11 @@
 -- What a restart answers, by its definition: the promises of its contract, and each number that it gives.
-use Prim.Native.Nat.{ℕ, _≤_, _<_}
+use Prim.Native.Nat.{ℕ, min, _≤_, _<_}
 use mathlib.Core.Path.{_≡_, refl, sym, ap, _∙_}
-use mathlib.Core.Bool.{true}
+use mathlib.Core.Bool.{true, _&&_, not}
 use mathlib.Core.List.{List}
 use native.Mathlib.Omega.{arith}
 use lib.ListN.{getD, List·getD-eq-default}
+use lib.Dec.{ltb}
 use borrow.Author.Tests.{lt-ltb, le-ltb}
 use Rattle.words.specs.Area.{wordsFrom}
 use Rattle.words.proofs.Area.{length-words, words-at}
@@ -14,7 +15,7 @@ use Rattle.trace.specs.Fit.{wellFormed}
 use Rattle.table.specs.Held.{held}
 use Rattle.theory.specs.Events.{size}
 use Rattle.theory.specs.Epochs.{phaseAt, ruleOf}
-use Rattle.theory.specs.Line.{inSet, sentBefore, received, receivedBefore, undone, lost, LossFree, restartIn, current, Permitted, Greatest, usableAt, runAt, engineLine}
+use Rattle.theory.specs.Line.{inSet, staysIn, sentBefore, received, receivedBefore, undone, lost, LossFree, restartIn, current, Permitted, Greatest, usableAt, runAt, engineLine}
 use Rattle.theory.specs.Inner.Refusals.{FitFailure}
 use Rattle.theory.proofs.WellFormed.{valid}
 use Rattle.theory.proofs.Epochs.{laws}
@@ -76,7 +77,10 @@ module _ (t : Trace) (w : wellFormed t ≡ true) (cut set : ℕ) (cl : cut ≤ s
   restarts = record {
     greatest = greatest-made;
     floor = λ y ly fy least z lz. floor-failed t w cut cl (inSet set) y ly fy least (lineIn made) greatest-made z lz;
-    goes = back-bits made (backOf (numbersOf made)) (length-words (each t (engineLine t cut set)) 0 64) few refl;
+    goes = λ z.
+        let places : min (t .procs) 64 ≡ t .procs = omega (arith, few) in
+        back-bits made (length-words (each t (engineLine t cut set)) 0 64) (backOf (numbersOf made)) refl z
+        ∙ ap (λ (n : ℕ). ltb z n && not (staysIn (lineIn made) z)) places;
     ones-are = refl;
     numbers-are = back-ones (numbersOf made);
   }

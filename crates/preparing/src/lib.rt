@@ -15,7 +15,7 @@ use recovery_line::Line;
 use words::AREA_WORDS;
 
 // Checks the areas that a call is given: 12, 13, or 0. Where nothing is wrong, fills the full table of the trace.
-pub fn open_table(table: &[u32], room: usize, full: &mut [u32]) -> u32
+fn open_table(table: &[u32], room: usize, full: &mut [u32]) -> u32
     requires { ⌜ length (now full) ≡ fullWords ⌝ }
     ensures fault { λ r. ⌜ r ≡ areasOr (now (table .entry)) room 0 ⌝ }
     ensures given { λ r. ⌜ (r ≡ 0 → TableOpened (now (table .entry)) room (now (full .exit))) ⌝ }

@@ -12,7 +12,7 @@ use Rattle.theory.specs.Epochs.{Rule}
 use Rattle.theory.specs.Line.{Run, runAt}
 use Rattle.theory.specs.Order.{Outcome, carriedOut, run, steps, complete}
 use Rattle.theory.specs.Answers.{lineOf, Listed, lostOnes, exactSteps}
-use Rattle.theory.specs.Inner.Record.{delivered}
+use Rattle.theory.specs.Record.{delivered}
 use Rattle.theory.specs.Inner.Tests.{sameRecord}
 use Rattle.theory.specs.Refusals.{lineFault, orderFault}
 use Rattle.recovery_line.specs.declared.Line.{Line}
