@@ -41,12 +41,12 @@ enum {
     HALLBACK_RESTART_NUMBERS = 196, /* of the answer of hallback_restart */
     HALLBACK_REPORT_BYTES = 262144, /* a buffer of so many bytes holds every report */
     HALLBACK_TEXT_BYTES = 131072,   /* a buffer of so many bytes holds every text that hallback_write writes */
-    HALLBACK_STACK_READ = 20480,    /* a thread's stack for hallback_read and hallback_read_failure, ... */
-    HALLBACK_STACK_WRITE = 151552,  /* ... for hallback_write, ... */
-    HALLBACK_STACK_RESTART = 98304, /* ... hallback_restart, ... */
-    HALLBACK_STACK_MESSAGES = 102400,
-    HALLBACK_STACK_REPLAY = 118784, /* ... hallback_replay and hallback_lowest, ... */
-    HALLBACK_STACK_REPORT = 167936  /* ... and hallback_report */
+    HALLBACK_STACK_READ = 24576,    /* a thread's stack for hallback_read and hallback_read_failure, ... */
+    HALLBACK_STACK_WRITE = 155648,  /* ... for hallback_write, ... */
+    HALLBACK_STACK_RESTART = 102400, /* ... hallback_restart, ... */
+    HALLBACK_STACK_MESSAGES = 106496,
+    HALLBACK_STACK_REPLAY = 122880, /* ... hallback_replay and hallback_lowest, ... */
+    HALLBACK_STACK_REPORT = 172032  /* ... and hallback_report */
 };
 
 /* Reads a trace text without a failure line into the table area. Answer: place. Refusals: 12, then 1 to 7; after 1 to 7
