@@ -13,7 +13,7 @@ use Rattle.words.proofs.Cases.{by-lt}
 use Rattle.trace.specs.Trace.{Trace}
 use Rattle.trace.specs.Table.{tableWord}
 use Rattle.table.specs.Held.{held, holdsTrace}
-use Rattle.theory.specs.Events.{Kind, size, at, kind, sends, recvs, checkpoints, sent, rcvd, sendOf, recvOf}
+use Rattle.theory.specs.Events.{Kind, size, at, kind, sent, rcvd, sendOf, recvOf}
 use Rattle.theory.specs.Epochs.{epochAt, phaseAt, loggedBy, ruleOf}
 use Rattle.theory.proofs.Events.{sends-is, recvs-is, checkpoints-is}
 use Rattle.columns.specs.Inner.Columns.{fullWords, Columns, Flagged, Others}

@@ -7,7 +7,7 @@ use mathlib.Core.Bool.{true}
 use native.Mathlib.Omega.{arith}
 use lib.ListN.{length}
 use borrow.Author.Tests.{lt-ltb, le-ltb}
-use Rattle.words.proofs.Cases.{by-lt, and-left}
+use Rattle.words.proofs.Cases.{and-left}
 use Rattle.text.specs.Number.{decimal}
 use Rattle.trace.specs.declared.Event.{Event}
 use Rattle.trace.specs.declared.Event.the-variants.{Send, Recv, Save}
@@ -17,13 +17,11 @@ use Rattle.lines.specs.declared.Line.{Line}
 use Rattle.lines.specs.Line.{kProcs, lineSaid, most, mostSet}
 use Rattle.lines.specs.Render.{renderEvent, renderFailure, KeysHold}
 use Rattle.lines.proofs.OneLine.{Says, failureText, failure-text, line-says, procs-line, event-line, failure-line}
-use Rattle.reader.specs.declared.Judged.{Judged}
-use Rattle.reader.specs.declared.Judged.the-variants.{Fails, Unfit}
 use Rattle.reader.specs.Render.{render}
 use Rattle.reader.specs.Inner.Reading.{judgedNumber}
 use Rattle.reader.specs.Verdict.{pieces, faultHere, judge, Scan, afterLine, linesFrom, firstLine, scanPieces, scan, Verdict, verdictOf, verdict}
-use Rattle.reader.specs.Failure.{Failing, lastLine, failingOf, lastFailure}
-use Rattle.reader.specs.Meaning.{FailureText, CountFault, EventFault, AtFault, FirstFault, LaterFault, PastFailure}
+use Rattle.reader.specs.Failure.{Failing, failingOf, lastFailure}
+use Rattle.reader.specs.Meaning.{CountFault, EventFault, AtFault, FirstFault, LaterFault, PastFailure}
 use Rattle.reader.proofs.Judging.{fault-range, event-number, unfit-number}
 use Rattle.reader.proofs.Turns.{with-lf, first-lf}
 use Rattle.reader.proofs.Pieces.{joined, line-piece, plain, plain-piece, plains, plain-failure}
