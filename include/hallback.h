@@ -13,8 +13,8 @@
    length is 0. No two slices of a call may overlap, except two that are only read.
 
    Threads: the library keeps nothing from one call to the next and has no memory of its own. Calls may run at the same
-   time in any number of threads, as long as no slice that one of them writes is a slice of another; several may read one
-   table area.
+   time in any number of threads, as long as no slice that one of them writes is a slice of another; several may read
+   one table area.
 
    Stack: a call keeps its tables on the stack, no more for a large trace than for a small one. With the thread stacks
    named below (HALLBACK_STACK_READ and so on, bytes, for pthread_attr_setstacksize) each call comes through; the gate
@@ -50,7 +50,7 @@ enum {
 };
 
 /* Reads a trace text without a failure line into the table area. Answer: place. Refusals: 12, then 1 to 7; after 1 to 7
-   the first 16,384 words of the table area are zero. */
+   the first 16,384 words of the table area are zero, 12 changes nothing. */
 uint32_t hallback_read(const uint8_t *text, size_t text_len, uint32_t *table, size_t table_len, uint64_t *answer,
                        size_t answer_len);
 
@@ -88,15 +88,25 @@ uint32_t hallback_restart(const uint32_t *table, size_t table_len, uint64_t step
 
 /* The messages of a line, listed in the run area: orphans (received before their receiver's restart, sent after their
    sender's), kept (sent before their sender's restart, and handed over in a replay), lost (sent before it too and to be
-   received again, but not logged). Answer: place, how many of each. Refusals: 12, 13, 8, 9, 10; none changes the run
-   area. */
+   received again, but not logged). A received message is logged if its sender's epoch at the send is less than its
+   receiver's at the receipt. For a process that stays, the cut takes the place of its restart; only events up to the
+   cut count. No message is counted as lost exactly if the line loses none. Answer: place, how many of each. Refusals:
+   12, 13, 8, 9, 10; none changes the run area. */
 uint32_t hallback_messages(const uint32_t *table, size_t table_len, uint64_t step, uint64_t set, const uint32_t *line,
                            size_t line_len, uint32_t *run, size_t run_len, uint64_t *answer, size_t answer_len);
 
 /* Carries out an order of choices from a line: 0 to 63 is the next event of that process, 64 + 64 P + Q hands over the
    oldest kept message from P to Q. Leaves the delivery record in the run area. Answer: place, steps, 1 if the order is
-   complete (no choice is left). Refusals: 12, 13, 8, 9, 10, and 11 with the place of the choice in the order, from 1;
-   after 11 the first 16,384 words of the run area are zero, the others change nothing.
+   complete (no choice is left). The record after a complete order is that of the run without failure exactly if the
+   line loses no message; that record is what hallback_lowest leaves from the line of ones. Refusals: 12, 13, 8, 9, 10,
+   and 11 with the place of the choice in the order, from 1; after 11 the first 16,384 words of the run area are zero,
+   the others change nothing.
+
+   A choice is allowed when it need not wait. A process waits until every orphan of phase r or less has been sent again,
+   r being its phase at the cut if it stays, else its phase at the restart less 1; its send also until all kept messages
+   of that channel are handed over, its receive until a message is in the channel, of which it takes the oldest. A kept
+   message waits until every orphan of its own phase or less has been sent again. A message that its receiver had before
+   its restart is dropped when it is sent again.
 
    Steps are the choices carried out. From a line that loses no message (that of hallback_restart, or any of which
    hallback_messages counts none lost) every complete order has exactly the same number: one for each event (send,

@@ -200,9 +200,10 @@ impl Restart {
 /// How many messages of each class there are with respect to a line.
 #[derive(Clone, Copy, Debug, Default, PartialEq, Eq)]
 pub struct Counts {
-    /// Received messages whose sender goes back behind the send.
+    /// Messages received before their receiver's restart whose sender goes back behind the send.
     pub orphans: u64,
-    /// Messages to be handed over: those that a replay receives again, and those in transit.
+    /// Messages sent before their sender's restart and to be handed over: logged ones that are
+    /// received again, and those not yet received at the cut.
     pub kept: u64,
     /// Messages that a replay from this line would not have.
     pub lost: u64,

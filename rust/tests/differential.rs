@@ -2,8 +2,8 @@
 //! every byte of every buffer. What the archive writes, it has to read as the same words, and to
 //! write as the same bytes what it has read.
 //!
-//! `cargo test --test differential -- [rounds [first round]]`; or `HALLBACK_ROUNDS` says how many
-//! rounds. A round is made from its number alone, so that one that differs can be run again; before
+//! `cargo test --test differential -- [rounds [first round]]`; or, without these, `HALLBACK_ROUNDS`
+//! says how many rounds. A round is made from its number alone, so that one that differs can be run again; before
 //! round 1 come texts at the limits and all small traces. Ends with how many calls were compared and
 //! how many differ, and fails if any does.
 
@@ -18,12 +18,16 @@ fn main() {
 
 #[cfg(hallback_archive)]
 fn main() {
-    let from_environment = std::env::var("HALLBACK_ROUNDS").ok();
+    let from_environment = std::env::var("HALLBACK_ROUNDS")
+        .ok()
+        .and_then(|rounds| rounds.parse().ok());
     let mut numbers = std::env::args()
         .skip(1)
-        .chain(from_environment)
         .filter_map(|argument| argument.parse().ok());
-    let rounds = numbers.next().unwrap_or(compare::QUICK_ROUNDS);
+    let rounds = numbers
+        .next()
+        .or(from_environment)
+        .unwrap_or(compare::QUICK_ROUNDS);
     let first = numbers.next().unwrap_or(1);
     if !compare::compare(first..first + rounds) {
         std::process::exit(1);

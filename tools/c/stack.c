@@ -1,6 +1,6 @@
 /* The stack that calls take: runs each function in a thread with the stack that the header names for it, on a trace
-   that takes every way through it. A thread that runs out of stack ends the program by a signal. `stack least` prints,
-   for each, the least number of KB (by steps of 4) with which it comes through. */
+   that takes every way through it; none may be refused. A thread that runs out of stack ends the program by a signal.
+   `stack least` prints, for each, the least number of KB (by steps of 4) with which it comes through. */
 #include <limits.h>
 #include <pthread.h>
 #include <stdio.h>
@@ -32,48 +32,53 @@ static const uint16_t order[2] = {0, 1};
 static uint64_t answer[HALLBACK_RESTART_NUMBERS];
 static uint8_t out[HALLBACK_REPORT_BYTES];
 
+/* How many calls were refused. */
+static uint32_t refused;
+
 enum { STEP = 10, SET = 2, NUMBERS = HALLBACK_RESTART_NUMBERS };
 
 static void *read_text(void *unused) {
     static const char last[] = "fail=";
-    hallback_read(bytes, (size_t)(strstr(text, last) - text), scratch, HALLBACK_WORDS, answer, NUMBERS);
+    refused += hallback_read(bytes, (size_t)(strstr(text, last) - text), scratch, HALLBACK_WORDS, answer, NUMBERS) != 0;
     return unused;
 }
 
 static void *read_failure(void *unused) {
-    hallback_read_failure(bytes, length, scratch, HALLBACK_WORDS, answer, NUMBERS);
+    refused += hallback_read_failure(bytes, length, scratch, HALLBACK_WORDS, answer, NUMBERS) != 0;
     return unused;
 }
 
 /* Into a buffer of just the text's length, which takes a buffer of the engine's own. */
 static void *write_back(void *unused) {
-    hallback_write(table, HALLBACK_WORDS, out, sizeof out, answer, NUMBERS);
-    hallback_write(table, HALLBACK_WORDS, out, answer[1], answer, NUMBERS);
+    refused += hallback_write(table, HALLBACK_WORDS, out, sizeof out, answer, NUMBERS) != 0;
+    refused += hallback_write(table, HALLBACK_WORDS, out, answer[1], answer, NUMBERS) != 0;
     return unused;
 }
 
 static void *restart(void *unused) {
-    hallback_restart(table, HALLBACK_WORDS, STEP, SET, answer, NUMBERS);
+    refused += hallback_restart(table, HALLBACK_WORDS, STEP, SET, answer, NUMBERS) != 0;
     return unused;
 }
 
 static void *messages(void *unused) {
-    hallback_messages(table, HALLBACK_WORDS, STEP, SET, line, 3, run, HALLBACK_WORDS, answer, NUMBERS);
+    refused += hallback_messages(table, HALLBACK_WORDS, STEP, SET, line, 3, run, HALLBACK_WORDS, answer, NUMBERS) != 0;
     return unused;
 }
 
 static void *replay(void *unused) {
-    hallback_replay(table, HALLBACK_WORDS, STEP, SET, line, 3, order, 2, run, HALLBACK_WORDS, answer, NUMBERS);
+    refused +=
+        hallback_replay(table, HALLBACK_WORDS, STEP, SET, line, 3, order, 2, run, HALLBACK_WORDS, answer, NUMBERS) != 0;
     return unused;
 }
 
 static void *lowest(void *unused) {
-    hallback_lowest(table, HALLBACK_WORDS, STEP, SET, line, 3, run, HALLBACK_WORDS, answer, NUMBERS);
+    refused += hallback_lowest(table, HALLBACK_WORDS, STEP, SET, line, 3, run, HALLBACK_WORDS, answer, NUMBERS) != 0;
     return unused;
 }
 
 static void *report(void *unused) {
-    hallback_report(bytes, length, out, sizeof out);
+    size_t written = hallback_report(bytes, length, out, sizeof out);
+    refused += written < 4 || memcmp(out, "out=", 4) != 0;
     return unused;
 }
 
@@ -100,7 +105,7 @@ static int comes_through(int k, size_t stack) {
         if (pthread_attr_setstacksize(&attr, stack) != 0) _exit(2);
         if (pthread_create(&thread, &attr, calls[k].call, NULL) != 0) _exit(2);
         pthread_join(thread, NULL);
-        _exit(0);
+        _exit(refused != 0);
     }
     int status = 0;
     waitpid(child, &status, 0);
@@ -115,12 +120,12 @@ static void print_least(int k) {
 
 int main(int argc, char **argv) {
     int failed = 0;
-    hallback_read_failure(bytes, length, table, HALLBACK_WORDS, answer, NUMBERS);
+    refused += hallback_read_failure(bytes, length, table, HALLBACK_WORDS, answer, NUMBERS) != 0;
     for (int k = 0; k < CALLS; k++) {
         if (argc > 1 && strcmp(argv[1], "least") == 0) {
             print_least(k);
         } else if (!comes_through(k, calls[k].stack)) {
-            printf("%s: out of stack with %zu KB\n", calls[k].name, calls[k].stack / 1024);
+            printf("%s: out of stack with %zu KB, or refused\n", calls[k].name, calls[k].stack / 1024);
             failed = 1;
         }
     }
