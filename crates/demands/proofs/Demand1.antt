@@ -25,8 +25,8 @@ use Rattle.recovery_line.specs.declared.Line.{Line}
 use Rattle.recovery_line.specs.Given.{lineIn}
 use Rattle.orders.specs.declared.Replayed.{Replayed}
 use Rattle.preparing.specs.Faults.{runOf}
-use Rattle.restart.specs.Restart.{restartRefusal, restartAnswer}
-use Rattle.messages.specs.Messages.{messagesRefusal, messagesAnswer, messagesArea}
+use Rattle.restart.specs.Restart.{restartAnswer}
+use Rattle.messages.specs.Messages.{messagesAnswer, messagesArea}
 use Rattle.recovery.specs.Answers.{replayAnswer, replayArea}
 use Rattle.demands.proofs.Numbers.{Left, FailureNumbers, Areas, LineNumbers, left-by-reading, restart-number, messages-number, failure-numbers, line-accepts, line-numbers}
 use Rattle.demands.proofs.Replays.{replay-numbers, refused-answer, past-kept}
@@ -51,7 +51,17 @@ module _ (a : List ℕ) (step set : ℕ) where
   restart-refuses = rw (restart-number a step set) (failure-numbers a step set)
 
   -- "In a refused answer every other number is 0 and every yes or no is no."
-  pub restart-refused : (restartAnswer a step set .number ≡ 0 → ⊥) → restartAnswer a step set ≡ restartRefusal (restartAnswer a step set .number)
+  pub restart-refused : (restartAnswer a step set .number ≡ 0 → ⊥)
+      → restartAnswer a step set
+      ≡ record {
+        number = restartAnswer a step set .number;
+        place = 0;
+        line = record { epochs = replicate 64 0; count = 0 };
+        going = 0;
+        back = 0;
+        epochs = replicate 64 0;
+        phases = replicate 64 0;
+      }
   restart-refused = restart-refused-by a step set
 
 -- ---- `messages`
@@ -65,7 +75,8 @@ module _ (a area : List ℕ) (step set : ℕ) (l : Line) where
   pub messages-refuses : LineNumbers a (length area) step set l (messagesAnswer a area step set l .number)
   messages-refuses = rw (messages-number a area step set l) (line-numbers a (length area) step set l)
 
-  pub messages-refused : (messagesAnswer a area step set l .number ≡ 0 → ⊥) → messagesAnswer a area step set l ≡ messagesRefusal (messagesAnswer a area step set l .number)
+  pub messages-refused : (messagesAnswer a area step set l .number ≡ 0 → ⊥)
+      → messagesAnswer a area step set l ≡ record { number = messagesAnswer a area step set l .number; place = 0; orphans = 0; kept = 0; lost = 0 }
   messages-refused = messages-refused-by a area step set l
 
   -- "Other refusals change nothing."

@@ -21,9 +21,10 @@ use Rattle.preparing.specs.Faults.{runOf}
 use Rattle.restart.specs.Restart.{restartAnswer, Restarts}
 use Rattle.messages.specs.Messages.{countsOf, messagesAnswer, messagesArea}
 use Rattle.messages.specs.Meaning.{Lists}
-use Rattle.recovery.specs.Answers.{replayAnswer, StepsExact, StepsAtMost}
+use Rattle.recovery.specs.Answers.{replayAnswer, replayArea, StepsExact, StepsAtMost}
 use Rattle.demands.proofs.Restarting.{restart-promised, epoch-at, phase-at, count-is, number-past, keeps-most}
 use Rattle.demands.proofs.Listing.{messages-promised, counts-are}
+use Rattle.demands.proofs.Unread.{same-lines, same-messages, same-replays}
 use Rattle.demands.proofs.Replays.{promised, Carried, accepted, step-of-each}
 
 -- ---- `restart`
@@ -71,6 +72,17 @@ module _ (a area : List ℕ) (step set : ℕ) (l : Line) (ok : messagesAnswer a 
   -- the counts are the sizes of the classes
   pub counted : messagesAnswer a area step set l ≡ countsOf (runOf a step l)
   counted = counts-are a area step set l ok
+
+-- "Places of a line past its N numbers .. aren't read when it takes one.": lines with the same N numbers have the same
+-- answers and areas
+module _ (a area : List ℕ) (step set : ℕ) (l m : Line) (count : l .count ≡ m .count)
+    (numbers : (z : ℕ) → z < l .count → getD (l .epochs) z 0 ≡ getD (m .epochs) z 0) where
+  pub messages-unread : (messagesAnswer a area step set l ≡ messagesAnswer a area step set m) × (messagesArea a area step set l ≡ messagesArea a area step set m)
+  messages-unread = same-messages a area step set l m count (same-lines l m count numbers)
+
+  pub replay-unread : (order : List ℕ)
+      → (replayAnswer a area step set l order ≡ replayAnswer a area step set m order) × (replayArea a area step set l order ≡ replayArea a area step set m order)
+  replay-unread order = same-replays a area step set l m count (same-lines l m count numbers) order
 
 -- ---- `replay`
 

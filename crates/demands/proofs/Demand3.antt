@@ -51,7 +51,7 @@ module _ (a area : List ℕ) (step set : ℕ) (l : Line) (order : List ℕ) wher
   pub faultless-lists : holdsTrace a ≡ true → (p q : ℕ) → listIn (held a) (wordsFrom (faultlessAt (held a)) 0 areaWords) p q ≡ faultless R p q
   faultless-lists h = faultless-told R (held-few a h)
 
-  -- "an order with one not allowed is refused and has no record": zeros, which are no record of a trace's receives
+  -- "an order with one not allowed is refused and has no record": the area is zeros
   pub no-record : replayAnswer a area step set l order .number ≡ 11 → take areaWords after ≡ replicate areaWords 0
   no-record = eleven-area a area step set l order
 

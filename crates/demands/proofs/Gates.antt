@@ -10,10 +10,9 @@ use mathlib.Core.Option.{some, Option·none-ne-some}
 use Rattle.theory.specs.Events.{Kind, send, recv, other, kind}
 use Rattle.theory.specs.Line.{Run}
 use Rattle.theory.specs.Replay.{hand, State, ready, gate, sending, taking, moved, handing, sendStep, recvStep, eventStep, processStep, handStep, step}
-use Rattle.theory.specs.Order.{choiceOf}
 use Rattle.theory.specs.Inner.Orders.{Allowed}
 use Rattle.theory.proofs.Base.{by}
-use Rattle.theory.proofs.Orders.{numberOf, choice-process, choice-is, none-high, choose-of, choose-none}
+use Rattle.theory.proofs.Orders.{choice-process, choice-hand, none-high, choose-of, choose-none}
 
 module _ (R : Run) (s : State) where
   -- "A send on P to Q waits until every kept message of that channel is handed over. A receive needs a message in the
@@ -64,15 +63,11 @@ module _ (R : Run) (s : State) where
 
   -- "64 + 64·P + Q: the oldest kept message from P to Q not yet handed over goes into the channel." "A kept message may
   -- be handed over when its own phase is ready."
-  pub hand-number : (c p q : ℕ) → choiceOf c ≡ some (hand p q) → c ≡ 64 + 64 * p + q
-  unfolding numberOf
-  hand-number c p q h = choice-is c (hand p q) h
-
-  pub hand-allowed : (c p q : ℕ) → choiceOf c ≡ some (hand p q)
-      → Allowed R s c ↔ ((m : ℕ) × (ms : List ℕ) × (s .left p q ≡ m ∷ ms) × (ready R s (R .carries p q m) ≡ true))
+  pub hand-allowed : (p q : ℕ) → p < 64 → q < 64
+      → Allowed R s (64 + 64 * p + q) ↔ ((m : ℕ) × (ms : List ℕ) × (s .left p q ≡ m ∷ ms) × (ready R s (R .carries p q m) ≡ true))
   unfolding step handStep
-  hand-allowed c p q h =
-      let k = choose-of R s c (hand p q) h in (
+  hand-allowed p q hp hq =
+      let k = choose-of R s (64 + 64 * p + q) (hand p q) (choice-hand p q hp hq) in (
         λ x. there (s .left p q) refl (x .0) (sym k ∙ x .1),
         λ (m, ms, a, b). (handing R s p q m ms, k ∙ rw (a, b)),
       )

@@ -7,6 +7,7 @@ pub mod Gates
 pub mod Numbers
 pub mod Few
 pub mod Restarting
+pub mod Unread
 pub mod Listing
 pub mod Replays
 pub mod Fits

@@ -49,7 +49,7 @@ check-13 a = (to, from)
     from : (text : List ℕ) × (t : Trace) × (verdict text ≡ accepted t) × (areaWords ≤ length a) × (readArea text a ≡ a) → holdsTrace a ≡ true
     from (text, t, e, size, same) = told a t (subst (λ (x : List ℕ). heldTrace x ≡ some t) same (read-held text a t e size)) .0
 
--- "Words past 16,384 are never touched", and never looked at: what an area holds is told by its first 16,384 words.
+-- Words past 16,384 are never looked at: what an area holds is told by its first 16,384 words.
 pub front-only : (a b : List ℕ) → areaWords ≤ length a → areaWords ≤ length b → take areaWords a ≡ take areaWords b → heldTrace a ≡ heldTrace b
 front-only a b la lb e = same-held (heldTrace a) (heldTrace b) (same-front a b la lb e) (same-front b a lb la (sym e))
 

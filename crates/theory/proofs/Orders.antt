@@ -39,7 +39,7 @@ pub choice-process : (z : ℕ) → z < 64 → choiceOf z ≡ some (process z)
 unfolding choiceOf
 choice-process z h = let t : ltb z 64 ≡ true = lt-ltb z 64 h in rw t
 
-choice-hand : (p q : ℕ) → p < 64 → q < 64 → choiceOf (64 + 64 * p + q) ≡ some (hand p q)
+pub choice-hand : (p q : ℕ) → p < 64 → q < 64 → choiceOf (64 + 64 * p + q) ≡ some (hand p q)
 unfolding choiceOf
 choice-hand p q a b =
     let t : ltb (64 + 64 * p + q) 64 ≡ false = le-ltb (64 + 64 * p + q) 64 (omega arith) in
