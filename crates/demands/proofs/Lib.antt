@@ -3,6 +3,7 @@ pub mod Demand1
 pub mod Demand2
 pub mod Demand3
 pub mod Gates
+pub mod Printed
 -- why they hold
 pub mod Numbers
 pub mod Few
