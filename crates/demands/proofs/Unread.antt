@@ -1,7 +1,7 @@
 -- Places of a line past its count are not read: lines with the same numbers are one to every call.
 use Prim.Native.Nat.{ℕ, _<_}
-use mathlib.Core.Path.{_≡_, refl, fun-ext}
-use mathlib.Core.Bool.{true, false, cond}
+use mathlib.Core.Path.{_≡_, fun-ext}
+use mathlib.Core.Bool.{true, false}
 use mathlib.Core.List.{List}
 use lib.ListN.{getD}
 use lib.Dec.{ltb}
