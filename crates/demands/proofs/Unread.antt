@@ -9,7 +9,7 @@ use borrow.Author.Tests.{ltb-true}
 use Rattle.words.proofs.Cases.{by-bool}
 use Rattle.recovery_line.specs.declared.Line.{Line}
 use Rattle.recovery_line.specs.Given.{lineIn}
-use Rattle.preparing.specs.Faults.{runOf, lineFaultOf}
+use Rattle.preparing.specs.Faults.{lineFaultOf}
 use Rattle.messages.specs.Messages.{messagesAnswer, messagesArea}
 use Rattle.recovery.specs.Answers.{replayAnswer, replayArea}
 
@@ -20,10 +20,10 @@ same-lines l m count numbers = fun-ext (λ z. by-bool (ltb z (l .count))
 
 module _ (a area : List ℕ) (step set : ℕ) (l m : Line) (count : l .count ≡ m .count) (same : lineIn l ≡ lineIn m) where
   pub same-messages : (messagesAnswer a area step set l ≡ messagesAnswer a area step set m) × (messagesArea a area step set l ≡ messagesArea a area step set m)
-  unfolding messagesAnswer messagesArea runOf lineFaultOf
-  same-messages = (rw (count, same), rw (count, same))
+  unfolding messagesAnswer messagesArea lineFaultOf
+  same-messages = (rw (same, count), rw (same, count))
 
   pub same-replays : (order : List ℕ)
       → (replayAnswer a area step set l order ≡ replayAnswer a area step set m order) × (replayArea a area step set l order ≡ replayArea a area step set m order)
-  unfolding replayAnswer replayArea runOf lineFaultOf
-  same-replays order = (rw (count, same), rw (count, same))
+  unfolding replayAnswer replayArea lineFaultOf
+  same-replays order = (rw (same, count), rw (same, count))
