@@ -201,7 +201,7 @@ module _ (Same : List ℕ → Type 0) (text : List ℕ) (n k : ℕ) (lift : (x :
         front = front;
         before = u;
         step = step;
-        set = set;
+        failed = set;
         fit = record { fit = h .0; step-most = h .1; set-most = h .2; bytes = refl };
         place = omega (arith, h .4);
         after = joined rest;

@@ -99,8 +99,8 @@ pub record PastFailure (Same : List ℕ → Type 0) (text : List ℕ) (n k : ℕ
   pub front : List ℕ
   pub before : Trace
   pub step : ℕ
-  pub set : ℕ
-  pub fit : FailureText front before step set
+  pub failed : ℕ
+  pub fit : FailureText front before step failed
   pub place : length (before .events) + 3 ≡ k
   pub after : List ℕ
   pub bytes : text ≡ front ++ after
