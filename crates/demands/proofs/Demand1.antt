@@ -29,7 +29,7 @@ use Rattle.restart.specs.Restart.{restartAnswer}
 use Rattle.messages.specs.Messages.{messagesAnswer, messagesArea}
 use Rattle.recovery.specs.Answers.{replayAnswer, replayArea}
 use Rattle.demands.proofs.Numbers.{Left, FailureNumbers, Areas, LineNumbers, left-by-reading, restart-number, messages-number, failure-numbers, line-accepts, line-numbers}
-use Rattle.demands.proofs.Replays.{replay-numbers, refused-answer, past-kept}
+use Rattle.demands.proofs.Replays.{replay-numbers, refused-answer, refused-nowhere, past-kept}
 use Rattle.demands.proofs.Fits.{restart-refused-by, messages-refused-by, messages-kept, messages-past, replay-fit, replay-eleven, eleven-place, eleven-area, replay-kept, lowest-fit}
 
 -- "What is fit": "what reading some accepted trace leaves there" is `Left` (Numbers). Reading an accepted text leaves
@@ -123,6 +123,10 @@ module _ (a area : List ℕ) (step set : ℕ) (l : Line) (order : List ℕ) wher
   -- "In a refused answer every other number is 0 and every yes or no is no."
   pub replay-refused : (answer .number ≡ 0 → ⊥) → answer ≡ record { number = answer .number; place = answer .place; steps = 0; complete = false }
   replay-refused = refused-answer a area step set l order
+
+  -- "for 11 the place in the order from 1, else 0"
+  pub replay-nowhere : (answer .number ≡ 0 → ⊥) → (answer .number ≡ 11 → ⊥) → answer .place ≡ 0
+  replay-nowhere = refused-nowhere a area step set l order
 
   -- "after 11 those of the run area are [zero]. Other refusals change nothing. Words past 16,384 are never touched."
   pub refused-zeros : answer .number ≡ 11 → take areaWords (replayArea a area step set l order) ≡ replicate areaWords 0

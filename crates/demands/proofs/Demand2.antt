@@ -14,7 +14,7 @@ use Rattle.table.specs.Held.{held}
 use Rattle.theory.specs.Epochs.{phaseAt, ruleOf}
 use Rattle.theory.specs.Line.{inSet, Run, LossFree, restartIn, current, Permitted, usableAt, runAt}
 use Rattle.theory.specs.Replay.{State}
-use Rattle.theory.specs.Order.{carriedOut, choose, run}
+use Rattle.theory.specs.Order.{carriedOut, choose, run, lowestOrder}
 use Rattle.recovery_line.specs.declared.Line.{Line}
 use Rattle.recovery_line.specs.Given.{lineIn}
 use Rattle.preparing.specs.Faults.{runOf}
@@ -24,7 +24,7 @@ use Rattle.messages.specs.Meaning.{Lists}
 use Rattle.recovery.specs.Answers.{replayAnswer, replayArea, StepsExact, StepsAtMost}
 use Rattle.demands.proofs.Restarting.{restart-promised, epoch-at, phase-at, count-is, number-past, keeps-most}
 use Rattle.demands.proofs.Listing.{messages-promised, counts-are}
-use Rattle.demands.proofs.Unread.{same-lines, same-messages, same-replays}
+use Rattle.demands.proofs.Unread.{same-lines, same-messages, same-replays, same-lowest}
 use Rattle.demands.proofs.Replays.{promised, Carried, accepted, step-of-each}
 
 -- ---- `restart`
@@ -83,6 +83,10 @@ module _ (a area : List ℕ) (step set : ℕ) (l m : Line) (count : l .count ≡
   pub replay-unread : (order : List ℕ)
       → (replayAnswer a area step set l order ≡ replayAnswer a area step set m order) × (replayArea a area step set l order ≡ replayArea a area step set m order)
   replay-unread order = same-replays a area step set l m count (same-lines l m count numbers) order
+
+  pub lowest-unread : let one = lowestOrder (runOf a step l) in let two = lowestOrder (runOf a step m) in
+      (replayAnswer a area step set l one ≡ replayAnswer a area step set m two) × (replayArea a area step set l one ≡ replayArea a area step set m two)
+  lowest-unread = same-lowest a area step set l m count (same-lines l m count numbers)
 
 -- ---- `replay`
 

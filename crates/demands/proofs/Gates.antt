@@ -10,6 +10,7 @@ use mathlib.Core.Option.{some, Option·none-ne-some}
 use Rattle.theory.specs.Events.{Kind, send, recv, other, kind}
 use Rattle.theory.specs.Line.{Run}
 use Rattle.theory.specs.Replay.{hand, State, ready, gate, sending, taking, moved, handing, sendStep, recvStep, eventStep, processStep, handStep, step}
+use Rattle.theory.specs.Order.{choose}
 use Rattle.theory.specs.Inner.Orders.{Allowed}
 use Rattle.theory.proofs.Base.{by}
 use Rattle.theory.proofs.Orders.{choice-process, choice-hand, none-high, choose-of, choose-none}
@@ -61,8 +62,13 @@ module _ (R : Run) (s : State) where
       there (e ∷ es) a false c u k = absurd (Option·none-ne-some u k)
       there (e ∷ es) a true c u k = (e, es, a, c, event-free z e es (kind (R .trace) e) .0 (u, k))
 
-  -- "64 + 64·P + Q: the oldest kept message from P to Q not yet handed over goes into the channel." "A kept message may
-  -- be handed over when its own phase is ready."
+  -- "64 + 64·P + Q: the oldest kept message from P to Q not yet handed over goes into the channel."
+  pub hand-does : (p q m : ℕ) (ms : List ℕ) → p < 64 → q < 64 → s .left p q ≡ m ∷ ms → ready R s (R .carries p q m) ≡ true
+      → choose R s (64 + 64 * p + q) ≡ some (handing R s p q m ms)
+  unfolding step handStep
+  hand-does p q m ms hp hq a b = choose-of R s (64 + 64 * p + q) (hand p q) (choice-hand p q hp hq) ∙ rw (a, b)
+
+  -- "A kept message may be handed over when its own phase is ready."
   pub hand-allowed : (p q : ℕ) → p < 64 → q < 64
       → Allowed R s (64 + 64 * p + q) ↔ ((m : ℕ) × (ms : List ℕ) × (s .left p q ≡ m ∷ ms) × (ready R s (R .carries p q m) ≡ true))
   unfolding step handStep

@@ -162,6 +162,15 @@ module _ (a area : List ℕ) (step set : ℕ) (l : Line) (order : List ℕ) wher
       go (stopped i z e) = let q = answer-stopped i z e in q ∙ rw (ap (λ (r : Replayed). r .number) q, ap (λ (r : Replayed). r .place) q)
       go (unfit z) = let q = answer-unfit z in q ∙ rw (ap (λ (r : Replayed). r .number) q, ap (λ (r : Replayed). r .place) q)
 
+  -- a place is told with 11 only
+  pub refused-nowhere : (answer .number ≡ 0 → ⊥) → (answer .number ≡ 11 → ⊥) → answer .place ≡ 0
+  refused-nowhere n m = go ends
+    where
+      go : Ends → answer .place ≡ 0
+      go (done s z e) = absurd (n (answer-done s z e))
+      go (stopped i z e) = absurd (m (ap (λ (r : Replayed). r .number) (answer-stopped i z e)))
+      go (unfit z) = ap (λ (r : Replayed). r .place) (answer-unfit z)
+
   -- the area past its first 16,384 words
   pub past-kept : drop areaWords after ≡ drop areaWords area
   past-kept = go ends

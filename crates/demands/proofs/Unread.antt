@@ -1,6 +1,6 @@
 -- Places of a line past its count are not read: lines with the same numbers are one to every call.
 use Prim.Native.Nat.{ℕ, _<_}
-use mathlib.Core.Path.{_≡_, fun-ext}
+use mathlib.Core.Path.{_≡_, ap, _∙_, fun-ext}
 use mathlib.Core.Bool.{true, false}
 use mathlib.Core.List.{List}
 use lib.ListN.{getD}
@@ -9,7 +9,10 @@ use borrow.Author.Tests.{ltb-true}
 use Rattle.words.proofs.Cases.{by-bool}
 use Rattle.recovery_line.specs.declared.Line.{Line}
 use Rattle.recovery_line.specs.Given.{lineIn}
-use Rattle.preparing.specs.Faults.{lineFaultOf}
+use Rattle.table.specs.Held.{held}
+use Rattle.theory.specs.Line.{runAt}
+use Rattle.theory.specs.Order.{lowestOrder}
+use Rattle.preparing.specs.Faults.{runOf, lineFaultOf}
 use Rattle.messages.specs.Messages.{messagesAnswer, messagesArea}
 use Rattle.recovery.specs.Answers.{replayAnswer, replayArea}
 
@@ -27,3 +30,13 @@ module _ (a area : List ℕ) (step set : ℕ) (l m : Line) (count : l .count ≡
       → (replayAnswer a area step set l order ≡ replayAnswer a area step set m order) × (replayArea a area step set l order ≡ replayArea a area step set m order)
   unfolding replayAnswer replayArea lineFaultOf
   same-replays order = (rw (same, count), rw (same, count))
+
+  same-order : lowestOrder (runOf a step l) ≡ lowestOrder (runOf a step m)
+  same-order = ap (λ (f : ℕ → ℕ). lowestOrder (runAt (held a) step f)) same
+
+  pub same-lowest : let one = lowestOrder (runOf a step l) in let two = lowestOrder (runOf a step m) in
+      (replayAnswer a area step set l one ≡ replayAnswer a area step set m two) × (replayArea a area step set l one ≡ replayArea a area step set m two)
+  same-lowest = (
+    same-replays (lowestOrder (runOf a step l)) .0 ∙ ap (replayAnswer a area step set m) same-order,
+    same-replays (lowestOrder (runOf a step l)) .1 ∙ ap (replayArea a area step set m) same-order,
+  )
