@@ -28,18 +28,23 @@ module _ (t : Trace) where
   unfolding tableWord
   word-head k l h = rw (ne-eqb k 0 (λ q. omega arith), ne-eqb k 1 (λ q. omega arith), le-leb k 16 h)
 
-  -- the two columns, by the place after their first
+  -- the columns, by the place after their first
   pub word-event : (j k : ℕ) → k ≡ 17 + j → k ≤ 2065 → tableWord t k ≡ getD (map wordOf (t .events)) j 0
   unfolding tableWord
   word-event j k e h =
       let q : k - 17 ≡ j = omega arith in
       rw (ne-eqb k 0 (λ z. omega arith), ne-eqb k 1 (λ z. omega arith), lt-leb k 16 (omega arith), le-leb k 2065 h, q)
 
-  pub word-value : (j k : ℕ) → k ≡ 2066 + j → tableWord t k ≡ getD (map valueWord (t .events)) j 0
+  -- a column of halves ends where the other begins; the second has no end
+  pub word-value : (b j k : ℕ) → b < 2 → k ≡ 2066 + 2049 * b + j → (b ≡ 0 → k ≤ 4114) → tableWord t k ≡ getD (map (valueWord b) (t .events)) j 0
   unfolding tableWord
-  word-value j k e =
+  word-value zero j k l e h =
       let q : k - 2066 ≡ j = omega arith in
-      rw (ne-eqb k 0 (λ z. omega arith), ne-eqb k 1 (λ z. omega arith), lt-leb k 16 (omega arith), lt-leb k 2065 (omega arith), q)
+      rw (ne-eqb k 0 (λ z. omega arith), ne-eqb k 1 (λ z. omega arith), lt-leb k 16 (omega arith), lt-leb k 2065 (omega arith), le-leb k 4114 (h refl), q)
+  word-value (suc zero) j k l e h =
+      let q : k - 4115 ≡ j = omega arith in
+      rw (ne-eqb k 0 (λ z. omega arith), ne-eqb k 1 (λ z. omega arith), lt-leb k 16 (omega arith), lt-leb k 2065 (omega arith), lt-leb k 4114 (omega arith), q)
+  word-value (suc (suc b)) j k l e h = absurd (let z : ⊥ = omega arith in z)
 
 -- the process, the peer and the kind of a word; the kind is all that stands above the peer
 module _ (at peer kind w : ℕ) (la : at < 64) (lp : peer < 64) (e : w ≡ at % 64 + 64 * (peer % 64) + 4096 * kind) where

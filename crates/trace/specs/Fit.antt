@@ -17,9 +17,9 @@ eventFault n before (Recv at from) =
     cond (leb n at) 3 (cond (leb n from) 3 (cond (eqb at from) 4 (cond (leb (sendsIn from at before) (recvsIn from at before)) 5 0)))
 eventFault n before (Save at) = cond (leb n at) 3 (cond (leb 30 (savesIn at before)) 6 0)
 
--- "V from 0 to 4294967295"
+-- "`val` now runs to 18446744073709551615" (document 02, item 4)
 abbrev pub valueFits : Event → Bool
-valueFits (Send at to val) = leb val 4294967295
+valueFits (Send at to val) = leb val 18446744073709551615
 valueFits (Recv at from) = true
 valueFits (Save at) = true
 

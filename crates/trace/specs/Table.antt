@@ -4,6 +4,7 @@ use mathlib.Core.List.{map}
 use mathlib.Core.Bool.{cond}
 use lib.ListN.{length, getD}
 use lib.Dec.{leb, eqb}
+use Rattle.words.specs.Halves.{half}
 use Rattle.trace.specs.declared.Event.{Event}
 use Rattle.trace.specs.declared.Event.the-variants.{Send, Recv, Save}
 use Rattle.trace.specs.Trace.{Trace, valueOf}
@@ -32,23 +33,24 @@ topIn w = w / 4096
 abbrev pub kindIn : ℕ → ℕ
 kindIn w = topIn w % 4
 
--- an event's value as a word (a value of a well-formed trace is below 4294967296)
-abbrev pub valueWord : Event → ℕ
-valueWord e = valueOf e % 4294967296
+-- an event's value as two words, its halves (a value of a well-formed trace has 64 bits)
+abbrev pub valueWord : ℕ → Event → ℕ
+valueWord b e = half b (valueOf e)
 
--- the words before event 1: the word of event e is `eventBase + e`, its value `valueBase + e`
+-- the words before event 1: the word of event e is `eventBase + e`, half b of its value `valueBase b + e`
 abbrev pub eventBase : ℕ
 eventBase = 16
 
-abbrev pub valueBase : ℕ
-valueBase = 2065
+abbrev pub valueBase : ℕ → ℕ
+valueBase b = 2065 + 2049 * b
 
--- Word k of the table area: 0 the process count, 1 the event count, then the events' words, then their values; all
--- others 0.
+-- Word k of the table area: 0 the process count, 1 the event count, then the events' words, then the low halves of
+-- their values, then the high ones; all others 0.
 unfoldable pub tableWord : Trace → ℕ → ℕ
 tableWord t k =
     cond (eqb k 0) (t .procs)
     (cond (eqb k 1) (length (t .events))
     (cond (leb k eventBase) 0
-    (cond (leb k valueBase) (getD (map wordOf (t .events)) (k - (eventBase + 1)) 0)
-    (getD (map valueWord (t .events)) (k - (valueBase + 1)) 0))))
+    (cond (leb k (valueBase 0)) (getD (map wordOf (t .events)) (k - (eventBase + 1)) 0)
+    (cond (leb k (valueBase 1)) (getD (map (valueWord 0) (t .events)) (k - (valueBase 0 + 1)) 0)
+    (getD (map (valueWord 1) (t .events)) (k - (valueBase 1 + 1)) 0)))))

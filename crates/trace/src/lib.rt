@@ -7,7 +7,8 @@ ghost use lib.ListN.{length, getD, set};
 ghost use Rattle.trace.specs.declared.Event.the-variants.{Send, Recv, Save};
 ghost use Rattle.trace.specs.Inner.Tally.{faultBy, tallied, Next};
 ghost use mathlib.Core.Path.{_≡_};
-ghost use Rattle.trace.specs.Table.{wordOf, valueWord, topIn, kindIn, processIn, peerIn};
+ghost use Rattle.trace.specs.Trace.{valueOf};
+ghost use Rattle.trace.specs.Table.{wordOf, topIn, kindIn, processIn, peerIn};
 
 // An event of a trace: `ev=send at=A to=B val=V`, `ev=recv at=A from=B`, `ev=save at=A`.
 pub enum Event {
@@ -16,11 +17,13 @@ pub enum Event {
     Save { at: u64 },
 }
 
-// Where the planes of the table area begin: the word of event e, from 1, is at EVENT_BASE + e, its value at VALUE_BASE
-// + e.
+// Where the planes of the table area begin: the word of event e, from 1, is at EVENT_BASE + e, the low half of its value
+// at VALUE_BASE + e, the high half at HIGH_BASE + e.
 pub const EVENT_BASE: usize = 16;
 
 pub const VALUE_BASE: usize = 2065;
+
+pub const HIGH_BASE: usize = 4114;
 
 // The kinds of events: that of an event's word is kind(w). Any other is a checkpoint's, 3 in a word that check 13
 // passes.
@@ -39,12 +42,12 @@ pub fn word(e: Event) -> u32
     }
 }
 
-// The value of an event in the table area: that of the message sent, or 0.
-pub fn value(e: Event) -> u32
-    ensures { λ r. ⌜ r ≡ valueWord e ⌝ }
+// The value of an event: that of the message sent, or 0.
+pub fn value(e: Event) -> u64
+    ensures { λ r. ⌜ r ≡ valueOf e ⌝ }
 {
     match e {
-        Event::Send { at: _, to: _, val } => (val % 4294967296) as u32,
+        Event::Send { at: _, to: _, val } => val,
         Event::Recv { at: _, from: _ } => 0,
         Event::Save { at: _ } => 0,
     }

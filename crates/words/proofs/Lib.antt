@@ -3,3 +3,4 @@ pub mod Area
 pub mod Written
 pub mod Zeros
 pub mod Lists
+pub mod Halves

@@ -1,9 +1,11 @@
 // Lent areas of words: what an area holds is said by a rule for its first words, and later words stay as they were. The
-// definitions are in specs/Area; laws on them, and on cases and lists, in proofs/. No public function has a `requires`.
+// definitions are in specs/: Area, and Halves (a number of 64 bits in two words); laws on them, and on cases and lists, in
+// proofs/. No public function has a `requires`.
 // Assumes nothing.
 ghost use mathlib.Core.Path.{_≡_};
 ghost use lib.ListN.{length, replicate};
 ghost use mathlib.Core.Bool.{cond};
+ghost use Rattle.words.specs.Halves.{half, fromHalves};
 
 // How many words of a lent area are used: an area with fewer is refused, and words past these are never touched.
 pub const AREA_WORDS: usize = 16384;
@@ -38,4 +40,23 @@ pub fn wide(x: u32) -> usize
     ensures { λ r. ⌜ r ≡ x ⌝ }
 {
     x as usize
+}
+
+// The two halves of a number of 64 bits, and the number of two halves.
+pub fn low(v: u64) -> u32
+    ensures { λ r. ⌜ r ≡ half 0 v ⌝ }
+{
+    (v % 4294967296) as u32
+}
+
+pub fn high(v: u64) -> u32
+    ensures { λ r. ⌜ r ≡ half 1 v ⌝ }
+{
+    (v / 4294967296) as u32
+}
+
+pub fn from_halves(low: u32, high: u32) -> u64
+    ensures { λ r. ⌜ r ≡ fromHalves low high ⌝ }
+{
+    low as u64 + 4294967296 * high as u64
 }
