@@ -13,7 +13,7 @@ use Rattle.text.proofs.Keys.{field-1}
 use Rattle.trace.specs.declared.Event.{Event}
 use Rattle.trace.specs.declared.Event.the-variants.{Send, Recv, Save}
 use Rattle.lines.specs.declared.Line.{Line}
-use Rattle.lines.specs.Line.{kProcs, kSend, kTo, kVal, kRecv, kFrom, kSave, kFail, kSet, most, mostSet, thenLine, procsSaid, sendSaid, recvSaid, saveSaid, failSaid, lineSaid}
+use Rattle.lines.specs.Line.{kProcs, kSend, kTo, kVal, kRecv, kFrom, kSave, kFail, kSet, most, mostValue, mostSet, thenLine, procsSaid, sendSaid, recvSaid, saveSaid, failSaid, lineSaid}
 use Rattle.lines.specs.Render.{renderEvent, renderFailure, KeysHold}
 use Rattle.lines.proofs.Field.{Behind, behind-start, split-key, read-field, read-end, rendered-field, rendered-end}
 use Rattle.lines.specs.declared.Line as line
@@ -69,7 +69,7 @@ module _ (l : List ℕ) where
   unfolding sendSaid
   send-says t = begun kSend _ t (λ a p x e s h.
       read-field most refl l (Says l) p kTo x _ s tt (λ b q y f u i.
-      read-field most refl l (Says l) q kVal y _ u tt (λ v r z g w j.
+      read-field mostValue refl l (Says l) q kVal y _ u tt (λ v r z g w j.
       read-end (Says l) l r z (line.the-variants.Send a b v) w tt (λ n. (rw (e, f, g, n, send-text), (h, i, j))))))
 
   recv-says : keyAt l 0 kRecv ≡ true → Says l (recvSaid l)
@@ -127,7 +127,7 @@ event-line (Send a b v) h =
     ap lineSaid (send-text a b v)
     ∙ starts kSend a _ _ _ (h .0) refl (λ p s.
     rendered-field most refl l p kTo b _ _ _ s (h .1) refl (λ q u.
-    rendered-field most refl l q kVal v _ _ _ u (h .2) refl (λ r w. rendered-end l r _ w)))
+    rendered-field mostValue refl l q kVal v _ _ _ u (h .2) refl (λ r w. rendered-end l r _ w)))
 event-line (Recv a b) h =
     let l = kRecv ++ (decimal a ++ (kFrom ++ (decimal b ++ []))) in
     ap lineSaid (recv-text a b)

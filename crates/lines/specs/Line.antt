@@ -40,9 +40,13 @@ kFail = bytesOf "fail="
 abbrev pub kSet : List ℕ
 kSet = bytesOf " set="
 
--- the largest number a key can hold: "4294967295; for `set`, 18446744073709551615"
+-- The largest number a key can hold: "4294967295; for `set`, 18446744073709551615". Document 02, item 4: "`val` now
+-- runs to 18446744073709551615", "a zone, step or count above 4294967295 is still 1".
 abbrev pub most : ℕ
 most = 4294967295
+
+abbrev pub mostValue : ℕ
+mostValue = 18446744073709551615
 
 abbrev pub mostSet : ℕ
 mostSet = 18446744073709551615
@@ -66,7 +70,7 @@ unfoldable pub sendSaid : List ℕ → Line
 sendSaid l =
     thenLine (numberAt l (length kSend) most) (λ a p.
     thenLine (fieldAt l p kTo most) (λ b q.
-    thenLine (fieldAt l q kVal most) (λ v r. whenEnd (eqb r (length l)) (Send a b v))))
+    thenLine (fieldAt l q kVal mostValue) (λ v r. whenEnd (eqb r (length l)) (Send a b v))))
 
 -- `ev=recv at=A from=B`
 unfoldable pub recvSaid : List ℕ → Line

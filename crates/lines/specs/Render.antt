@@ -4,7 +4,7 @@ use mathlib.Core.List.{List, [], _∷_, _++_}
 use Rattle.text.specs.Number.{decimal}
 use Rattle.trace.specs.declared.Event.{Event}
 use Rattle.trace.specs.declared.Event.the-variants.{Send, Recv, Save}
-use Rattle.lines.specs.Line.{kSend, kTo, kVal, kRecv, kFrom, kSave, kFail, kSet, most}
+use Rattle.lines.specs.Line.{kSend, kTo, kVal, kRecv, kFrom, kSave, kFail, kSet, most, mostValue}
 
 -- the line of an event, without its LF
 unfoldable pub renderEvent : Event → List ℕ
@@ -18,6 +18,6 @@ renderFailure step set = kFail ++ decimal step ++ kSet ++ decimal set ++ 10 ∷ 
 
 -- no number of an event is more than "the largest its key can hold"
 abbrev pub KeysHold : Event → Type 0
-KeysHold (Send at to val) = (at ≤ most) × (to ≤ most) × (val ≤ most)
+KeysHold (Send at to val) = (at ≤ most) × (to ≤ most) × (val ≤ mostValue)
 KeysHold (Recv at from) = (at ≤ most) × (from ≤ most)
 KeysHold (Save at) = at ≤ most

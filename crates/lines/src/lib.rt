@@ -18,7 +18,10 @@ pub enum Line {
     Malformed,
 }
 
+// The largest number that each key can hold: of a process, a step or a count; of a value; of a set.
 const MOST: u64 = 4294967295;
+
+const MOST_VALUE: u64 = 18446744073709551615;
 
 const MOST_SET: u64 = 18446744073709551615;
 
@@ -57,7 +60,7 @@ fn send_line(line: &[u8]) -> Line
     if !text::key(line, q, b" val=") {
         return Line::Malformed;
     }
-    let Num::Value(v, r) = text::number(line, q + 5, MOST) else {
+    let Num::Value(v, r) = text::number(line, q + 5, MOST_VALUE) else {
         return Line::Malformed;
     };
     when_end(line, r, Line::Send(a, b, v))

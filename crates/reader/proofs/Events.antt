@@ -16,7 +16,7 @@ use Rattle.trace.specs.Fit.{eventFault, valueFits, allFit}
 use Rattle.lines.specs.declared.Line.{Line}
 use Rattle.reader.specs.declared.Judged.{Judged}
 use Rattle.reader.specs.declared.Judged.the-variants.{Fit, Fails, Unfit}
-use Rattle.lines.specs.Line.{lineSaid, most, mostSet}
+use Rattle.lines.specs.Line.{lineSaid, most, mostValue, mostSet}
 use Rattle.lines.specs.Render.{renderEvent, renderFailure, KeysHold}
 use Rattle.reader.specs.Render.{renderEvents}
 use Rattle.reader.specs.Verdict.{pieces, faultHere, judgeEvent, judge, Scan, afterLine, linesFrom}
@@ -55,7 +55,7 @@ event-told t l e q v =
 judge-told : (t : Trace) (l : List ℕ) (x : Line) → Says l x → Told t l (judge t x)
 unfolding judge
 judge-told t l (line.the-variants.Procs n) s = tt
-judge-told t l (line.the-variants.Send at to val) s = event-told t l (Send at to val) (s .0) (le-leb val most (s .1 .2))
+judge-told t l (line.the-variants.Send at to val) s = event-told t l (Send at to val) (s .0) (le-leb val mostValue (s .1 .2))
 judge-told t l (line.the-variants.Recv at from) s = event-told t l (Recv at from) (s .0) refl
 judge-told t l (line.the-variants.Save at) s = event-told t l (Save at) (s .0) refl
 judge-told t l (line.the-variants.Failure step set) s = s
@@ -162,7 +162,7 @@ lines-heard t k (l ∷ (m ∷ ms)) h p =
 
 -- a fit event's processes are below 64
 fit-small : (n : ℕ) (before : List Event) (e : Event) → n ≤ 64 → eventFault n before e ≡ 0 → valueFits e ≡ true → KeysHold e
-fit-small n before (Send at to val) r z v = let f = send-fit n before at to val z in (omega arith, omega arith, leb-true val most v)
+fit-small n before (Send at to val) r z v = let f = send-fit n before at to val z in (omega arith, omega arith, leb-true val mostValue v)
 fit-small n before (Recv at from) r z v = let f = recv-fit n before at from z in (omega arith, omega arith)
 fit-small n before (Save at) r z v = let f = save-fit n before at z in omega arith
 

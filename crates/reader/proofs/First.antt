@@ -15,7 +15,7 @@ use Rattle.text.specs.Number.{numberAt}
 use Rattle.text.specs.Key.{keyAt, startsWith, fieldAt}
 use Rattle.lines.specs.declared.Line.{Line}
 use Rattle.lines.specs.declared.Line.the-variants.{Procs, Send, Recv, Save, Failure, Malformed}
-use Rattle.lines.specs.Line.{kSend, kTo, kVal, kRecv, kFrom, kSave, kProcs, kFail, kSet, most, mostSet, thenLine, whenEnd, procsSaid, sendSaid, recvSaid, saveSaid, failSaid, lineSaid}
+use Rattle.lines.specs.Line.{kSend, kTo, kVal, kRecv, kFrom, kSave, kProcs, kFail, kSet, most, mostValue, mostSet, thenLine, whenEnd, procsSaid, sendSaid, recvSaid, saveSaid, failSaid, lineSaid}
 use Rattle.reader.specs.Inner.Reading.{countOnly}
 
 -- two keys that differ in their first byte do not stand in the same place
@@ -47,7 +47,7 @@ no-send l =
     (λ a p.
     no-count _
     (λ b q.
-    no-count _ (λ v r. no-end (eqb r (length l)) (Send a b v) (record { is = refl })) (fieldAt l q kVal most))
+    no-count _ (λ v r. no-end (eqb r (length l)) (Send a b v) (record { is = refl })) (fieldAt l q kVal mostValue))
     (fieldAt l p kTo most))
     (numberAt l (length kSend) most)
 

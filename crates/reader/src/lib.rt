@@ -113,7 +113,9 @@ fn append(table: &mut [u32], n: usize, e: Event)
 {
     table[1] = (n + 1) as u32;
     table[trace::EVENT_BASE + (n + 1)] = trace::word(e);
-    table[trace::VALUE_BASE + (n + 1)] = trace::value(e);
+    let value = trace::value(e);
+    table[trace::VALUE_BASE + (n + 1)] = words::low(value);
+    table[trace::HIGH_BASE + (n + 1)] = words::high(value);
 }
 
 // The number of a judged line, 0 where it is fit.

@@ -2,7 +2,7 @@
 use mathlib.Core.Path.{sym, _∙_}
 use borrow.Author.Tests.{not-true, not-false}
 use Rattle.text.proofs.Keys.{field-1, field-2, key-within}
-use Rattle.lines.specs.Line.{kTo, kVal, most, sendSaid}
+use Rattle.lines.specs.Line.{kTo, kVal, most, mostValue, sendSaid}
 use native.Mathlib.Omega.{arith}
 use borrow.Author.Needs.{needs}
 use Rattle.lines.proofs.send_line.Statement.{statement}
@@ -57,7 +57,7 @@ returns-4 c =
     let args = c .before .before .before .before .before .before .before .before .before .before .before .before .before .before .before .args in
     let key2 = c .before .key2 in
     let if2 = c .if2 in
-    rw (sym (number .ensures) ∙ (a .given .1), sym ((number2 .ensures) ∙ field-1 _ _ kTo _ _ (key .ensures) (not-false _ (if1 .left))) ∙ (b .given .1), sym (field-2 (args .line .now) ((b .given .0 .1 .0)) kVal most _ (key2 .ensures) (not-true _ (if2 .taken))))
+    rw (sym (number .ensures) ∙ (a .given .1), sym ((number2 .ensures) ∙ field-1 _ _ kTo _ _ (key .ensures) (not-false _ (if1 .left))) ∙ (b .given .1), sym (field-2 (args .line .now) ((b .given .0 .1 .0)) kVal mostValue _ (key2 .ensures) (not-true _ (if2 .taken))))
 
 add-number-2 : tie.Need-add-number-2
 add-number-2 c =

@@ -48,7 +48,8 @@ pub record Opened (text : List ℕ) (from procs : ℕ) (table counts : List ℕ)
 
 -- the table after event n + 1 is stored
 abbrev pub appended : List ℕ → ℕ → Event → List ℕ
-appended table n e = set (set (set table 1 (n + 1)) (eventBase + (n + 1)) (wordOf e)) (valueBase + (n + 1)) (valueWord e)
+appended table n e =
+    set (set (set (set table 1 (n + 1)) (eventBase + (n + 1)) (wordOf e)) (valueBase 0 + (n + 1)) (valueWord 0 e)) (valueBase 1 + (n + 1)) (valueWord 1 e)
 
 -- the number of a judged line: 0 of a fit event; 1 of a failure line where none is due ("The library's reader takes the
 -- text without a failure line"); else what is wrong
