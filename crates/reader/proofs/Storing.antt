@@ -1,5 +1,5 @@
 -- Laws of the table area: storing an event makes the words those of the trace with that event.
-use Prim.Native.Nat.{ℕ, zero, suc, _+_, _-_, _*_, _<_, _≤_}
+use Prim.Native.Nat.{ℕ, _+_, _-_, _*_, _<_, _≤_}
 use mathlib.Core.Path.{_≡_, refl, sym, ap, _∙_}
 use mathlib.Core.List.{List, [], _∷_, _++_, map}
 use native.Mathlib.Omega.{arith}
@@ -10,6 +10,7 @@ use lib.Seq.{getD-set-same, getD-set-other}
 use borrow.Author.Tests.{ne-eqb, le-leb, lt-leb}
 use Rattle.words.specs.Area.{areaWords}
 use Rattle.words.proofs.Cases.{by-eq, by-lt}
+use Rattle.words.proofs.Halves.{each-half}
 use Rattle.words.proofs.Lists.{last-mapped, other-mapped}
 use Rattle.trace.specs.declared.Event.{Event}
 use Rattle.trace.specs.Trace.{Trace, started, extended}
@@ -78,14 +79,8 @@ module _ (t : Trace) (e : Event) where
             (λ n₂. getD-set-other a (16 + (n + 1)) k (wordOf e) 0 n₂
             ∙ by-eq k 1
             (λ q. rw q (getD-set-same table 1 (n + 1) 0 (omega arith) ∙ sym word-count))
-            (λ n₁. getD-set-other table 1 k (n + 1) 0 n₁ ∙ h .words k lk ∙ sym (word-other k n₁ n₂ (either k (n + 1) n₃ n₄))))));
+            (λ n₁. getD-set-other table 1 k (n + 1) 0 n₁ ∙ h .words k lk ∙ sym (word-other k n₁ n₂ (each-half (λ b. k ≡ 2065 + 2049 * b + (n + 1) → ⊥) n₃ n₄))))));
       }
-    where
-      -- a fact of each half
-      either : (k n : ℕ) → (k ≡ 2065 + n → ⊥) → (k ≡ 4114 + n → ⊥) → (b : ℕ) → b < 2 → k ≡ 2065 + 2049 * b + n → ⊥
-      either k n f g zero l q = f q
-      either k n f g (suc zero) l q = g q
-      either k n f g (suc (suc b)) l q = let z : ⊥ = omega arith in z
 
 all-zero : (a b c d : Bool) → cond {A = ℕ} a 0 (cond b 0 (cond c 0 (cond d 0 0))) ≡ 0
 all-zero true b c d = refl

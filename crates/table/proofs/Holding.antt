@@ -1,5 +1,5 @@
 -- From the words of an area to the trace that it holds, and from a reading to the words: what the claims are made of.
-use Prim.Native.Nat.{ℕ, _+_, _<_, _≤_}
+use Prim.Native.Nat.{ℕ, _+_, _*_, _<_, _≤_}
 use mathlib.Core.Path.{_≡_, refl, sym, ap, _∙_}
 use mathlib.Core.List.{List, [], _++_}
 use mathlib.Core.Bool.{true, false}
@@ -71,7 +71,7 @@ module _ (a : List ℕ) where
         let events : heldEvents a 1 n ≡ t .events =
         events-back p [] a 1 (t .events) (leb-true p 64 (and-left _ _ w₁)) (and-right (leb n 2048) _ w₂)
         (λ j k e l. words (16 + k) (omega arith) ∙ word-event t j (16 + k) (omega arith) (omega arith))
-        (λ j k e l. words (2065 + k) (omega arith) ∙ word-value t j (2065 + k) (omega arith)) in
+        (λ b j k c e l. words (2065 + 2049 * b + k) (omega arith) ∙ word-value t b j (2065 + 2049 * b + k) c (omega arith) (λ z. omega arith)) in
         rw (procs, count, events)
 
   pub held-of : (t : Trace) → 16384 ≤ length a → wellFormed t ≡ true → take 16384 a ≡ wordsFrom (tableWord t) 0 16384 → heldTrace a ≡ some t

@@ -7,7 +7,9 @@ use native.Mathlib.Omega.{arith}
 use lib.Dec.{eqb}
 use lib.ListN.{length, getD, length-map, List·getD-eq-default}
 use borrow.Author.Tests.{leb-true, eqb-true}
+use Rattle.words.specs.Halves.{half, fromHalves}
 use Rattle.words.proofs.Cases.{and-left, and-right}
+use Rattle.words.proofs.Halves.{halves-back}
 use Rattle.trace.specs.declared.Event.{Event}
 use Rattle.trace.specs.declared.Event.the-variants.{Send, Recv, Save}
 use Rattle.trace.specs.Fit.{eventFault, valueFits, allFit}
@@ -38,9 +40,11 @@ module _ (a : List ℕ) where
   unfolding held
   said-event i l h few = word-event (held a) (i - 1) (16 + i) (omega arith) (omega arith) ∙ held-plane wordOf a 1 (getD a 1 0) (i - 1) i (omega arith) (omega arith)
 
-  pub said-value : (i : ℕ) → 1 ≤ i → i ≤ getD a 1 0 → tableWord (held a) (2065 + i) ≡ valueWord (heldEvent a i)
+  pub said-value : (b i : ℕ) → b < 2 → 1 ≤ i → i ≤ getD a 1 0 → i ≤ 2048 → tableWord (held a) (2065 + 2049 * b + i) ≡ valueWord b (heldEvent a i)
   unfolding held
-  said-value i l h = word-value (held a) (i - 1) (2065 + i) (omega arith) ∙ held-plane valueWord a 1 (getD a 1 0) (i - 1) i (omega arith) (omega arith)
+  said-value b i c l h few =
+      word-value (held a) b (i - 1) (2065 + 2049 * b + i) c (omega arith) (λ z. omega arith)
+      ∙ held-plane (valueWord b) a 1 (getD a 1 0) (i - 1) i (omega arith) (omega arith)
 
   pub said-gap : (k : ℕ) → 17 + getD a 1 0 ≤ k → k ≤ 2065 → tableWord (held a) k ≡ 0
   unfolding held
@@ -48,46 +52,48 @@ module _ (a : List ℕ) where
       word-event (held a) (k - 17) k (omega arith) h
       ∙ past wordOf (heldEvents a 1 (getD a 1 0)) (k - 17) (rw (length-held a 1 (getD a 1 0)) (omega arith))
 
-  pub said-tail : (k : ℕ) → 2066 + getD a 1 0 ≤ k → tableWord (held a) k ≡ 0
+  -- after the last event, in a column of halves
+  pub said-past : (b k : ℕ) → b < 2 → 2066 + 2049 * b + getD a 1 0 ≤ k → (b ≡ 0 → k ≤ 4114) → tableWord (held a) k ≡ 0
   unfolding held
-  said-tail k l =
-      word-value (held a) (k - 2066) k (omega arith)
-      ∙ past valueWord (heldEvents a 1 (getD a 1 0)) (k - 2066) (rw (length-held a 1 (getD a 1 0)) (omega arith))
+  said-past b k c l h =
+      let j = k - (2066 + 2049 * b) in
+      word-value (held a) b j k c (omega arith) h
+      ∙ past (valueWord b) (heldEvents a 1 (getD a 1 0)) j (rw (length-held a 1 (getD a 1 0)) (omega arith))
 
 -- a fit event is the one that its words say
-event-back : (n : ℕ) (before : List Event) (e : Event) → n ≤ 64 → eventFault n before e ≡ 0 → valueFits e ≡ true → eventOf (wordOf e) (valueWord e) ≡ e
+event-back : (n : ℕ) (before : List Event) (e : Event) → n ≤ 64 → eventFault n before e ≡ 0 → valueFits e ≡ true
+    → eventOf (wordOf e) (fromHalves (valueWord 0 e) (valueWord 1 e)) ≡ e
 event-back n before (Send at to val) r z v =
     let f = send-fit n before at to val z in
-    let small : val ≤ 4294967295 = leb-true val 4294967295 v in
     let w = at % 64 + 64 * (to % 64) + 4096 in
-    let value : val % 4294967296 ≡ val = omega arith in
-    sym (event-send w (val % 4294967296) (word-top at to 1 w (omega arith) (omega arith) refl))
+    let value = halves-back val (leb-true val 18446744073709551615 v) in
+    sym (event-send w (fromHalves (half 0 val) (half 1 val)) (word-top at to 1 w (omega arith) (omega arith) refl))
     ∙ rw (word-at at to 1 w (omega arith) (omega arith) refl, word-peer at to 1 w (omega arith) (omega arith) refl, value)
 event-back n before (Recv at from) r z v =
     let f = recv-fit n before at from z in
     let w = at % 64 + 64 * (from % 64) + 8192 in
     let kind = word-top at from 2 w (omega arith) (omega arith) refl in
-    sym (event-recv w 0 (λ k. omega arith) kind)
+    sym (event-recv w _ (λ k. omega arith) kind)
     ∙ rw (word-at at from 2 w (omega arith) (omega arith) refl, word-peer at from 2 w (omega arith) (omega arith) refl)
 event-back n before (Save at) r z v =
     let f = save-fit n before at z in
     let w = at % 64 + 12288 in
     let p : processIn w ≡ at = omega arith in
-    sym (event-save w 0 (λ k. omega arith) (λ k. omega arith)) ∙ rw p
+    sym (event-save w _ (λ k. omega arith) (λ k. omega arith)) ∙ rw p
 
 -- fit events are those that an area with their words says
 pub events-back : (n : ℕ) (before : List Event) (a : List ℕ) (i : ℕ) (es : List Event) → n ≤ 64 → allFit n before es ≡ true
     → ((j k : ℕ) → k ≡ i + j → j < length es → getD a (16 + k) 0 ≡ getD (map wordOf es) j 0)
-    → ((j k : ℕ) → k ≡ i + j → j < length es → getD a (2065 + k) 0 ≡ getD (map valueWord es) j 0)
+    → ((b j k : ℕ) → b < 2 → k ≡ i + j → j < length es → getD a (2065 + 2049 * b + k) 0 ≡ getD (map (valueWord b) es) j 0)
     → heldEvents a i (length es) ≡ es
 unfolding heldEvents allFit
 events-back n before a i [] r f words values = refl
 events-back n before a i (e ∷ es) r f words values =
     let fit = eqb-true (eventFault n before e) 0 (and-left _ _ f) in
     let rest = and-right (eqb (eventFault n before e) 0) _ f in
-    let x : eventOf (getD a (16 + i) 0) (getD a (2065 + i) 0) ≡ e =
-    rw (words 0 i (omega arith) (omega arith), values 0 i (omega arith) (omega arith)) (event-back n before e r fit (and-left (valueFits e) _ rest)) in
+    let x : heldEvent a i ≡ e =
+    rw (words 0 i (omega arith) (omega arith), values 0 0 i (omega arith) (omega arith) (omega arith), values 1 0 i (omega arith) (omega arith) (omega arith)) (event-back n before e r fit (and-left (valueFits e) _ rest)) in
     let y : heldEvents a (suc i) (length es) ≡ es =
     events-back n (before ++ e ∷ []) a (suc i) es r (and-right (valueFits e) _ rest)
-    (λ j k q l. words (suc j) k (omega arith) (omega arith)) (λ j k q l. values (suc j) k (omega arith) (omega arith)) in
+    (λ j k q l. words (suc j) k (omega arith) (omega arith)) (λ b j k c q l. values b (suc j) k c (omega arith) (omega arith)) in
     rw (x, y)

@@ -1,6 +1,6 @@
 -- What the code tests is what the definition says: `holdsTrace` and `tested` are one, both by the facts that they
 -- establish.
-use Prim.Native.Nat.{ℕ, zero, suc, _+_, _-_, _<_, _≤_}
+use Prim.Native.Nat.{ℕ, zero, suc, _+_, _-_, _*_, _<_, _≤_}
 use mathlib.Core.Path.{_≡_, refl, sym, _∙_}
 use mathlib.Core.List.{List, [], _∷_, _++_}
 use mathlib.Core.Bool.{true}
@@ -8,19 +8,22 @@ use native.Mathlib.Omega.{arith}
 use lib.Dec.{leb, eqb}
 use lib.ListN.{length, getD}
 use borrow.Author.Tests.{leb-true, le-leb, eqb-true, eq-eqb}
+use Rattle.words.specs.Halves.{half, fromHalves}
+use Rattle.words.proofs.Halves.{each-half, half-lt}
 use Rattle.words.proofs.Cases.{by-bool, by-eq, by-lt, same-bool, and-left, and-right, and-both}
 use Rattle.trace.specs.declared.Event.{Event}
 use Rattle.trace.specs.Fit.{eventFault, valueFits, allFit, wellFormed}
+use Rattle.trace.specs.Trace.{valueOf}
 use Rattle.trace.specs.Table.{wordOf, topIn, valueWord, tableWord}
 use Rattle.table.specs.Held.{eventOf, heldEvent, heldEvents, held, wordsAre, holdsTrace}
-use Rattle.table.specs.Inner.Tested.{zerosFrom, fitFrom, wordsTested, tested}
+use Rattle.table.specs.Inner.Tested.{zerosFrom, halvesAre, fitFrom, wordsTested, tested}
 use Rattle.trace.proofs.Places.{word-procs, word-count, word-head}
-use Rattle.table.proofs.Places.{length-held, said-event, said-value, said-gap, said-tail}
+use Rattle.table.proofs.Places.{length-held, said-event, said-value, said-gap, said-past}
 
 -- the words of event number i are those of the event that they say
 pub record Said (a : List ℕ) (i : ℕ) : Type 0 where
   pub word : wordOf (heldEvent a i) ≡ getD a (16 + i) 0
-  pub value : valueWord (heldEvent a i) ≡ getD a (2065 + i) 0
+  pub value : (b : ℕ) → b < 2 → valueWord b (heldEvent a i) ≡ getD a (2065 + 2049 * b + i) 0
 
 -- what an area has that holds a trace of n events
 pub record Facts (a : List ℕ) (n : ℕ) : Type 0 where
@@ -32,7 +35,7 @@ pub record Facts (a : List ℕ) (n : ℕ) : Type 0 where
   pub fit : allFit (getD a 0 0) [] (heldEvents a 1 n) ≡ true
   pub said : (i : ℕ) → 1 ≤ i → i < 1 + n → Said a i
   pub gap : (k : ℕ) → 17 + n ≤ k → k < 2066 → getD a k 0 ≡ 0
-  pub tail : (k : ℕ) → 2066 + n ≤ k → k < 16384 → getD a k 0 ≡ 0
+  pub past : (b k : ℕ) → b < 2 → 2066 + 2049 * b + n ≤ k → (b ≡ 0 → k < 4115) → k < 16384 → getD a k 0 ≡ 0
 
 -- ---- single tests
 
@@ -65,13 +68,26 @@ module _ (a : List ℕ) where
   each-zeros i zero h = refl
   each-zeros i (suc n) h = and-both _ _ (eq-eqb _ _ (h i (omega arith) (omega arith))) (each-zeros (suc i) n (λ k l m. h k (omega arith) (omega arith)))
 
--- an event read with its value has one that fits
-value-fits : (w v : ℕ) → valueWord (eventOf w v) ≡ v → valueFits (eventOf w v) ≡ true
+-- an event read with a value of 64 bits has one that fits
+value-fits : (w v : ℕ) → v ≤ 18446744073709551615 → valueFits (eventOf w v) ≡ true
 unfolding eventOf
-value-fits w v =
+value-fits w v h =
     by-bool (eqb (topIn w) 1)
-    (λ e. rw e (λ h. le-leb v 4294967295 (omega arith)))
-    (λ e. by-bool (eqb (topIn w) 2) (λ f. rw (e, f) (λ h. refl)) (λ f. rw (e, f) (λ h. refl)))
+    (λ e. rw e (le-leb v 18446744073709551615 h))
+    (λ e. by-bool (eqb (topIn w) 2) (λ f. rw (e, f)) (λ f. rw (e, f)))
+
+-- halves that were tested: each is that of the value, and they are words
+module _ (v low high : ℕ) where
+  halves-each : halvesAre v low high ≡ true → (half 0 v ≡ low) × (half 1 v ≡ high)
+  unfolding halvesAre
+  halves-each h = (eqb-true _ _ (and-left _ _ h), eqb-true _ _ (and-right (eqb (half 0 v) low) _ h))
+
+  each-halves : half 0 v ≡ low → half 1 v ≡ high → halvesAre v low high ≡ true
+  unfolding halvesAre
+  each-halves e f = and-both _ _ (eq-eqb _ _ e) (eq-eqb _ _ f)
+
+  halves-few : half 0 v ≡ low → half 1 v ≡ high → fromHalves low high ≤ 18446744073709551615
+  halves-few e f = omega (arith, half-lt 0 v, half-lt 1 v)
 
 module _ (p : ℕ) (a : List ℕ) where
   fits-each : (before : List Event) (i n : ℕ) → fitFrom p before a i n ≡ true
@@ -82,11 +98,16 @@ module _ (p : ℕ) (a : List ℕ) where
       let e = heldEvent a i in
       let word = eqb-true (wordOf e) (getD a (16 + i) 0) (and-left _ _ h) in
       let h₂ = and-right (eqb (wordOf e) (getD a (16 + i) 0)) _ h in
-      let value = eqb-true (valueWord e) (getD a (2065 + i) 0) (and-left _ _ h₂) in
-      let h₃ = and-right (eqb (valueWord e) (getD a (2065 + i) 0)) _ h₂ in
+      let low = getD a (2065 + i) 0 in
+      let high = getD a (4114 + i) 0 in
+      let halves = halves-each (valueOf e) low high (and-left _ _ h₂) in
+      let few = halves-few (valueOf e) low high (halves .0) (halves .1) in
+      let h₃ = and-right (halvesAre (valueOf e) low high) _ h₂ in
       let rest = fits-each (before ++ e ∷ []) (suc i) n (and-right (eqb (eventFault p before e) 0) _ h₃) in (
-        and-both _ _ (and-left (eqb (eventFault p before e) 0) _ h₃) (and-both _ _ (value-fits (getD a (16 + i) 0) (getD a (2065 + i) 0) value) (rest .0)),
-        λ k l m. by-eq k i (λ q. rw q (record { word = word; value = value })) (λ d. rest .1 k (omega arith) (omega arith)),
+        and-both _ _ (and-left (eqb (eventFault p before e) 0) _ h₃) (and-both _ _ (value-fits (getD a (16 + i) 0) (fromHalves low high) few) (rest .0)),
+        λ k l m. by-eq k i
+            (λ q. rw q (record { word = word; value = each-half (λ b. valueWord b e ≡ getD a (2065 + 2049 * b + i) 0) (halves .0) (halves .1) }))
+            (λ d. rest .1 k (omega arith) (omega arith)),
       )
 
   each-fits : (before : List Event) (i n : ℕ) → allFit p before (heldEvents a i n) ≡ true → ((k : ℕ) → i ≤ k → k < i + n → Said a k)
@@ -97,7 +118,7 @@ module _ (p : ℕ) (a : List ℕ) where
       let e = heldEvent a i in
       let here = s i (omega arith) (omega arith) in
       let rest = and-right (valueFits e) _ (and-right (eqb (eventFault p before e) 0) _ h) in
-      and-both _ _ (eq-eqb _ _ (here .word)) (and-both _ _ (eq-eqb _ _ (here .value)) (and-both _ _ (and-left (eqb (eventFault p before e) 0) _ h)
+      and-both _ _ (eq-eqb _ _ (here .word)) (and-both _ _ (each-halves _ _ _ (here .value 0 (omega arith)) (here .value 1 (omega arith))) (and-both _ _ (and-left (eqb (eventFault p before e) 0) _ h)
       (each-fits (before ++ e ∷ []) (suc i) n rest (λ k l m. s k (omega arith) (omega arith)))))
 
 -- ---- the code's tests
@@ -116,6 +137,7 @@ module _ (a : List ℕ) where
       let h₅ = and-right (zerosFrom a 2 15) _ h₄ in
       let h₆ = and-right (fitFrom p [] a 1 n) _ h₅ in
       let h₇ = and-right (zerosFrom a (17 + n) (2066 - (17 + n))) _ h₆ in
+      let h₈ = and-right (zerosFrom a (2066 + n) (4115 - (2066 + n))) _ h₇ in
       let events = fits-each p a [] 1 n (and-left _ _ h₅) in
       record {
         size = leb-true 16384 (length a) (and-left _ _ h);
@@ -126,7 +148,9 @@ module _ (a : List ℕ) where
         fit = events .0;
         said = events .1;
         gap = λ k l m. zeros-each a (17 + n) (2066 - (17 + n)) (and-left _ _ h₆) k l (omega arith);
-        tail = λ k l m. zeros-each a (2066 + n) (16384 - (2066 + n)) h₇ k l (omega arith);
+        past = λ b k c l m s. each-half (λ b. 2066 + 2049 * b + n ≤ k → (b ≡ 0 → k < 4115) → getD a k 0 ≡ 0)
+            (λ l m. zeros-each a (2066 + n) (4115 - (2066 + n)) (and-left _ _ h₇) k l (let g = m refl in omega arith))
+            (λ l m. zeros-each a (4115 + n) (16384 - (4115 + n)) h₈ k l (omega arith)) b c l m;
       }
 
   facts-tested : Facts a (getD a 1 0) → tested a ≡ true
@@ -141,7 +165,8 @@ module _ (a : List ℕ) where
       (and-both _ _ (each-zeros a 2 15 (λ k l m. f .head k l m))
       (and-both _ _ (each-fits p a [] 1 n (f .fit) (f .said))
       (and-both _ _ (each-zeros a (17 + n) (2066 - (17 + n)) (λ k l m. f .gap k l (let g = f .few in omega arith)))
-      (each-zeros a (2066 + n) (16384 - (2066 + n)) (λ k l m. f .tail k l (let g = f .few in omega arith)))))))))
+      (and-both _ _ (each-zeros a (2066 + n) (4115 - (2066 + n)) (λ k l m. f .past 0 k (omega arith) l (λ z. let g = f .few in omega arith) (let g = f .few in omega arith)))
+      (each-zeros a (4115 + n) (16384 - (4115 + n)) (λ k l m. f .past 1 k (omega arith) l (λ z. absurd (let y : ⊥ = omega arith in y)) (let g = f .few in omega arith))))))))))
 
   -- ---- the definition
 
@@ -166,10 +191,10 @@ module _ (a : List ℕ) where
         fit = and-right (leb (length es) 2048) _ w₂;
         said = λ i l m. record {
           word = sym (words (16 + i) (omega arith) ∙ said-event a i l (omega arith) (omega arith));
-          value = sym (words (2065 + i) (omega arith) ∙ said-value a i l (omega arith));
+          value = λ b c. sym (words (2065 + 2049 * b + i) (omega arith) ∙ said-value a b i c l (omega arith) (omega arith));
         };
         gap = λ k l m. words k (omega arith) ∙ said-gap a k l (omega arith);
-        tail = λ k l m. words k m ∙ said-tail a k l;
+        past = λ b k c l m s. words k s ∙ said-past a b k c l (λ z. let y = m z in omega arith);
       }
 
   -- each word is that of the trace
@@ -183,14 +208,21 @@ module _ (a : List ℕ) where
       by-lt k 17 (λ h. f .head k (omega arith) h ∙ sym (word-head (held a) k (omega arith) (omega arith))) (λ h₁.
       by-lt k (17 + n) (λ h. in-events k (k - 16) (omega arith) (omega arith) (omega arith)) (λ h₂.
       by-lt k 2066 (λ h. f .gap k h₂ h ∙ sym (said-gap a k h₂ (omega arith))) (λ h₃.
-      by-lt k (2066 + n) (λ h. in-values k (k - 2065) (omega arith) (omega arith) (omega arith)) (λ h₄.
-      f .tail k h₄ l ∙ sym (said-tail a k h₄)))))))
+      by-lt k 4115
+      (λ h. in-values 0 k (omega arith) h₃ (λ z. h) l)
+      (λ h. in-values 1 k (omega arith) h (λ z. absurd (let y : ⊥ = omega arith in y)) l))))))
     where
       in-events : (k i : ℕ) → k ≡ 16 + i → 1 ≤ i → i < 1 + getD a 1 0 → getD a k 0 ≡ tableWord (held a) k
       in-events k i e l m = let few = f .few in rw e (sym (f .said i l m .word) ∙ sym (said-event a i l (omega arith) (omega arith)))
 
-      in-values : (k i : ℕ) → k ≡ 2065 + i → 1 ≤ i → i < 1 + getD a 1 0 → getD a k 0 ≡ tableWord (held a) k
-      in-values k i e l m = rw e (sym (f .said i l m .value) ∙ sym (said-value a i l (omega arith)))
+      in-value : (b k i : ℕ) → b < 2 → k ≡ 2065 + 2049 * b + i → 1 ≤ i → i < 1 + getD a 1 0 → getD a k 0 ≡ tableWord (held a) k
+      in-value b k i c e l m = let few = f .few in rw e (sym (f .said i l m .value b c) ∙ sym (said-value a b i c l (omega arith) (omega arith)))
+
+      -- a column of halves, up to the last event and after it
+      in-values : (b k : ℕ) → b < 2 → 2066 + 2049 * b ≤ k → (b ≡ 0 → k < 4115) → k < 16384 → getD a k 0 ≡ tableWord (held a) k
+      in-values b k c l m s = by-lt k (2066 + 2049 * b + getD a 1 0)
+          (λ h. in-value b k (k - (2065 + 2049 * b)) c (omega arith) (omega arith) (omega arith))
+          (λ h. f .past b k c h m s ∙ sym (said-past a b k c h (λ z. let y = m z in omega arith)))
 
   pub facts-holds : Facts a (getD a 1 0) → holdsTrace a ≡ true
   unfolding holdsTrace wellFormed held

@@ -9,15 +9,17 @@ use lib.ListN.{length, getD}
 use lib.Bits.{bitOr, or-add-and, or-zero-l, and-le-l, and-le-r}
 use lib.Dec.{eqb}
 use borrow.Author.Tests.{le-leb, lt-leb, eq-eqb, ne-eqb, eqb-true}
+use Rattle.words.specs.Halves.{half, fromHalves}
 use Rattle.words.proofs.Cases.{by-eq, and-right}
 use Rattle.trace.specs.declared.Event.{Event}
 use Rattle.trace.specs.declared.Event.the-variants.{Send, Recv, Save}
 use Rattle.trace.specs.Fit.{eventFault}
 use Rattle.trace.specs.Inner.Tally.{Tally, faultBy}
 use Rattle.trace.proofs.Faults.{fault-counted}
-use Rattle.trace.specs.Table.{wordOf, topIn, processIn, peerIn, valueWord}
-use Rattle.table.specs.Held.{eventOf, heldEvent}
-use Rattle.table.specs.Inner.Tested.{zerosFrom, wordFits, fitFrom, wordsTested, tested}
+use Rattle.trace.specs.Trace.{valueOf}
+use Rattle.trace.specs.Table.{wordOf, topIn, processIn, peerIn}
+use Rattle.table.specs.Held.{eventOf, heldValue, heldEvent}
+use Rattle.table.specs.Inner.Tested.{zerosFrom, wordFits, halvesAre, fitFrom, wordsTested, tested}
 
 -- each way out of `event`
 module _ (w v : ℕ) where
@@ -58,13 +60,12 @@ module _ (a : List ℕ) (any i to : ℕ) where
 
 -- each way out of `word_fits`, by the kind of the word
 module _ (p : ℕ) (counts : List ℕ) (w v : ℕ) where
-  module _ (send : topIn w ≡ 1) (few : v < 4294967296) where
+  module _ (send : topIn w ≡ 1) where
     pub fits-send : (r : Bool) → r ≡ eqb (faultBy p counts (Send (processIn w) (peerIn w) v)) 0 → r ≡ wordFits p counts w v
     unfolding wordFits
     fits-send r e =
         let word : w % 64 % 64 + 64 * (w / 64 % 64 % 64) + 4096 ≡ w = omega arith in
-        let value : v % 4294967296 ≡ v = omega arith in
-        rw (← event-send w v send, eq-eqb _ _ word, eq-eqb _ _ value) e
+        rw (← event-send w v send, eq-eqb _ _ word, eq-eqb v v refl) e
 
   module _ (no-send : topIn w ≡ 1 → ⊥) where
     pub fits-value : (v ≡ 0 → ⊥) → false ≡ wordFits p counts w v
@@ -96,8 +97,34 @@ module _ (p : ℕ) (counts : List ℕ) (w v : ℕ) where
 pub fits-fault : (p : ℕ) (counts : List ℕ) (w v : ℕ) → wordFits p counts w v ≡ true → faultBy p counts (eventOf w v) ≡ 0
 unfolding wordFits
 fits-fault p counts w v h =
-    let b = and-right (eqb (wordOf (eventOf w v)) w) (eqb (valueWord (eventOf w v)) v && eqb (faultBy p counts (eventOf w v)) 0) h in
-    eqb-true _ 0 (and-right (eqb (valueWord (eventOf w v)) v) (eqb (faultBy p counts (eventOf w v)) 0) b)
+    let b = and-right (eqb (wordOf (eventOf w v)) w) (eqb (valueOf (eventOf w v)) v && eqb (faultBy p counts (eventOf w v)) 0) h in
+    eqb-true _ 0 (and-right (eqb (valueOf (eventOf w v)) v) (eqb (faultBy p counts (eventOf w v)) 0) b)
+
+-- Words that are the halves of their number v: those of the event that is read with v are these exactly if its value is
+-- v, which is the value of a send; any other event has the value 0.
+module _ (low high : ℕ) (is-low : half 0 (fromHalves low high) ≡ low) (is-high : half 1 (fromHalves low high) ≡ high) where
+  abbrev v : ℕ
+  v = fromHalves low high
+
+  own-halves : halvesAre v low high ≡ eqb v v
+  unfolding halvesAre
+  own-halves = rw (eq-eqb _ _ is-low, eq-eqb _ _ is-high, eq-eqb v v refl)
+
+  no-halves : halvesAre 0 low high ≡ eqb 0 v
+  unfolding halvesAre half
+  no-halves = by-eq low 0
+      (λ e. by-eq high 0
+      (λ f. rw (eq-eqb 0 low (sym e), eq-eqb 0 high (sym f), eq-eqb 0 v (omega arith)))
+      (λ n. rw (ne-eqb 0 high (λ q. n (sym q)), and-false, ne-eqb 0 v (λ q. n (omega arith)))))
+      (λ n. rw (ne-eqb 0 low (λ q. n (sym q)), ne-eqb 0 v (λ q. n (omega arith))))
+
+  halves-event : (w : ℕ) → halvesAre (valueOf (eventOf w v)) low high ≡ eqb (valueOf (eventOf w v)) v
+  unfolding eventOf
+  halves-event w = by-eq (topIn w) 1
+      (λ e. rw (eq-eqb (topIn w) 1 e) own-halves)
+      (λ n. by-eq (topIn w) 2
+      (λ e. rw (ne-eqb (topIn w) 1 n, eq-eqb (topIn w) 2 e) no-halves)
+      (λ m. rw (ne-eqb (topIn w) 1 n, ne-eqb (topIn w) 2 m) no-halves))
 
 and-four : (a b c d : Bool) → a && (b && (c && d)) ≡ (a && (b && c)) && d
 and-four true true c d = refl
@@ -110,15 +137,15 @@ module _ (p : ℕ) (es : List Event) (a : List ℕ) (i n : ℕ) where
   unfolding fitFrom
   events-end h = let q : n + 1 - i ≡ 0 = omega arith in rw q
 
-  module _ (l : i ≤ n) (small : p ≤ 64) (counts : List ℕ) (t : Tally counts es) where
+  module _ (l : i ≤ n) (small : p ≤ 64) (counts : List ℕ) (t : Tally counts es) (low : half 0 (heldValue a i) ≡ getD a (2065 + i) 0) (high : half 1 (heldValue a i) ≡ getD a (4114 + i) 0) where
     pub events-turn : fitFrom p es a i (n + 1 - i)
-        ≡ (wordFits p counts (getD a (16 + i) 0) (getD a (2065 + i) 0) && fitFrom p (es ++ heldEvent a i ∷ []) a (i + 1) (n + 1 - (i + 1)))
+        ≡ (wordFits p counts (getD a (16 + i) 0) (heldValue a i) && fitFrom p (es ++ heldEvent a i ∷ []) a (i + 1) (n + 1 - (i + 1)))
     unfolding fitFrom wordFits
     events-turn =
         let q : n + 1 - i ≡ suc (n - i) = omega arith in
         let r : n + 1 - (i + 1) ≡ n - i = omega arith in
-        rw (q, r, add-one i, fault-counted p small counts es t (heldEvent a i))
-        (and-four (eqb (wordOf (heldEvent a i)) (getD a (16 + i) 0)) (eqb (valueWord (heldEvent a i)) (getD a (2065 + i) 0)) (eqb (eventFault p es (heldEvent a i)) 0)
+        rw (q, r, add-one i, fault-counted p small counts es t (heldEvent a i), halves-event (getD a (2065 + i) 0) (getD a (4114 + i) 0) low high (getD a (16 + i) 0))
+        (and-four (eqb (wordOf (heldEvent a i)) (getD a (16 + i) 0)) (eqb (valueOf (heldEvent a i)) (heldValue a i)) (eqb (eventFault p es (heldEvent a i)) 0)
         (fitFrom p (es ++ heldEvent a i ∷ []) a (suc i) (n - i)))
 
 -- each way out of `words_fit`, for p processes and n events: what each test said, and what it stands for
@@ -142,9 +169,14 @@ module _ (a : List ℕ) (n : ℕ) where
         unfolding wordsTested
         words-gap h = rw (le-leb n 2048 few, ← is-head, zeros, ← is-p, ← is-events, fit, ← is-gap, h)
 
-        pub words-tail : gap ≡ true → (tail : Bool) → tail ≡ zerosFrom a (2066 + n) (16384 - (2066 + n)) → tail ≡ wordsTested a n
-        unfolding wordsTested
-        words-tail h tail is-tail = rw (le-leb n 2048 few, ← is-head, zeros, ← is-p, ← is-events, fit, ← is-gap, h, ← is-tail)
+        module _ (no-gap : gap ≡ true) (past : Bool) (is-past : past ≡ zerosFrom a (2066 + n) (4115 - (2066 + n))) where
+          pub words-past : past ≡ false → false ≡ wordsTested a n
+          unfolding wordsTested
+          words-past h = rw (le-leb n 2048 few, ← is-head, zeros, ← is-p, ← is-events, fit, ← is-gap, no-gap, ← is-past, h)
+
+          pub words-tail : past ≡ true → (tail : Bool) → tail ≡ zerosFrom a (4115 + n) (16384 - (4115 + n)) → tail ≡ wordsTested a n
+          unfolding wordsTested
+          words-tail h tail is-tail = rw (le-leb n 2048 few, ← is-head, zeros, ← is-p, ← is-events, fit, ← is-gap, no-gap, ← is-past, h, ← is-tail)
 
 -- each way out of `holds_trace`
 module _ (a : List ℕ) where

@@ -6,6 +6,7 @@ use mathlib.Core.Bool.{Bool, true, _&&_, cond}
 use lib.ListN.{length, getD}
 use lib.Dec.{leb, eqb}
 use Rattle.words.specs.Area.{areaWords}
+use Rattle.words.specs.Halves.{fromHalves}
 use Rattle.trace.specs.declared.Event.{Event}
 use Rattle.trace.specs.declared.Event.the-variants.{Send, Recv, Save}
 use Rattle.trace.specs.Trace.{Trace}
@@ -20,9 +21,12 @@ eventOf w v =
     (cond (eqb (topIn w) 2) (Recv (processIn w) (peerIn w))
     (Save (processIn w)))
 
--- event number i of an area
+-- event number i of an area, and its value, the one whose halves stand there
+abbrev pub heldValue : List ℕ → ℕ → ℕ
+heldValue a i = fromHalves (getD a (valueBase 0 + i) 0) (getD a (valueBase 1 + i) 0)
+
 abbrev pub heldEvent : List ℕ → ℕ → Event
-heldEvent a i = eventOf (getD a (eventBase + i) 0) (getD a (valueBase + i) 0)
+heldEvent a i = eventOf (getD a (eventBase + i) 0) (heldValue a i)
 
 -- n events of an area, from event number i on
 unfoldable pub heldEvents : List ℕ → ℕ → ℕ → List Event

@@ -14,11 +14,12 @@ ghost use Rattle.table.specs.Inner.Tested.{Room, zerosFrom, wordFits, fi
 ghost use Rattle.trace.specs.Inner.Tally.{faultBy, tallied};
 use trace::EVENT_BASE;
 use trace::Event;
+use trace::HIGH_BASE;
 use trace::VALUE_BASE;
 use words::AREA_WORDS;
 
 // The event that a word and a value of the table area say.
-pub fn event(word: u32, value: u32) -> Event
+pub fn event(word: u32, value: u64) -> Event
     ensures { λ r. ⌜ r ≡ eventOf word value ⌝ }
 {
     let kind = trace::top(word);
@@ -28,7 +29,7 @@ pub fn event(word: u32, value: u32) -> Event
         return Event::Send {
             at: at,
             to: peer,
-            val: value as u64,
+            val: value,
         };
     }
     if kind == 2 {
@@ -70,7 +71,7 @@ const CHECKPOINT_WORD: u32 = 192;
 
 // Whether a word and a value are those of an event that is fit after those that were counted; then counts it. One test
 // for each kind of word, so that the event's kind is asked once.
-fn word_fits(counts: &mut [u16], procs: u64, w: u32, v: u32) -> bool
+fn word_fits(counts: &mut [u16], procs: u64, w: u32, v: u64) -> bool
     requires { ⌜ Room procs (now counts) ⌝ }
     ensures answer { λ r. ⌜ r ≡ wordFits procs (now (counts .entry)) w v ⌝ }
     ensures counters { λ r. ⌜ (r ≡ true → now (counts .exit) ≡ tallied (now (counts .entry)) (eventOf w v)) ⌝ }
@@ -85,7 +86,7 @@ fn word_fits(counts: &mut [u16], procs: u64, w: u32, v: u32) -> bool
             Event::Send {
                 at: at,
                 to: peer,
-                val: v as u64,
+                val: v,
             },
         );
     }
@@ -113,7 +114,7 @@ fn events_fit(area: &[u32], procs: u64, n: usize) -> bool
             &mut counts,
             procs,
             area[EVENT_BASE + i],
-            area[VALUE_BASE + i],
+            words::from_halves(area[VALUE_BASE + i], area[HIGH_BASE + i]),
         ) {
             return false;
         }
@@ -122,7 +123,7 @@ fn events_fit(area: &[u32], procs: u64, n: usize) -> bool
     true
 }
 
-// Whether the words after the process count are those of n events: theirs in both columns, and 0 in every other place.
+// Whether the words after the process count are those of n events: theirs in each column, and 0 in every other place.
 fn words_fit(area: &[u32], procs: u64, n: usize) -> bool
     requires { ⌜ (procs ≡ getD (now area) 0 0) × (procs ≤ 64) × (areaWords ≤ length (now area)) ⌝ }
     ensures { λ r. ⌜ r ≡ wordsTested (now (area .entry)) n ⌝ }
@@ -139,7 +140,10 @@ fn words_fit(area: &[u32], procs: u64, n: usize) -> bool
     if !zeros(area, EVENT_BASE + 1 + n, VALUE_BASE + 1) {
         return false;
     }
-    zeros(area, VALUE_BASE + 1 + n, AREA_WORDS)
+    if !zeros(area, VALUE_BASE + 1 + n, HIGH_BASE + 1) {
+        return false;
+    }
+    zeros(area, HIGH_BASE + 1 + n, AREA_WORDS)
 }
 
 // Whether the first 16,384 words of an area are what reading some accepted trace leaves there.

@@ -56,7 +56,8 @@ pub fn high(v: u64) -> u32
 }
 
 pub fn from_halves(low: u32, high: u32) -> u64
-    ensures { λ r. ⌜ r ≡ fromHalves low high ⌝ }
+    ensures number { λ r. ⌜ r ≡ fromHalves low high ⌝ }
+    ensures halves { λ r. ⌜ (half 0 r ≡ low) × (half 1 r ≡ high) ⌝ }
 {
     low as u64 + 4294967296 * high as u64
 }

@@ -41,56 +41,63 @@ loop-holds c =
 slice-aggregate-word-fits : tie.Need-slice-aggregate-word-fits Inv-loop μ-loop
 slice-aggregate-word-fits c =
     let loop = c .before .before .loop in
-    sym (loop .inv .tally .size)
+    sym ((loop .inv) .tally .size)
 
 word-fits-requires : tie.Need-word-fits-requires Inv-loop μ-loop
 word-fits-requires c κs =
-    let pre = c .before .before .before .before .before .before .pre in
-    let loop = c .before .before .before .before .loop in
-    let loop-test = c .before .before .before .loop-test in
+    let pre = c .before .before .before .before .before .before .before .before .pre in
+    let loop = c .before .before .before .before .before .before .loop in
+    let loop-test = c .before .before .before .before .before .loop-test in
     record {
-      procs-most = pre .0;
-      events = loop .inv .events;
-      events-few = omega (arith, pre, loop .inv .count, (loop-test .taken));
-      tally = loop .inv .tally;
+      procs-most = (pre .0);
+      events = (loop .inv) .events;
+      events-few = omega (arith, pre, (loop .inv) .count, (loop-test .taken));
+      tally = (loop .inv) .tally;
     }
 
 returns : tie.Need-returns Inv-loop μ-loop
 returns c =
+    let from-halves = c .before .before .before .from-halves in
     let word-fits = c .before .before .word-fits in
     let if1 = c .if1 in
-    let args = c .before .before .before .before .before .before .before .before .before .args in
-    let loop = c .before .before .before .before .before .before .before .loop in
-    let loop-test = c .before .before .before .before .before .before .loop-test in
-    let pre = c .before .before .before .before .before .before .before .before .before .pre in
-    sym (rw (← (word-fits .ensures .0), not-true (word-fits .result) (if1 .taken)) at (events-turn (args .procs) (loop .inv .events) (args .area .now) (loop .i) (args .n) (loop-test .taken) (pre .0) (loop .counts) (loop .inv .tally))) ∙ (loop .inv .rest)
+    let args = c .before .before .before .before .before .before .before .before .before .before .before .args in
+    let loop = c .before .before .before .before .before .before .before .before .before .loop in
+    let loop-test = c .before .before .before .before .before .before .before .before .loop-test in
+    let pre = c .before .before .before .before .before .before .before .before .before .before .before .pre in
+    let halves = rw (from-halves .ensures .0) at (from-halves .ensures .1) in
+    let fits = rw (from-halves .ensures .0) at (word-fits .ensures .0) in
+    sym (rw (← fits, not-true (word-fits .result) (if1 .taken)) at (events-turn (args .procs) ((loop .inv) .events) ((args .area) .now) (loop .i) (args .n) (loop-test .taken) (pre .0) (loop .counts) ((loop .inv) .tally) (halves .0) (halves .1))) ∙ (loop .inv) .rest
 
 loop-again : tie.Need-loop-again Inv-loop μ-loop
 loop-again c =
     let if1 = c .if1 in
+    let from-halves = c .before .before .before .from-halves in
     let word-fits = c .before .before .word-fits in
-    let args = c .before .before .before .before .before .before .before .before .before .args in
-    let loop = c .before .before .before .before .before .before .before .loop in
-    let pre = c .before .before .before .before .before .before .before .before .before .pre in
-    let loop-test = c .before .before .before .before .before .before .loop-test in
+    let args = c .before .before .before .before .before .before .before .before .before .before .before .args in
+    let loop = c .before .before .before .before .before .before .before .before .before .loop in
+    let pre = c .before .before .before .before .before .before .before .before .before .before .before .pre in
+    let loop-test = c .before .before .before .before .before .before .before .before .loop-test in
     let y = not-false _ (if1 .left) in
-    let w = sym (word-fits .ensures .0) ∙ y in
-    let f : eventFault (args .procs) (loop .inv .events) (heldEvent (args .area .now) (loop .i)) ≡ 0 = sym (fault-counted (args .procs) (pre .0) _ (loop .inv .events) (loop .inv .tally) _) ∙ fits-fault _ _ _ _ w in
+    let halves = rw (from-halves .ensures .0) at (from-halves .ensures .1) in
+    let fits = rw (from-halves .ensures .0) at (word-fits .ensures .0) in
+    let counts = rw (from-halves .ensures .0) at (word-fits .ensures .1) in
+    let w = sym fits ∙ y in
+    let f : eventFault (args .procs) ((loop .inv) .events) (heldEvent ((args .area) .now) (loop .i)) ≡ 0 = sym (fault-counted (args .procs) (pre .0) _ ((loop .inv) .events) ((loop .inv) .tally) _) ∙ fits-fault _ _ _ _ w in
     record {
-      events = loop .inv .events ++ heldEvent (args .area .now) (loop .i) ∷ [];
-      count = rw (length-append, loop .inv .count);
+      events = (loop .inv) .events ++ heldEvent ((args .area) .now) (loop .i) ∷ [];
+      count = rw (length-append, (loop .inv) .count);
       within = omega arith;
-      tally = rw ((word-fits .ensures .1) y) (next-tally (args .procs) (loop .inv .events) _ (pre .0) (loop .inv .tally) _ f);
-      rest = sym (rw w at (events-turn (args .procs) (loop .inv .events) (args .area .now) (loop .i) (args .n) (loop-test .taken) (pre .0) (loop .counts) (loop .inv .tally))) ∙ loop .inv .rest;
+      tally = rw (counts y) (next-tally (args .procs) ((loop .inv) .events) _ (pre .0) ((loop .inv) .tally) _ f);
+      rest = sym (rw w at (events-turn (args .procs) ((loop .inv) .events) ((args .area) .now) (loop .i) (args .n) (loop-test .taken) (pre .0) (loop .counts) ((loop .inv) .tally) (halves .0) (halves .1))) ∙ (loop .inv) .rest;
     }
 
 returns-2 : tie.Need-returns-2 Inv-loop μ-loop
 returns-2 c =
     let loop-test = c .loop-test in
     let loop = c .before .loop in
-    sym (events-end _ _ _ _ _ (loop-test .left)) ∙ (loop .inv .rest)
+    sym (events-end _ _ _ _ _ (loop-test .left)) ∙ (loop .inv) .rest
 
 pub events-fit-spec : {M : Type 1} → statement M
 events-fit-spec =
     tie.close
-    (tie.spec Inv-loop μ-loop loop-holds slice-aggregate-word-fits (λ c. search needs) (λ c. search needs) (λ c. search needs) (λ c. search needs) (λ c. search needs) (λ c. search needs) word-fits-requires returns (λ c. search needs) (λ c. search needs) loop-again returns-2)
+    (tie.spec Inv-loop μ-loop loop-holds slice-aggregate-word-fits (λ c. search needs) (λ c. search needs) (λ c. search needs) (λ c. search needs) (λ c. search needs) (λ c. search needs) (λ c. search needs) (λ c. search needs) (λ c. search needs) (λ c κs. search needs) word-fits-requires returns (λ c. search needs) (λ c. search needs) loop-again returns-2)

@@ -21,7 +21,7 @@ returns c =
     let send = sym (top .ensures) ∙ (if1 .taken) in
     let fault = rw ((process .ensures .0), (peer .ensures .0)) at (counted .ensures .0) in
     let counts = rw ((process .ensures .0), (peer .ensures .0)) at (counted .ensures .1) in
-    (fits-send _ _ _ _ send (omega arith) _ fault, λ z. counts z ∙ ap (tallied (args .counts .now)) (event-send (args .w) (args .v) send))
+    (fits-send _ _ _ _ send _ fault, λ z. counts z ∙ ap (tallied (args .counts .now)) (event-send (args .w) (args .v) send))
 
 returns-2 : tie.Need-returns-2
 returns-2 c =
