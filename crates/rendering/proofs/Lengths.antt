@@ -9,11 +9,11 @@ use lib.ListN.{length, length-append, getD}
 use Rattle.words.proofs.Cases.{by-bool}
 use Rattle.text.specs.Number.{decimal}
 use Rattle.trace.specs.declared.Event.the-variants.{Send, Recv, Save}
-use Rattle.trace.specs.Table.{topIn, processIn, peerIn, eventBase, valueBase}
+use Rattle.trace.specs.Table.{topIn, processIn, peerIn, eventBase}
 use Rattle.lines.specs.Line.{kProcs, kSend, kTo, kVal, kRecv, kFrom, kSave}
 use Rattle.lines.specs.Render.{renderEvent}
 use Rattle.reader.specs.Render.{renderEvents, render}
-use Rattle.table.specs.Held.{eventOf, heldEvent, heldEvents, held, holdsTrace}
+use Rattle.table.specs.Held.{eventOf, heldValue, heldEvent, heldEvents, held, holdsTrace}
 use Rattle.table.proofs.Testing.{holds-facts}
 use Rattle.writer.proofs.Lengths.{number-few, small-few}
 use Rattle.rendering.specs.Write.{textOf, textBytes}
@@ -54,7 +54,7 @@ events-few a i zero = omega arith
 events-few a i (suc n) =
     let l = renderEvent (heldEvent a i) in
     let rest = renderEvents (heldEvents a (suc i) n) in
-    omega (arith, length-append l (10 ∷ rest), event-few (getD a (eventBase + i) 0) (getD a (valueBase + i) 0), events-few a (suc i) n)
+    omega (arith, length-append l (10 ∷ rest), event-few (getD a (eventBase + i) 0) (heldValue a i), events-few a (suc i) n)
 
 -- the text of an area that holds a trace
 pub text-few : (a : List ℕ) → holdsTrace a ≡ true → length (textOf a) ≤ textBytes

@@ -8,6 +8,7 @@ use lib.ListN.{getD}
 use Rattle.text.specs.Number.{decimal}
 use Rattle.trace.specs.declared.Event.{Event}
 use Rattle.trace.specs.declared.Event.the-variants.{Send, Recv, Save}
+use Rattle.words.specs.Halves.{fromHalves}
 use Rattle.trace.specs.Table.{eventBase, valueBase}
 use Rattle.lines.specs.Line.{kProcs, kSend, kTo, kVal, kRecv, kFrom, kSave}
 use Rattle.lines.specs.Render.{renderEvent}
@@ -67,13 +68,14 @@ unfolding renderEvents heldEvents
 lines-none a out at = none out at
 
 pub lines-next : (a : List ℕ) (i : ℕ) (out o₁ o₂ : List ℕ) (at p₁ p₂ : ℕ) → Puts (renderEvents (heldEvents a 1 i)) out at o₁ p₁
-    → Puts (renderEvent (eventOf (getD a (eventBase + 1 + i) 0) (getD a (valueBase + 1 + i) 0)) ++ lf) o₁ p₁ o₂ p₂
+    → Puts (renderEvent (eventOf (getD a (eventBase + 1 + i) 0) (fromHalves (getD a (valueBase 0 + 1 + i) 0) (getD a (valueBase 1 + 1 + i) 0))) ++ lf) o₁ p₁ o₂ p₂
     → Puts (renderEvents (heldEvents a 1 (i + 1))) out at o₂ p₂
 lines-next a i out o₁ o₂ at p₁ p₂ g h =
     let e = heldEvent a (1 + i) in
     let w : eventBase + 1 + i ≡ eventBase + (1 + i) = omega arith in
-    let v : valueBase + 1 + i ≡ valueBase + (1 + i) = omega arith in
-    let line : Puts (renderEvent e ++ lf) o₁ p₁ o₂ p₂ = rw (w, v) at h in
+    let low : valueBase 0 + 1 + i ≡ valueBase 0 + (1 + i) = omega arith in
+    let high : valueBase 1 + 1 + i ≡ valueBase 1 + (1 + i) = omega arith in
+    let line : Puts (renderEvent e ++ lf) o₁ p₁ o₂ p₂ = rw (w, low, high) at h in
     let s : renderEvents (heldEvents a 1 i) ++ (renderEvent e ++ lf) ≡ renderEvents (heldEvents a 1 (i + 1)) =
     sym (rw (add-one i, events-snoc a 1 i) (render-snoc (heldEvents a 1 i) e)) in
     same-bytes _ _ out o₂ at p₂ s (then (renderEvents (heldEvents a 1 i)) (renderEvent e ++ lf) out o₁ o₂ at p₁ p₂ g line)

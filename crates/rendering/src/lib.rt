@@ -15,6 +15,7 @@ ghost use Rattle.rendering.specs.Write.{textOf, writeAnswer, writeBuffer
 ghost use Rattle.rendering.specs.Meaning.{RoundTrip};
 use trace::EVENT_BASE;
 use trace::Event;
+use trace::HIGH_BASE;
 use trace::VALUE_BASE;
 use words::AREA_WORDS;
 
@@ -73,7 +74,8 @@ fn put_events(out: &mut [u8], at: usize, table: &[u32], n: usize) -> usize
     let mut next = at;
     let mut i: usize = 0;
     while i < n {
-        let e = table::event(table[EVENT_BASE + 1 + i], table[VALUE_BASE + 1 + i]);
+        let value = words::from_halves(table[VALUE_BASE + 1 + i], table[HIGH_BASE + 1 + i]);
+        let e = table::event(table[EVENT_BASE + 1 + i], value);
         next = put_event(out, next, e);
         i += 1;
     }

@@ -23,9 +23,10 @@ loop-holds c = (omega arith, refl, lines-none _ _ _)
 loop-again : tie.Need-loop-again Inv-loop μ-loop
 loop-again c =
     let put-event = c .before .before .put-event in
-    let loop = c .before .before .before .before .before .before .before .before .loop in
+    let loop = c .before .before .before .before .before .before .before .before .before .before .loop in
     let event = c .before .before .before .before .event in
-    (omega arith, (put-event .kept .0) ∙ (loop .inv .1), lines-next _ _ _ _ _ _ _ _ (loop .inv .2) (rw (event .ensures) at (put-event .ensures)))
+    let from-halves = c .before .before .before .before .before .before .from-halves in
+    (omega arith, (put-event .kept .0) ∙ (loop .inv .1), lines-next _ _ _ _ _ _ _ _ (loop .inv .2) (rw ((event .ensures), (from-halves .ensures .0)) at (put-event .ensures)))
 
 same-length : tie.Need-same-length Inv-loop μ-loop
 same-length c =
@@ -41,4 +42,4 @@ returns c =
 pub put-events-spec : {M : Type 1} → statement M
 put-events-spec =
     tie.close
-    (tie.spec Inv-loop μ-loop loop-holds (λ c. search needs) (λ c. search needs) (λ c. search needs) (λ c. search needs) (λ c. search needs) (λ c. search needs) (λ c. search needs) (λ c. search needs) (λ c κs. search needs) (λ c κs. search needs) (λ c. search needs) (λ c. search needs) loop-again same-length returns)
+    (tie.spec Inv-loop μ-loop loop-holds (λ c. search needs) (λ c. search needs) (λ c. search needs) (λ c. search needs) (λ c. search needs) (λ c. search needs) (λ c. search needs) (λ c. search needs) (λ c κs. search needs) (λ c. search needs) (λ c. search needs) (λ c. search needs) (λ c. search needs) (λ c κs. search needs) (λ c κs. search needs) (λ c. search needs) (λ c. search needs) loop-again same-length returns)
