@@ -1,5 +1,5 @@
 -- The one view of the full table: what its words say of the trace (how many processes and events; of each event the
--- process, the kind, the peer, the value, the match and whether its message is logged), and that they are in their
+-- process, the kind, the peer, the value's halves, the match and whether its message is logged), and that they are in their
 -- ranges.
 use mathlib.Core.Path.{_≡_, refl, sym, ap, _∙_}
 use mathlib.Core.Logic.{_≢_}
@@ -7,9 +7,10 @@ use mathlib.Core.Bool.{Bool, true, _&&_, cond}
 use mathlib.Core.List.{List, [], _∷_, _++_}
 use Prim.Native.Nat.{ℕ, zero, suc, _+_, _*_, _%_, _≤_, _<_}
 use native.Mathlib.Omega.{arith}
-use lib.ListN.{length, getD}
+use lib.ListN.{getD}
 use lib.Dec.{leb, eqb}
 use borrow.Author.Tests.{eqb-true, leb-true}
+use Rattle.words.specs.Halves.{half}
 use Rattle.words.proofs.Cases.{by-bool, and-left, and-right}
 use Rattle.trace.specs.declared.Event.{Event}
 use Rattle.trace.specs.declared.Event.the-variants.{Send, Recv, Save}
@@ -39,28 +40,33 @@ module _ (t : Trace) (x z : ℕ) (n : z ≢ at t (suc x)) where
   pub else-same : (epochAt t (ruleOf t) z (suc x) ≡ epochAt t (ruleOf t) z x) × (phaseAt t (ruleOf t) z (suc x) ≡ phaseAt t (ruleOf t) z x)
   else-same = else-of (eventAt t (suc x)) refl
 
--- the values of fit events are below 4294967296
-fit-values : (n : ℕ) (d : Event) (before es : List Event) → allFit n before es ≡ true → (i : ℕ) → i < length es → valueFits (getD es i d) ≡ true
+-- the values of fit events fit, and so does that of the checkpoint that stands for all others
+fit-values : (n z : ℕ) (before es : List Event) → allFit n before es ≡ true → (i : ℕ) → valueFits (getD es i (Save z)) ≡ true
 unfolding allFit
-fit-values n d before [] h i l = absurd (let z : ⊥ = omega arith in z)
-fit-values n d before (e ∷ es) h zero l = and-left (valueFits e) _ (and-right (eqb (eventFault n before e) 0) _ h)
-fit-values n d before (e ∷ es) h (suc i) l =
-    fit-values n d (before ++ e ∷ []) es (and-right (valueFits e) _ (and-right (eqb (eventFault n before e) 0) _ h)) i (omega arith)
+fit-values n z before [] h i = refl
+fit-values n z before (e ∷ es) h zero = and-left (valueFits e) _ (and-right (eqb (eventFault n before e) 0) _ h)
+fit-values n z before (e ∷ es) h (suc i) =
+    fit-values n z (before ++ e ∷ []) es (and-right (valueFits e) _ (and-right (eqb (eventFault n before e) 0) _ h)) i
 
-value-lt : (e : Event) → valueFits e ≡ true → valueOf e < 4294967296
-value-lt (Send a b v) h = omega (arith, leb-true v 4294967295 h)
-value-lt (Recv a b) h = omega arith
-value-lt (Save a) h = omega arith
+fits-most : (e : Event) → valueFits e ≡ true → valueOf e ≤ 18446744073709551615
+fits-most (Send a b v) h = leb-true v 18446744073709551615 h
+fits-most (Recv a b) h = omega arith
+fits-most (Save a) h = omega arith
 
--- no value of a well-formed trace is cut to fit a word
-pub value-word : (t : Trace) → wellFormed t ≡ true → (e : ℕ) → 0 < e → e ≤ size t → valueWord (eventAt t e) ≡ valueOf (eventAt t e)
-unfolding wellFormed eventAt
-value-word t w zero h k = absurd (let z : ⊥ = omega arith in z)
-value-word t w (suc i) h k =
-    let fits = allFit (t .procs) [] (t .events) in
-    let b = and-right (leb 2 (t .procs)) (leb (t .procs) 64 && (leb (size t) 2048 && fits)) w in
-    let c = and-right (leb (size t) 2048) fits (and-right (leb (t .procs) 64) (leb (size t) 2048 && fits) b) in
-    omega (arith, value-lt (getD (t .events) i (Save (t .procs))) (fit-values (t .procs) (Save (t .procs)) [] (t .events) c i k))
+module _ (t : Trace) (w : wellFormed t ≡ true) where
+  -- a value of a well-formed trace has 64 bits: its halves tell it
+  pub value-most : (e : ℕ) → valueOf (eventAt t e) ≤ 18446744073709551615
+  unfolding wellFormed eventAt
+  value-most zero = omega arith
+  value-most (suc i) =
+      let fits = allFit (t .procs) [] (t .events) in
+      let b = and-right (leb 2 (t .procs)) (leb (t .procs) 64 && (leb (size t) 2048 && fits)) w in
+      let c = and-right (leb (size t) 2048) fits (and-right (leb (t .procs) 64) (leb (size t) 2048 && fits) b) in
+      fits-most (getD (t .events) i (Save (t .procs))) (fit-values (t .procs) (t .procs) [] (t .events) c i)
+
+  pub message-most : (p q k : ℕ) → value t p q k ≤ 18446744073709551615
+  unfolding value
+  message-most p q k = value-most (sendOf t p q k)
 
 -- the kind and the peer of a word that says a send, or a receive
 kind-send-by : (k w q : ℕ) → send q ≡ kindBy k w → (k ≡ 1) × (w ≡ q)
@@ -108,14 +114,12 @@ module _ (t : Trace) (full : List ℕ) (G : Tabled t full) where
   word-is (suc i) a b =
       G .columns .words (16 + suc i) (omega (arith, few)) ∙ word-event t i (16 + suc i) (omega arith) (omega (arith, few)) ∙ column-at wordOf (t .events) i _ b
 
-  plane : (e : ℕ) → 0 < e → e ≤ size t → valueW full e ≡ valueWord (eventAt t e)
+  value-is : (h e : ℕ) → h < 2 → 0 < e → e ≤ size t → valueW h full e ≡ half h (valueOf (eventAt t e))
   unfolding eventAt
-  plane zero a b = absurd (let z : ⊥ = omega arith in z)
-  plane (suc i) a b =
-      G .columns .words (2065 + suc i) (omega (arith, few)) ∙ word-value t i (2065 + suc i) (omega arith) ∙ column-at valueWord (t .events) i _ b
-
-  value-is : (e : ℕ) → 0 < e → e ≤ size t → valueW full e ≡ valueOf (eventAt t e)
-  value-is e a b = plane e a b ∙ value-word t (G .formed) e a b
+  value-is h zero l a b = absurd (let z : ⊥ = omega arith in z)
+  value-is h (suc i) l a b =
+      G .columns .words (2065 + 2049 * h + suc i) (omega (arith, few))
+      ∙ word-value t h i (2065 + 2049 * h + suc i) l (omega arith) (λ z. omega (arith, few)) ∙ column-at (valueWord h) (t .events) i _ b
 
   module _ (e : ℕ) (a : 0 < e) (b : e ≤ size t) where
     process-few : at t e < 64
@@ -189,9 +193,9 @@ module _ (t : Trace) (full : List ℕ) (G : Tabled t full) where
     pub send-ends : (p < t .procs) × (q < t .procs)
     send-ends = let h = sends-is t p q e s in (omega (arith, fit .process-lt e a b, h .0), fit .peer-lt e q a b (h .1))
 
-    pub send-value : valueW full e ≡ value t p q (sent t p q e)
+    pub send-value : (h : ℕ) → h < 2 → valueW h full e ≡ half h (value t p q (sent t p q e))
     unfolding value
-    send-value = value-is e a b ∙ ap (λ d. valueOf (eventAt t d)) (sym (sendOf-at t p q e s a b))
+    send-value h l = value-is h e l a b ∙ ap (λ d. half h (valueOf (eventAt t d))) (sym (sendOf-at t p q e s a b))
 
     -- the receive of its message, where there is one
     pub send-match-most : matchW full e ≤ size t
@@ -219,10 +223,10 @@ module _ (t : Trace) (full : List ℕ) (G : Tabled t full) where
         let m : matchW full e ≡ d .0 = G .columns .match-recv p q e s a b ∙ ap (sendOf t p q) (sym (d .4)) ∙ sendOf-at t p q (d .0) (d .3) (d .1) (omega (arith, d .2)) in
         rw m (d .1, d .2, d .3, d .4)
 
-    pub recv-value : valueW full (matchW full e) ≡ value t p q (rcvd t p q e)
-    recv-value =
+    pub recv-value : (h : ℕ) → h < 2 → valueW h full (matchW full e) ≡ half h (value t p q (rcvd t p q e))
+    recv-value h l =
         let m = recv-match in
-        send-value p q (matchW full e) (m .2) (m .0) (omega (arith, m .1)) ∙ ap (value t p q) (m .3)
+        send-value p q (matchW full e) (m .2) (m .0) (omega (arith, m .1)) h l ∙ ap (λ k. half h (value t p q k)) (m .3)
 
     pub recv-number : numberW full (matchW full e) ≡ rcvd t p q e
     recv-number =

@@ -27,7 +27,6 @@ pub begin-others : (t : Trace) (full : List ℕ) → getD full 6163 0 ≡ 0 → 
 begin-others t full z = record {
   number-checkpoint = λ z e s u h. absurd (let y : ⊥ = omega arith in y);
   match-checkpoint = λ z e s u h. absurd (let y : ⊥ = omega arith in y);
-  free = λ k h m. refl;
   number-none = z;
   after-number = λ k h m. refl;
   after-epoch = λ k h m. refl;
@@ -36,16 +35,15 @@ begin-others t full z = record {
 }
 
 -- a table that begins as another from the number of event 1 on
-pub others-from : (t : Trace) (x : ℕ) (before mid after : List ℕ) → ((k : ℕ) → 4114 ≤ k → (k ≡ 6163 → ⊥) → getD mid k 0 ≡ getD before k 0) → Others t x mid after → Others t x before after
+pub others-from : (t : Trace) (x : ℕ) (before mid after : List ℕ) → ((k : ℕ) → 6163 < k → getD mid k 0 ≡ getD before k 0) → Others t x mid after → Others t x before after
 others-from t x before mid after same O = record {
   number-checkpoint = O .number-checkpoint;
   match-checkpoint = O .match-checkpoint;
-  free = λ k h m. O .free k h m ∙ same k h (λ i. omega arith);
   number-none = O .number-none;
-  after-number = λ k h m. O .after-number k h m ∙ same k (omega arith) (λ i. omega arith);
-  after-epoch = λ k h m. O .after-epoch k h m ∙ same k (omega arith) (λ i. omega arith);
-  after-phase = λ k h m. O .after-phase k h m ∙ same k (omega arith) (λ i. omega arith);
-  after-match = λ k h. O .after-match k h ∙ same k (omega arith) (λ i. omega arith);
+  after-number = λ k h m. O .after-number k h m ∙ same k (omega arith);
+  after-epoch = λ k h m. O .after-epoch k h m ∙ same k (omega arith);
+  after-phase = λ k h m. O .after-phase k h m ∙ same k (omega arith);
+  after-match = λ k h. O .after-match k h ∙ same k (omega arith);
 }
 
 module _ (t : Trace) (x : ℕ) (before full : List ℕ) (O : Others t x before full) (F : Filled t x full) (few : size t ≤ 2048) (l : suc x ≤ size t) where
@@ -65,7 +63,6 @@ module _ (t : Trace) (x : ℕ) (before full : List ℕ) (O : Others t x before f
         (λ p q d r v w i. send-not-checkpoint t p q z d e r s (omega arith))
         ∙ O .match-checkpoint z e s u g)
         (λ s u. (new z s) .1) s u;
-    free = λ k h m. off k (λ i. omega arith) (λ i. omega arith) (λ i. omega arith) (λ i. omega arith) (λ p q d r v w i. omega arith) ∙ O .free k h m;
     number-none = off 6163 (λ i. omega arith) (λ i. omega arith) (λ i. omega arith) (λ i. omega arith) (λ p q d r v w i. omega arith) ∙ O .number-none;
     after-number = λ k h m. off k (λ i. omega arith) (λ i. omega arith) (λ i. omega arith) (λ i. omega arith) (λ p q d r v w i. omega arith) ∙ O .after-number k (omega arith) m;
     after-epoch = λ k h m. off k (λ i. omega arith) (λ i. omega arith) (λ i. omega arith) (λ i. omega arith) (λ p q d r v w i. omega arith) ∙ O .after-epoch k (omega arith) m;
@@ -134,8 +131,7 @@ module _ (t : Trace) (L : ℕ → ℕ → ℕ → Bool) (before full other : Lis
 
   same-word : (k : ℕ) → Same k
   same-word k =
-      by-lt k 4114 (λ h. C .words k h ∙ sym (D .words k h))
-      (λ f. by-lt k 6163 (λ h. O .free k f h ∙ sym (P .free k f h))
+      by-lt k 6163 (λ h. C .words k h ∙ sym (D .words k h))
       (λ n. by-eq k 6163 (λ e. rw e (O .number-none ∙ sym (P .number-none)))
       (λ m. by-lt 8212 k
       (λ h. by-lt 10261 k
@@ -143,7 +139,7 @@ module _ (t : Trace) (L : ℕ → ℕ → ℕ → Bool) (before full other : Lis
       (λ h. in-column 12310 k h (λ x l. same-match x l _ refl) (λ q. O .after-match k q ∙ sym (P .after-match k q)))
       (λ g. in-column 10261 k h (λ x l. C .phase (suc x) (omega arith) l ∙ sym (D .phase (suc x) (omega arith) l)) (λ q. O .after-phase k q g ∙ sym (P .after-phase k q g))))
       (λ g. in-column 8212 k h (λ x l. C .epoch (suc x) (omega arith) l ∙ sym (D .epoch (suc x) (omega arith) l)) (λ q. O .after-epoch k q g ∙ sym (P .after-epoch k q g))))
-      (λ g. in-column 6163 k (omega (arith, m)) (λ x l. same-number x l _ refl) (λ q. O .after-number k q g ∙ sym (P .after-number k q g))))))
+      (λ g. in-column 6163 k (omega (arith, m)) (λ x l. same-number x l _ refl) (λ q. O .after-number k q g ∙ sym (P .after-number k q g)))))
 
   pub same-table : full ≡ other
   same-table = ext-getD 0 full other (C .whole ∙ sym (D .whole)) (λ k h. same-word k)

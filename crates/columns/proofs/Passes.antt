@@ -30,7 +30,7 @@ use Rattle.columns.proofs.Work.{send-working, recv-working, save-workin
 -- ---- Before the first event
 
 module _ (t : Trace) where
-  pub begin-filled : (full : List ℕ) → length full ≡ fullWords → ((k : ℕ) → k < 4114 → getD full k 0 ≡ tableWord t k) → getD full 6163 0 ≡ 0 → Filled t 0 full
+  pub begin-filled : (full : List ℕ) → length full ≡ fullWords → ((k : ℕ) → k < 6163 → getD full k 0 ≡ tableWord t k) → getD full 6163 0 ≡ 0 → Filled t 0 full
   begin-filled full l w z = record {
     whole = l;
     words = w;
@@ -166,11 +166,11 @@ filled-columns t full F = record {
   match-recv = F .match-recv;
 }
 
--- the copy leaves the words from the number of event 1 on
-pub copied-others : (t : Trace) (x : ℕ) (before full after : List ℕ) → ((k : ℕ) → 4114 ≤ k → getD full k 0 ≡ getD before k 0)
+-- the copy leaves the words after those of the trace
+pub copied-others : (t : Trace) (x : ℕ) (before full after : List ℕ) → ((k : ℕ) → 6163 ≤ k → getD full k 0 ≡ getD before k 0)
     → Others t x (set full 6163 0) after → Others t x before after
 copied-others t x before full after c O =
-    others-from t x before (set full 6163 0) after (λ k h n. getD-set-other full 6163 k 0 0 n ∙ c k h) O
+    others-from t x before (set full 6163 0) after (λ k h. getD-set-other full 6163 k 0 0 (λ i. omega arith) ∙ c k (omega arith)) O
 
 pub begun-working : (t : Trace) (work : List ℕ) → length work ≡ 10369 → ((k : ℕ) → k < 128 → getD work k 0 ≡ 1)
     → ((k : ℕ) → 128 ≤ k → getD work k 0 ≡ getD (replicate 10369 0) k 0) → Working t 0 work

@@ -27,7 +27,7 @@ pub const MATCH_BASE: usize = 12310;
 pub const LOGGED_BASE: usize = 6163;
 
 // The words before this are those of the trace, as in the table area.
-pub const TRACE_WORDS: usize = 4114;
+pub const TRACE_WORDS: usize = 6163;
 
 // How many words the full table has.
 pub const FULL_WORDS: usize = 14359;

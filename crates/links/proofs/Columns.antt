@@ -1,13 +1,15 @@
 -- The tests of the pass mean what they should for the run that is given (`tested`): from the one view of the full
 -- table, the classes of messages, and Matches.
-use mathlib.Core.Path.{_≡_, refl, sym, _∙_}
+use mathlib.Core.Path.{_≡_, refl, sym, ap, _∙_}
 use mathlib.Core.Logic.{_⊎_, inl, inr}
-use mathlib.Core.Bool.{true, false, _&&_, and-true, and-false, cond}
+use mathlib.Core.Bool.{Bool, true, false, _&&_, and-true, and-false, cond}
 use mathlib.Core.List.{List}
 use Prim.Native.Nat.{ℕ, _≤_, _<_}
 use native.Mathlib.Omega.{arith}
 use lib.Dec.{leb, ltb, eqb}
 use borrow.Author.Tests.{eqb-true, lt-ltb, le-leb, eq-eqb}
+use Rattle.words.specs.Halves.{half}
+use Rattle.words.proofs.Halves.{half-none}
 use Rattle.trace.specs.Trace.{Trace}
 use Rattle.theory.specs.Events.{send, recv, other, size, at, kind, sends, sent}
 use Rattle.theory.specs.Line.{Run}
@@ -27,6 +29,11 @@ use Rattle.links.specs.Inner.Linking.{mineW, sentClass, orphanW, goesCla
 use Rattle.links.specs.Inner.Linked.{mine}
 use Rattle.links.proofs.Passes.{Tested}
 use Rattle.links.proofs.Matches.{goes-test, orphan-test, slot-start}
+
+-- half of what is there where a test holds
+half-where : (c : Bool) (b v : ℕ) → cond c (half b v) 0 ≡ half b (cond c v 0)
+half-where true b v = refl
+half-where false b v = sym (half-none b)
 
 module _ (R : Run) (cut : ℕ) (full gates : List ℕ) (G : Given R cut full gates) where
   abbrev t : Trace
@@ -113,16 +120,18 @@ module _ (R : Run) (cut : ℕ) (full gates : List ℕ) (G : Given R cut full gat
     in-e : (ltb 0 e && leb e (size t)) ≡ true
     in-e = rw (lt-ltb 0 e h, le-leb e (size t) k)
 
-    is-record : (cond (earlyW full gates e) (numberW full (matchW full e)) 0 ≡ takenNumber R (start R) e) × (cond (earlyW full gates e) (valueW full (matchW full e)) 0 ≡ takenValue R (start R) e)
+    is-record : (cond (earlyW full gates e) (numberW full (matchW full e)) 0 ≡ takenNumber R (start R) e)
+        × ((b : ℕ) → b < 2 → cond (earlyW full gates e) (valueW b full (matchW full e)) 0 ≡ half b (takenValue R (start R) e))
     unfolding earlyW takenNumber takenValue
     is-record = rw in-e (by (eqb (kindW full e) 2)
         (λ d. let rr = kind-receive t full T e h k (eqb-true (kindW full e) 2 d) in
         let kk = (recvs-is t q z e rr) .1 in
         let s = slot-start R L q z e h rr in
-        rw (d, kk, zi, recv-number t full T q z e rr h k, recv-value t full T q z e rr h k, G .gated .places z z-in) s)
+        rw (d, kk, zi, recv-number t full T q z e rr h k, G .gated .places z z-in)
+        (s .0, λ b l. rw (recv-value t full T q z e rr h k b l) (half-where (leb e (R .restart z)) b _ ∙ ap (half b) (s .1))))
         (λ d. rw d (by (eqb (kindW full e) 1)
-        (λ c. rw (sends-q c) (refl, refl))
-        (λ c. let kk : kind t e ≡ other = unfold kindBy in kind-is t full T e h k ∙ rw (c, d) in rw kk (refl, refl)))))
+        (λ c. rw (sends-q c) (refl, λ b l. sym (half-none b)))
+        (λ c. let kk : kind t e ≡ other = unfold kindBy in kind-is t full T e h k ∙ rw (c, d) in rw kk (refl, λ b l. sym (half-none b))))))
 
   pub tested : Tested R full gates cut
   unfolding Tested

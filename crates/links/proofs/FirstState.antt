@@ -10,6 +10,7 @@ use lib.ListN.{length, length-set, getD, set}
 use lib.Seq.{getD-set-same, getD-set-other}
 use lib.Dec.{leb, ltb, eqb}
 use borrow.Author.Tests.{lt-ltb, le-leb, lt-leb}
+use Rattle.words.specs.Halves.{half}
 use Rattle.theory.specs.Lists.{iv, keep, cnt}
 use Rattle.theory.specs.Events.{size, at, kind, sends, sent}
 use Rattle.theory.specs.Line.{Run, kept}
@@ -135,8 +136,7 @@ module _ (R : Run) (L : Laws R) where
             pt-is = far (putBase + (64 * p + q)) (λ q. omega arith) ∙ H .puts p q hp hq;
           };
           num = λ e h. far e (λ q. omega arith) ∙ H .num e h ∙ slot e (takenNumber R (start R)) (n0 e);
-          val = λ e h. far (takenBase + e) (λ q. omega arith) ∙ H .val e h ∙ slot e (takenValue R (start R)) (v0 e);
-          gap = λ k h j. far k (λ q. omega arith) ∙ H .gap k h j;
+          val = λ b e l h. far (takenBase b + e) (λ q. omega arith) ∙ H .val b e l h ∙ ap (half b) (slot e (takenValue R (start R)) (v0 e));
           beyond = λ k h. far k (λ q. omega arith) ∙ H .beyond k h;
         }
       where

@@ -10,16 +10,20 @@ use lib.ListN.{length, length-set, getD, set}
 use lib.Seq.{getD-set-same, getD-set-other}
 use lib.Dec.{ltb, eqb}
 use borrow.Author.Tests.{ltb-true, ltb-false, eqb-true, eqb-false, lt-ltb, le-ltb, eq-eqb, ne-eqb}
+use Rattle.words.specs.Halves.{half}
+use Rattle.words.proofs.Halves.{half-none}
 use Rattle.theory.specs.Lists.{iv, keep}
 use Rattle.theory.specs.Events.{size, at}
 use Rattle.theory.specs.Line.{Run}
 use Rattle.theory.specs.Replay.{start}
 use Rattle.theory.proofs.Base.{by, on, clash, le?, both, same2}
 use Rattle.machine.specs.Taken.{takenBase, recordEnd, takenNumber, takenValue}
+use Rattle.columns.specs.Inner.Full.{valueW, numberW}
 use Rattle.machine.specs.Inner.Words.{currentBase, orphanBase, takeBase, putBase, curW, orpW, takeW, putW, Small}
 use Rattle.theory.specs.Inner.Lists.{head0}
 use Rattle.machine.specs.Inner.Related.{goes, evs, orph}
-use Rattle.links.specs.Inner.Linking.{chainA}
+use Rattle.machine.proofs.Noted.{length-noted, noted-other, noted-number, noted-value}
+use Rattle.links.specs.Inner.Linking.{chainA, recordA}
 use Rattle.links.specs.Inner.Linked.{mine, rest, Chained}
 
 pub far-A : (b : Bool) (a : List ℕ) (k v j : ℕ) → j ≢ k → getD (chainA b a k v) j 0 ≡ getD a j 0
@@ -37,6 +41,29 @@ unfolding chainA
 len-A true a k v = length-set a k v
 len-A false a k v = refl
 
+-- the same of the record
+module _ (full : List ℕ) where
+  far-R : (b : Bool) (a : List ℕ) (e m j : ℕ) → j ≢ e → ((h : ℕ) → h < 2 → j ≢ takenBase h + e) → getD (recordA b full a e m) j 0 ≡ getD a j 0
+  unfolding recordA
+  far-R true a e m j n v = noted-other full a e m j n v
+  far-R false a e m j n v = refl
+
+  len-R : (b : Bool) (a : List ℕ) (e m : ℕ) → length (recordA b full a e m) ≡ length a
+  unfolding recordA
+  len-R true a e m = length-noted full a e m
+  len-R false a e m = refl
+
+  number-R : (b : Bool) (a : List ℕ) (e m : ℕ) → recordEnd ≤ length a → e < 2049 → getD (recordA b full a e m) e 0 ≡ cond b (numberW full m) (getD a e 0)
+  unfolding recordA
+  number-R true a e m r l = noted-number full a e m r l
+  number-R false a e m r l = refl
+
+  value-R : (b : Bool) (a : List ℕ) (e m h : ℕ) → recordEnd ≤ length a → e < 2049 → h < 2
+      → getD (recordA b full a e m) (takenBase h + e) 0 ≡ cond b (valueW h full m) (getD a (takenBase h + e) 0)
+  unfolding recordA
+  value-R true a e m h r l k = noted-value full a e m r l h k
+  value-R false a e m h r l k = refl
+
 module _ (R : Run) where
   pub head-step : (f : ℕ → Bool) (x : ℕ) → x < size (R .trace) → head0 (rest R f x) ≡ cond (f (suc x)) (suc x) (head0 (rest R f (suc x)))
   unfolding keep iv
@@ -44,26 +71,27 @@ module _ (R : Run) where
       let e : size (R .trace) - x ≡ suc (size (R .trace) - suc x) = omega arith in
       rw e (by (f (suc x)) (λ t. rw t) (λ t. rw t))
 
-  -- the tests that the pass makes at an event of process z with peer q, and what they mean
-  pub record Tests (e z q : ℕ) (f₁ f₂ f₃ f₄ : Bool) (k v : ℕ) : Type 0 where
+  -- the tests that the pass makes at an event of process z with peer q, and what they mean; m is the send of the message
+  -- that it receives
+  pub record Tests (e z q : ℕ) (f₁ f₂ f₃ f₄ : Bool) (full : List ℕ) (m : ℕ) : Type 0 where
     pub z-lt : z < 64
     pub q-lt : q < 64
     pub at-is : at (R .trace) e ≡ z
     pub is-mine : f₁ ≡ ltb (R .restart z) e
     pub is-orphan : f₂ ≡ (mine R z e && orph R z e)
     pub is-goes : (p r : ℕ) → goes R p r e ≡ ((eqb p z && eqb r q) && f₃)
-    pub is-number : cond f₄ k 0 ≡ takenNumber R (start R) e
-    pub is-value : cond f₄ v 0 ≡ takenValue R (start R) e
+    pub is-number : cond f₄ (numberW full m) 0 ≡ takenNumber R (start R) e
+    pub is-value : (b : ℕ) → b < 2 → cond f₄ (valueW b full m) 0 ≡ half b (takenValue R (start R) e)
 
   abbrev pub stepL : List ℕ → List ℕ → ℕ → ℕ → ℕ → Bool → Bool → Bool → List ℕ
   stepL l a e z q f₁ f₂ f₃ =
       chainA f₃ (chainA f₂ (chainA f₁ l (4 * e) (curW a z)) (4 * e + 2) (orpW a z)) (4 * e + 1) (putW a (64 * z + q))
 
-  abbrev pub stepA : List ℕ → ℕ → ℕ → ℕ → Bool → Bool → Bool → Bool → ℕ → ℕ → List ℕ
-  stepA a e z q f₁ f₂ f₃ f₄ k v =
-      chainA f₄ (chainA f₄ (chainA f₃ (chainA f₃ (chainA f₂ (chainA f₁ a (currentBase + z) e) (orphanBase + z) e) (putBase + (64 * z + q)) e) (takeBase + (64 * z + q)) e) e k) (takenBase + e) v
+  abbrev pub stepA : List ℕ → ℕ → ℕ → ℕ → Bool → Bool → Bool → Bool → List ℕ → ℕ → List ℕ
+  stepA a e z q f₁ f₂ f₃ f₄ full m =
+      recordA f₄ full (chainA f₃ (chainA f₃ (chainA f₂ (chainA f₁ a (currentBase + z) e) (orphanBase + z) e) (putBase + (64 * z + q)) e) (takeBase + (64 * z + q)) e) e m
 
-  module _ (x : ℕ) (x-lt : x < size (R .trace)) (n-le : size (R .trace) ≤ 2048) (l a : List ℕ) (H : Chained R (suc x) l a) (z q : ℕ) (f₁ f₂ f₃ f₄ : Bool) (k v : ℕ) (Q : Tests (suc x) z q f₁ f₂ f₃ f₄ k v) where
+  module _ (x : ℕ) (x-lt : x < size (R .trace)) (n-le : size (R .trace) ≤ 2048) (l a : List ℕ) (H : Chained R (suc x) l a) (z q : ℕ) (f₁ f₂ f₃ f₄ : Bool) (full : List ℕ) (m : ℕ) (Q : Tests (suc x) z q f₁ f₂ f₃ f₄ full m) where
     abbrev e : ℕ
     e = suc x
 
@@ -89,10 +117,7 @@ module _ (R : Run) where
     a₄ = chainA f₃ a₃ (takeBase + c) e
 
     abbrev a₅ : List ℕ
-    a₅ = chainA f₄ a₄ e k
-
-    abbrev a₆ : List ℕ
-    a₆ = chainA f₄ a₅ (takenBase + e) v
+    a₅ = recordA f₄ full a₄ e m
 
     n₁ : length a₁ ≡ 16384
     n₁ = len-A f₁ a (currentBase + z) e ∙ H .a-long
@@ -107,19 +132,22 @@ module _ (R : Run) where
     n₄ = len-A f₃ a₃ (takeBase + c) e ∙ n₃
 
     n₅ : length a₅ ≡ 16384
-    n₅ = len-A f₄ a₄ e k ∙ n₄
+    n₅ = len-R full f₄ a₄ e m ∙ n₄
 
-    n₆ : length a₆ ≡ 16384
-    n₆ = len-A f₄ a₅ (takenBase + e) v ∙ n₅
+    room : recordEnd ≤ length a₄
+    room = omega (arith, n₄)
+
+    few : e < 2049
+    few = omega arith
 
     -- words above the record, below it
-    top : (j : ℕ) → recordEnd ≤ j → getD a₆ j 0 ≡ getD a₄ j 0
-    top j h = far-A f₄ a₅ (takenBase + e) v j (λ w. omega arith) ∙ far-A f₄ a₄ e k j (λ w. omega arith)
+    top : (j : ℕ) → recordEnd ≤ j → getD a₅ j 0 ≡ getD a₄ j 0
+    top j h = far-R full f₄ a₄ e m j (λ w. omega arith) (λ b l w. omega arith)
 
     record-far : (j : ℕ) → j < currentBase → getD a₄ j 0 ≡ getD a j 0
     record-far j h = far-A f₃ a₃ (takeBase + c) e j (λ w. omega arith) ∙ far-A f₃ a₂ (putBase + c) e j (λ w. omega arith) ∙ far-A f₂ a₁ (orphanBase + z) e j (λ w. omega arith) ∙ far-A f₁ a (currentBase + z) e j (λ w. omega arith)
 
-    process-far : (j : ℕ) → currentBase ≤ j → j < takeBase → getD a₆ j 0 ≡ getD a₂ j 0
+    process-far : (j : ℕ) → currentBase ≤ j → j < takeBase → getD a₅ j 0 ≡ getD a₂ j 0
     process-far j h i = top j (omega arith) ∙ far-A f₃ a₃ (takeBase + c) e j (λ w. omega arith) ∙ far-A f₃ a₂ (putBase + c) e j (λ w. omega (arith, zl, ql))
 
     chan-far : (j : ℕ) → takeBase ≤ j → getD a₂ j 0 ≡ getD a j 0
@@ -138,9 +166,9 @@ module _ (R : Run) where
         (λ t. let i : y ≡ z = eqb-true y z t in rw (t, i) (sym (Q .is-orphan)))
         (λ t. let m : mine R y e ≡ false = mine-is y ∙ rw t in rw (t, m))
 
-    pub chain-area : (length a₆ ≡ 16384) × ((y : ℕ) → y < 64 → curW a₆ y ≡ head0 (rest R (mine R y) x)) × ((y : ℕ) → y < 64 → orpW a₆ y ≡ head0 (rest R (λ d. mine R y d && orph R y d) x))
+    pub chain-area : (length a₅ ≡ 16384) × ((y : ℕ) → y < 64 → curW a₅ y ≡ head0 (rest R (mine R y) x)) × ((y : ℕ) → y < 64 → orpW a₅ y ≡ head0 (rest R (λ d. mine R y d && orph R y d) x))
     chain-area = (
-      n₆,
+      n₅,
       (λ y hy. rw (head-step (mine R y) x x-lt, mine-is y) (by (eqb y z)
           (λ t. let i : y ≡ z = eqb-true y z t in
           rw (t, i) (process-far (currentBase + z) (omega arith) (omega (arith, zl)) ∙ far-A f₂ a₁ (orphanBase + z) e (currentBase + z) (λ w. omega arith) ∙ at-A f₁ a (currentBase + z) e (omega (arith, H .a-long, zl)) ∙ ap (cond f₁ e) (H .cur z zl)))
@@ -161,7 +189,7 @@ module _ (R : Run) where
         let j : r ≡ q = omega (arith, ql) in
         clash (let u : (eqb p z && eqb r q) ≡ true = rw (eq-eqb p z i, eq-eqb r q j) in u) t
 
-    chain-put : (p r : ℕ) → p < 64 → r < 64 → putW a₆ (64 * p + r) ≡ head0 (evs R p r x)
+    chain-put : (p r : ℕ) → p < 64 → r < 64 → putW a₅ (64 * p + r) ≡ head0 (evs R p r x)
     chain-put p r hp hr = rw (evs-step p r) (by (eqb p z && eqb r q)
         (λ t. let b = same2 p z r q t in
         rw (t, b .0, b .1) (top (putBase + c) (omega arith) ∙ far-A f₃ a₃ (takeBase + c) e (putBase + c) (λ w. omega arith) ∙ at-A f₃ a₂ (putBase + c) e (omega (arith, n₂, zl, ql))
@@ -169,7 +197,7 @@ module _ (R : Run) where
         (λ t. rw t (top (putBase + (64 * p + r)) (omega arith) ∙ far-A f₃ a₃ (takeBase + c) e (putBase + (64 * p + r)) (λ w. omega (arith, zl, ql))
         ∙ far-A f₃ a₂ (putBase + c) e (putBase + (64 * p + r)) (λ w. far-channel p r hr t (omega arith)) ∙ chan-far (putBase + (64 * p + r)) (omega arith) ∙ H .puts p r hp hr)))
 
-    chain-take : (p r : ℕ) → p < 64 → r < 64 → takeW a₆ (64 * p + r) ≡ head0 (evs R p r x)
+    chain-take : (p r : ℕ) → p < 64 → r < 64 → takeW a₅ (64 * p + r) ≡ head0 (evs R p r x)
     chain-take p r hp hr = rw (evs-step p r) (by (eqb p z && eqb r q)
         (λ t. let b = same2 p z r q t in
         rw (t, b .0, b .1) (top (takeBase + c) (omega arith) ∙ at-A f₃ a₃ (takeBase + c) e (omega (arith, n₃, zl, ql))
@@ -178,26 +206,26 @@ module _ (R : Run) where
         ∙ far-A f₃ a₂ (putBase + c) e (takeBase + (64 * p + r)) (λ w. omega arith) ∙ chan-far (takeBase + (64 * p + r)) (omega arith) ∙ H .takes p r hp hr)))
 
     -- the record
-    slot : (b : Bool) (y m : ℕ) (g : ℕ → ℕ) → y ≢ e → cond (ltb (suc x) y) (g y) 0 ≡ cond (ltb x y) (g y) 0
-    slot b y m g n = by (ltb x y)
+    slot : (y : ℕ) (g : ℕ → ℕ) → y ≢ e → cond (ltb (suc x) y) (g y) 0 ≡ cond (ltb x y) (g y) 0
+    slot y g n = by (ltb x y)
         (λ t. rw (t, lt-ltb (suc x) y (omega (arith, ltb-true x y t))))
         (λ t. rw (t, le-ltb (suc x) y (omega (arith, ltb-false x y t))))
 
-    chain-num : (y : ℕ) → y < 2049 → getD a₆ y 0 ≡ cond (ltb x y) (takenNumber R (start R) y) 0
+    chain-num : (y : ℕ) → y < 2049 → getD a₅ y 0 ≡ cond (ltb x y) (takenNumber R (start R) y) 0
     chain-num y hy = by (eqb y e)
         (λ t. let i : y ≡ e = eqb-true y e t in
-        rw (i, lt-ltb x e (omega arith)) (far-A f₄ a₅ (takenBase + e) v e (λ w. omega arith) ∙ at-A f₄ a₄ e k (omega (arith, n₄, n-le))
-        ∙ ap (cond f₄ k) (record-far e (omega (arith, n-le)) ∙ H .num e (omega (arith, n-le)) ∙ rw (le-ltb e e (omega arith))) ∙ Q .is-number))
+        rw (i, lt-ltb x e (omega arith)) (number-R full f₄ a₄ e m room few
+        ∙ ap (cond f₄ (numberW full m)) (record-far e (omega (arith, few)) ∙ H .num e few ∙ rw (le-ltb e e (omega arith))) ∙ Q .is-number))
         (λ t. let n = eqb-false y e t in
-        far-A f₄ a₅ (takenBase + e) v y (λ w. omega arith) ∙ far-A f₄ a₄ e k y n ∙ record-far y (omega arith) ∙ H .num y hy ∙ slot true y 0 (takenNumber R (start R)) n)
+        far-R full f₄ a₄ e m y n (λ b l w. omega arith) ∙ record-far y (omega arith) ∙ H .num y hy ∙ slot y (takenNumber R (start R)) n)
 
-    chain-val : (y : ℕ) → y < 2049 → getD a₆ (takenBase + y) 0 ≡ cond (ltb x y) (takenValue R (start R) y) 0
-    chain-val y hy = by (eqb y e)
+    chain-val : (b y : ℕ) → b < 2 → y < 2049 → getD a₅ (takenBase b + y) 0 ≡ half b (cond (ltb x y) (takenValue R (start R) y) 0)
+    chain-val b y hb hy = by (eqb y e)
         (λ t. let i : y ≡ e = eqb-true y e t in
-        rw (i, lt-ltb x e (omega arith)) (at-A f₄ a₅ (takenBase + e) v (omega (arith, n₅, n-le))
-        ∙ ap (cond f₄ v) (far-A f₄ a₄ e k (takenBase + e) (λ w. omega arith) ∙ record-far (takenBase + e) (omega (arith, n-le)) ∙ H .val e (omega (arith, n-le)) ∙ rw (le-ltb e e (omega arith))) ∙ Q .is-value))
+        rw (i, lt-ltb x e (omega arith)) (value-R full f₄ a₄ e m b room few hb
+        ∙ ap (cond f₄ (valueW b full m)) (record-far (takenBase b + e) (omega (arith, few)) ∙ H .val b e hb few ∙ rw (le-ltb e e (omega arith)) (half-none b)) ∙ Q .is-value b hb))
         (λ t. let n = eqb-false y e t in
-        far-A f₄ a₅ (takenBase + e) v (takenBase + y) (λ w. n (omega arith)) ∙ far-A f₄ a₄ e k (takenBase + y) (λ w. omega (arith, n-le)) ∙ record-far (takenBase + y) (omega arith) ∙ H .val y hy ∙ slot true y 0 (takenValue R (start R)) n)
+        far-R full f₄ a₄ e m (takenBase b + y) (λ w. omega (arith, few)) (λ h l w. n (omega arith)) ∙ record-far (takenBase b + y) (omega arith) ∙ H .val b y hb hy ∙ ap (half b) (slot y (takenValue R (start R)) n))
 
     -- the links
     abbrev l₁ : List ℕ
@@ -263,7 +291,7 @@ module _ (R : Run) where
     small-A false l j w h s i = s i
 
     -- one event of the pass
-    pub chained-next : curW a z < 2049 → orpW a z < 2049 → putW a c < 2049 → Chained R x l₃ a₆
+    pub chained-next : curW a z < 2049 → orpW a z < 2049 → putW a c < 2049 → Chained R x l₃ a₅
     chained-next b₁ b₂ b₃ = record {
       l-long = omega (arith, m₃, H .l-long);
       a-long = chain-area .0;
@@ -276,7 +304,6 @@ module _ (R : Run) where
       next-orphan = chain-orphan;
       num = chain-num;
       val = chain-val;
-      gap = λ k h j. top k h ∙ record-far k j ∙ H .gap k h j;
       beyond = λ k h. top k (omega arith) ∙ far-A f₃ a₃ (takeBase + c) e k (λ w. omega (arith, zl, ql)) ∙ far-A f₃ a₂ (putBase + c) e k (λ w. omega (arith, zl, ql))
           ∙ chan-far k (omega arith) ∙ H .beyond k h;
       small = small-A f₃ l₂ (4 * e + 1) (putW a c) b₃ (small-A f₂ l₁ (4 * e + 2) (orpW a z) b₂ (small-A f₁ l (4 * e) (curW a z) b₁ (H .small)));

@@ -1,13 +1,15 @@
 -- The whole pass of specs/Inner/Linking, from the last event to the first: it sets the links of the run and its first
 -- state. From what its tests mean at every event (`Tested`), by Linking and Begin.
 use mathlib.Core.Path.{_≡_, refl, sym, _∙_, ap, subst}
-use mathlib.Core.Bool.{Bool, true, false, _&&_, cond}
+use mathlib.Core.Bool.{Bool, _&&_, and-false, cond}
 use mathlib.Core.List.{List, [], _∷_}
 use Prim.Native.Nat.{ℕ, zero, suc, _+_, _-_, _*_, _≤_, _<_}
 use native.Mathlib.Omega.{arith}
 use lib.ListN.{length, getD}
 use lib.Dec.{leb, ltb}
 use borrow.Author.Tests.{lt-leb, ltb-true}
+use Rattle.words.specs.Halves.{half}
+use Rattle.words.proofs.Halves.{half-none}
 use Rattle.theory.specs.Lists.{iv, keep}
 use Rattle.theory.specs.Events.{size}
 use Rattle.theory.specs.Line.{Run}
@@ -15,7 +17,7 @@ use Rattle.theory.specs.Replay.{start}
 use Rattle.theory.proofs.Base.{by, keep-head}
 use Rattle.machine.specs.Taken.{takenBase, takenNumber, takenValue}
 use Rattle.machine.specs.Inner.Words.{currentBase, orphanBase, takeBase, putBase, curW, orpW, putW, Small}
-use Rattle.columns.specs.Inner.Full.{peerW, valueW, numberW, atW, matchW}
+use Rattle.columns.specs.Inner.Full.{peerW, atW, matchW}
 use Rattle.theory.specs.Inner.Lists.{head0}
 use Rattle.machine.specs.Inner.Related.{goes, evs, orph, Cols, Rel}
 use Rattle.columns.specs.Inner.Given.{Tells, Gated}
@@ -27,7 +29,7 @@ use Rattle.links.proofs.FirstState.{begin-cols, begin-rel}
 -- the tests by words mean what they should, at every event
 unfoldable pub Tested : Run → List ℕ → List ℕ → ℕ → Type 0
 Tested R t g cut = (e : ℕ) → 0 < e → e ≤ size (R .trace)
-    → Tests R e (atW t e) (peerW t e) (mineW t g e) (orphanW t g cut e) (goesW t g cut e) (earlyW t g e) (numberW t (matchW t e)) (valueW t (matchW t e))
+    → Tests R e (atW t e) (peerW t e) (mineW t g e) (orphanW t g cut e) (goesW t g cut e) (earlyW t g e) t (matchW t e)
 
 pub head-lt : (R : Run) (f : ℕ → Bool) (x : ℕ) → x ≤ size (R .trace) → size (R .trace) ≤ 2048 → head0 (rest R f x) < 2049
 head-lt R f x h k = go (rest R f x) refl
@@ -61,19 +63,16 @@ module _ (R : Run) (t g : List ℕ) (cut : ℕ) where
     next = λ e h k m. absurd (omega arith);
     next-message = λ p q e h k m. absurd (omega arith);
     next-orphan = λ e h k m. absurd (omega arith);
-    num = λ e h. za e ∙ by (ltb (size (R .trace)) e) (λ u. rw u (let w : leb e (size (R .trace)) ≡ false = late e u in rw w (none (ltb 0 e) _))) (λ u. rw u);
-    val = λ e h. za (takenBase + e) ∙ by (ltb (size (R .trace)) e) (λ u. rw u (let w : leb e (size (R .trace)) ≡ false = late e u in rw w (none (ltb 0 e) _))) (λ u. rw u);
-    gap = λ k h j. za k;
+    num = λ e h. za e ∙ none-after e _;
+    val = λ b e l h. za (takenBase b + e) ∙ sym (half-none b) ∙ ap (half b) (none-after e _);
     beyond = λ k h. za k;
     small = λ k. rw (zl k) (omega arith);
   }
     where
-      late : (e : ℕ) → ltb (size (R .trace)) e ≡ true → leb e (size (R .trace)) ≡ false
-      late e u = lt-leb e (size (R .trace)) (ltb-true (size (R .trace)) e u)
-
-      none : (b : Bool) (m : ℕ) → 0 ≡ cond (b && false) m 0
-      none true m = refl
-      none false m = refl
+      none-after : (e m : ℕ) → 0 ≡ cond (ltb (size (R .trace)) e) (cond (ltb 0 e && leb e (size (R .trace))) m 0) 0
+      none-after e m = by (ltb (size (R .trace)) e)
+          (λ u. rw (u, lt-leb e (size (R .trace)) (ltb-true (size (R .trace)) e u), and-false (ltb 0 e)))
+          (λ u. rw u)
 
   pub link-turn : (x : ℕ) → 0 < x → x ≤ size (R .trace) → size (R .trace) ≤ 2048 → Tested R t g cut → (l a l′ a′ : List ℕ) → Chained R x l a → l′ ≡ linkL t g cut l a x → a′ ≡ linkA t g cut a x → Chained R (x - 1) l′ a′
   unfolding linkL linkA Tested
@@ -86,15 +85,15 @@ module _ (R : Run) (t g : List ℕ) (cut : ℕ) where
       let b₃ : putW a (64 * z + q) < 2049 = rw (H .puts z q (omega arith) (omega arith)) (evs-lt z q x k n) in
       rw (el, ea) (go x (x - 1) e (omega arith) H (Q x h k) b₁ b₂ b₃)
     where
-      go : (e y : ℕ) → e ≡ suc y → y < size (R .trace) → Chained R e l a → Tests R e (atW t x) (peerW t x) (mineW t g x) (orphanW t g cut x) (goesW t g cut x) (earlyW t g x) (numberW t (matchW t x)) (valueW t (matchW t x))
+      go : (e y : ℕ) → e ≡ suc y → y < size (R .trace) → Chained R e l a → Tests R e (atW t x) (peerW t x) (mineW t g x) (orphanW t g cut x) (goesW t g cut x) (earlyW t g x) t (matchW t x)
           → curW a (atW t x) < 2049 → orpW a (atW t x) < 2049 → putW a (64 * atW t x + peerW t x) < 2049
           → Chained R y (stepL R l a e (atW t x) (peerW t x) (mineW t g x) (orphanW t g cut x) (goesW t g cut x))
-          (stepA R a e (atW t x) (peerW t x) (mineW t g x) (orphanW t g cut x) (goesW t g cut x) (earlyW t g x) (numberW t (matchW t x)) (valueW t (matchW t x)))
+          (stepA R a e (atW t x) (peerW t x) (mineW t g x) (orphanW t g cut x) (goesW t g cut x) (earlyW t g x) t (matchW t x))
       go e y i j H Q b₁ b₂ b₃ =
-          subst (λ e. Chained R e l a → Tests R e (atW t x) (peerW t x) (mineW t g x) (orphanW t g cut x) (goesW t g cut x) (earlyW t g x) (numberW t (matchW t x)) (valueW t (matchW t x))
+          subst (λ e. Chained R e l a → Tests R e (atW t x) (peerW t x) (mineW t g x) (orphanW t g cut x) (goesW t g cut x) (earlyW t g x) t (matchW t x)
           → Chained R y (stepL R l a e (atW t x) (peerW t x) (mineW t g x) (orphanW t g cut x) (goesW t g cut x))
-          (stepA R a e (atW t x) (peerW t x) (mineW t g x) (orphanW t g cut x) (goesW t g cut x) (earlyW t g x) (numberW t (matchW t x)) (valueW t (matchW t x)))) (sym i)
-          (λ H Q. chained-next R y j n l a H (atW t x) (peerW t x) (mineW t g x) (orphanW t g cut x) (goesW t g cut x) (earlyW t g x) (numberW t (matchW t x)) (valueW t (matchW t x)) Q b₁ b₂ b₃) H Q
+          (stepA R a e (atW t x) (peerW t x) (mineW t g x) (orphanW t g cut x) (goesW t g cut x) (earlyW t g x) t (matchW t x))) (sym i)
+          (λ H Q. chained-next R y j n l a H (atW t x) (peerW t x) (mineW t g x) (orphanW t g cut x) (goesW t g cut x) (earlyW t g x) t (matchW t x) Q b₁ b₂ b₃) H Q
 
   module _ (few : size (R .trace) ≤ 2048) (Q : Tested R t g cut) (l a : List ℕ) (hl : 8197 ≤ length l) (ha : length a ≡ 16384)
       (zl : (k : ℕ) → getD l k 0 ≡ 0) (za : (k : ℕ) → getD a k 0 ≡ 0) where

@@ -11,12 +11,12 @@ use lib.Dec.{ltb, eqb}
 use borrow.Author.Tests.{lt-leb, le-leb, eq-eqb, ne-eqb}
 use Rattle.words.proofs.Cases.{by-bool, by-eq}
 use Rattle.words.specs.Area.{areaWords}
-use Rattle.machine.specs.Taken.{takenBase}
 use Rattle.machine.specs.Inner.Words.{currentBase, orphanBase, takeBase, putBase, curW, orpW, putW, Bounded}
 use Rattle.machine.specs.Inner.Shapes.{Pointed}
-use Rattle.columns.specs.Inner.Full.{kindW, peerW, valueW, numberW, atW, matchW}
+use Rattle.machine.proofs.Noted.{length-noted, noted-other}
+use Rattle.columns.specs.Inner.Full.{kindW, peerW, atW, matchW}
 use Rattle.classes.specs.Inner.Words.{classW}
-use Rattle.links.specs.Inner.Linking.{mineW, sentClass, goesClass, earlyW, chainA, sentL, sentA, linkL, linkA, linkedA, linkedL}
+use Rattle.links.specs.Inner.Linking.{mineW, sentClass, goesClass, earlyW, chainA, recordA, sentL, sentA, linkL, linkA, linkedA, linkedL}
 use Rattle.links.specs.Inner.Shapes.{Paired, PairedTo}
 use Rattle.links.proofs.Linking.{far-A}
 
@@ -83,14 +83,14 @@ module _ (t g : List ℕ) (cut : ℕ) (l a : List ℕ) (e z q w class : ℕ) (l�
       eb ∙ rw (is-mine, i, j, el, ec, ez, eq)
 
   pub linked-a : (f : Bool) (b d : List ℕ) → f ≡ earlyW t g e → d ≡ sentA a₁ z (64 * z + q) e class
-      → b ≡ chainA f (chainA f d e (numberW t (matchW t e))) (takenBase + e) (valueW t (matchW t e)) → b ≡ linkA t g cut a e
+      → b ≡ recordA f t d e (matchW t e) → b ≡ linkA t g cut a e
   unfolding linkA sentA
   linked-a f b d ef ed eb = eb ∙ rw (is-mine, ed, ef, ea, ec, ez, eq)
 
--- nothing is written where a test does not hold, twice
-pub chain-none : (a : List ℕ) (k v j u : ℕ) → a ≡ chainA false (chainA false a k v) j u
-unfolding chainA
-chain-none a k v j u = refl
+-- nothing goes on record where a test does not hold
+pub record-none : (t a : List ℕ) (e m : ℕ) → a ≡ recordA false t a e m
+unfolding recordA
+record-none t a e m = refl
 
 -- a listed event is no receive before the restart; another is, if it is a receive
 module _ (t g : List ℕ) (e z w : ℕ) (ez : z ≡ atW t e) (ew : w ≡ getD g (64 + z) 0) where
@@ -118,28 +118,36 @@ module _ (t g : List ℕ) (cut n x : ℕ) (p : 0 < x) (q : x ≤ n) (l₀ a₀ l
   links-turn ea el e = rw (last, here, ← ea, ← el) e
 
 -- Every pointer that the pass writes is an event; the record is before the pointers.
-pointed-chain : (b : Bool) (a : List ℕ) (k v : ℕ) → k < areaWords → (currentBase ≤ k → v < 2049) → Pointed a → Pointed (chainA b a k v)
+pointed-chain : (b : Bool) (a : List ℕ) (k v : ℕ) → k < areaWords → v < 2049 → Pointed a → Pointed (chainA b a k v)
 unfolding chainA Bounded
 pointed-chain true a k v h w p = record {
   area-long = length-set a k v ∙ p .area-long;
   bounded = λ j l m. by-eq j k
-      (λ e. rw (e, getD-set-same a k v 0 (omega (arith, h, p .area-long))) (w (omega (arith, e, l))))
+      (λ e. rw (e, getD-set-same a k v 0 (omega (arith, h, p .area-long))) w)
       (λ n. rw (getD-set-other a k j v 0 n) (p .bounded j l m));
 }
 pointed-chain false a k v h w p = p
 
+pointed-record : (b : Bool) (t a : List ℕ) (e m : ℕ) → e < 2049 → Pointed a → Pointed (recordA b t a e m)
+unfolding recordA Bounded
+pointed-record true t a e m h p = record {
+  area-long = length-noted t a e m ∙ p .area-long;
+  bounded = λ j l k. rw (noted-other t a e m j (λ q. omega arith) (λ b r q. omega arith)) (p .bounded j l k);
+}
+pointed-record false t a e m h p = p
+
 -- an event written
 pub pointed-next : (b : Bool) (a : List ℕ) (k e : ℕ) (a′ : List ℕ) → k < areaWords → e < 2049 → Pointed a → a′ ≡ chainA b a k e → Pointed a′
-pointed-next b a k e a′ h l p i = rw i (pointed-chain b a k e h (λ y. l) p)
+pointed-next b a k e a′ h l p i = rw i (pointed-chain b a k e h l p)
 
 pub pointed-turn : (t g : List ℕ) (cut e : ℕ) (a b : List ℕ) → e < 2049 → Pointed a → b ≡ linkA t g cut a e → Pointed b
 unfolding linkA
 pointed-turn t g cut e a b h p eb =
     let z : atW t e < 64 = omega arith in
     let c : 64 * atW t e + peerW t e < 4096 = omega arith in
-    rw eb (pointed-chain _ _ _ _ (omega arith) (λ k. absurd (omega arith)) (pointed-chain _ _ _ _ (omega arith) (λ k. absurd (omega arith))
-    (pointed-chain _ _ _ _ (omega (arith, c)) (λ k. h) (pointed-chain _ _ _ _ (omega (arith, c)) (λ k. h)
-    (pointed-chain _ _ _ _ (omega (arith, z)) (λ k. h) (pointed-chain _ _ _ _ (omega (arith, z)) (λ k. h) p))))))
+    rw eb (pointed-record _ _ _ _ _ h
+    (pointed-chain _ _ _ _ (omega (arith, c)) h (pointed-chain _ _ _ _ (omega (arith, c)) h
+    (pointed-chain _ _ _ _ (omega (arith, z)) h (pointed-chain _ _ _ _ (omega (arith, z)) h p)))))
 
 -- the events after x are linked
 pub record LinkedTo (t g : List ℕ) (cut n : ℕ) (l₀ a₀ l a : List ℕ) (x : ℕ) : Type 0 where

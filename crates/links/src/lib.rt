@@ -5,27 +5,23 @@ ghost use mathlib.Core.Path.{_≡_};
 ghost use mathlib.Core.Bool.{true};
 ghost use Prim.Native.Nat.{_+_, _≤_, _<_};
 ghost use lib.ListN.{length, getD};
-ghost use Rattle.machine.specs.Taken.{takenBase};
 ghost use Rattle.machine.specs.Inner.Shapes.{Pointed};
-ghost use Rattle.columns.specs.Inner.Full.{eventsW, eventW, atW, numberW, valueW, matchW};
-ghost use Rattle.links.specs.Inner.Linking.{sentClass, goesClass, chainA, sentL, sentA, linkL, linkA, linkedL, linkedA, beginA};
+ghost use Rattle.columns.specs.Inner.Full.{eventsW, eventW, atW, matchW};
+ghost use Rattle.links.specs.Inner.Linking.{sentClass, goesClass, chainA, recordA, sentL, sentA, linkL, linkA, linkedL, linkedA, beginA};
 ghost use Rattle.links.specs.Inner.Shapes.{SendReadable, SlotLinkable, Placed, Recordable, EventLinkable, AllLinkable, Linkable};
 use classes::KEPT;
 use classes::NONE;
 use classes::ORPHAN;
 use classes::UPCOMING;
-use columns::NUMBER_BASE;
 use columns::RESTART_BASE;
 use machine::CURRENT_BASE;
 use machine::LOW_PLACE;
 use machine::ORPHAN_BASE;
 use machine::PUT_BASE;
 use machine::TAKE_BASE;
-use machine::TAKEN_BASE;
 use trace::EVENT_BASE;
 use trace::RECEIVE;
 use trace::SEND;
-use trace::VALUE_BASE;
 
 // Words of the links: word 4 e is the next event of the process of event e, 4 e + 1 the next send whose message goes
 // through its channel, 4 e + 2 the next orphan's send of its process. They have 16 bits, so that they take less to
@@ -91,12 +87,10 @@ fn link_sent(links: &mut [u16], area: &mut [u32], z: usize, c: usize, e: usize, 
 // The record of receive e, where it is before the restart: the message that it took in the trace.
 fn mark_record(full: &[u32], area: &mut [u32], e: usize, before: bool)
     requires { ⌜ Recordable (now full) (now area) e before ⌝ }
-    ensures { λ _. ⌜ now (area .exit) ≡ chainA before (chainA before (now (area .entry)) e (numberW (now (full .entry)) (matchW (now (full .entry)) e))) (takenBase + e) (valueW (now (full .entry)) (matchW (now (full .entry)) e)) ⌝ }
+    ensures { λ _. ⌜ now (area .exit) ≡ recordA before (now (full .entry)) (now (area .entry)) e (matchW (now (full .entry)) e) ⌝ }
 {
     if before {
-        let m = columns::matched(full, e);
-        area[e] = full[NUMBER_BASE + m];
-        area[TAKEN_BASE + e] = full[VALUE_BASE + m];
+        machine::note_taken(full, area, e, columns::matched(full, e));
     }
 }
 

@@ -1,4 +1,5 @@
--- what the relation says of a state; one step; one choice
+-- what goes on record; what the relation says of a state; one step; one choice
+pub mod Noted
 pub mod Told
 pub mod Facts
 pub mod Moves

@@ -10,6 +10,7 @@ use lib.ListN.{length, length-set, getD, set}
 use lib.Seq.{getD-set-same, getD-set-other, getD-at}
 use lib.Dec.{leb, ltb, eqb}
 use borrow.Author.Tests.{ltb-true, eqb-true, eqb-false, lt-ltb, le-leb, eq-eqb, ne-eqb}
+use Rattle.words.specs.Halves.{half}
 use Rattle.words.proofs.Lists.{map-append, last-mapped, other-mapped}
 use Rattle.theory.specs.Lists.{keep, no-one, put, put2}
 use Rattle.theory.specs.Events.{Kind, send, recv, other, size, at, kind, recvs, sent, rcvd, value}
@@ -22,10 +23,11 @@ use Rattle.theory.specs.Inner.Flow.{sendTo, recvFrom, rBefore, ahead, toTake, I
 use Rattle.theory.proofs.Flow.{ahead-send, ahead-put, put-same, toTake-recv, at-head}
 use Rattle.theory.proofs.Loss.{toTake-listed}
 use Rattle.machine.specs.Taken.{takenBase, recordEnd, tookNumber, tookValue, takenNumber, takenValue}
-use Rattle.machine.specs.Inner.Words.{currentBase, orphanBase, takeBase, putBase, lowPlace, noPhase, curW, orpW, takeW, putW, lowW, lowOf, movedW, dropW, putInW, takeOutW}
+use Rattle.machine.specs.Inner.Words.{currentBase, orphanBase, takeBase, putBase, lowPlace, noPhase, curW, orpW, takeW, putW, lowW, lowOf, movedW, dropW, putInW, notedW, takeOutW}
 use Rattle.columns.specs.Inner.Full.{valueW, numberW}
 use Rattle.theory.specs.Inner.Lists.{head0}
 use Rattle.machine.specs.Inner.Related.{drops, orph, Cols, Chan, Rel}
+use Rattle.machine.proofs.Noted.{length-noted, noted-other, noted-number, noted-value}
 use Rattle.machine.proofs.Told.{told}
 use Rattle.machine.proofs.Facts.{goes-send, to-put, to-take, in-list, resends-is, ready-low}
 
@@ -160,8 +162,7 @@ module _ (R : Run) (L : Laws R) (t l g : List ℕ) (K : Cols R t l g) where
     low : (r : ℕ) → r < noPhase → ready R u r ≡ ltb r (lowW b)
     chan : (p q : ℕ) → p < 64 → q < 64 → Chan R u p q (takeW b (64 * p + q)) (putW b (64 * p + q))
     num : (e : ℕ) → e < 2049 → getD b e 0 ≡ takenNumber R u e
-    val : (e : ℕ) → e < 2049 → getD b (takenBase + e) 0 ≡ takenValue R u e
-    gap : (k : ℕ) → recordEnd ≤ k → k < currentBase → getD b k 0 ≡ 0
+    val : (w e : ℕ) → w < 2 → e < 2049 → getD b (takenBase w + e) 0 ≡ half w (takenValue R u e)
     beyond : (k : ℕ) → lowPlace < k → getD b k 0 ≡ 0
 
   module _ (a : List ℕ) (s : State) (r : Rel R a s) (i : Inv R s) (z e : ℕ) (es : List ℕ) (hz : z < 64) (h : s .todo z ≡ e ∷ es) where
@@ -178,8 +179,7 @@ module _ (R : Run) (L : Laws R) (t l g : List ℕ) (K : Cols R t l g) where
       chan = λ p q hp hq. rw (getD-set-other b (currentBase + z) (takeBase + (64 * p + q)) (getD l (4 * e) 0) 0 (λ q. omega arith), getD-set-other b (currentBase + z) (putBase + (64 * p + q)) (getD l (4 * e) 0) 0 (λ q. omega arith))
           (w .chan p q hp hq);
       num = λ y hy. getD-set-other b (currentBase + z) y _ 0 (λ q. omega arith) ∙ w .num y hy;
-      val = λ y hy. getD-set-other b (currentBase + z) (takenBase + y) _ 0 (λ q. omega arith) ∙ w .val y hy;
-      gap = λ y h₁ h₂. getD-set-other b (currentBase + z) y _ 0 (λ q. omega arith) ∙ w .gap y h₁ h₂;
+      val = λ x y hx hy. getD-set-other b (currentBase + z) (takenBase x + y) _ 0 (λ q. omega arith) ∙ w .val x y hx hy;
       beyond = λ y h₁. getD-set-other b (currentBase + z) y _ 0 (λ q. omega arith) ∙ w .beyond y h₁;
     }
 
@@ -195,7 +195,6 @@ module _ (R : Run) (L : Laws R) (t l g : List ℕ) (K : Cols R t l g) where
           chan = λ p q hp hq. chan-same s (moved R s z es) p q _ _ refl refl (ahead-put R s z e es h p q (λ j. rw k)) (r .chan p q hp hq);
           num = r .num;
           val = r .val;
-          gap = r .gap;
           beyond = r .beyond;
         })
 
@@ -230,8 +229,7 @@ module _ (R : Run) (L : Laws R) (t l g : List ℕ) (K : Cols R t l g) where
               chan-same s u p q₂ _ _ (rw (c, d) n) refl (rw (ez, m, ahead-send R p q₂ e es sd, dd)) (r .chan p q₂ hp hq))
               (λ c. chan-same s u p q₂ _ _ (rw c) refl (ahead-put R s z e es h p q₂ (λ j. rw k (rw (eq-eqb p z j) at c))) (r .chan p q₂ hp hq)));
           num = λ y hy. far y (λ q. omega arith) (λ q. omega arith) ∙ r .num y hy;
-          val = λ y hy. far (takenBase + y) (λ q. omega arith) (λ q. omega arith) ∙ r .val y hy;
-          gap = λ y h₁ h₂. far y (λ q. omega arith) (λ q. omega arith) ∙ r .gap y h₁ h₂;
+          val = λ w y hw hy. far (takenBase w + y) (λ q. omega arith) (λ q. omega arith) ∙ r .val w y hw hy;
           beyond = λ y h₁. far y (λ q. omega arith) (λ q. omega arith) ∙ r .beyond y h₁;
         })
 
@@ -264,8 +262,7 @@ module _ (R : Run) (L : Laws R) (t l g : List ℕ) (K : Cols R t l g) where
               (λ c. rw (far (takeBase + (64 * p + q₂)) (λ q. omega arith), far (putBase + (64 * p + q₂)) (λ w. one-channel p q₂ z q hq₂ hq c (omega arith)))
               (chan-same s u p q₂ _ _ (rw c) refl (ahead-put R s z e es h p q₂ (λ j. rw k (rw (eq-eqb p z j) at c))) (r .chan p q₂ hp hq₂)));
           num = λ y hy. far y (λ q. omega arith) ∙ r .num y hy;
-          val = λ y hy. far (takenBase + y) (λ q. omega arith) ∙ r .val y hy;
-          gap = λ y h₁ h₂. far y (λ q. omega arith) ∙ r .gap y h₁ h₂;
+          val = λ w y hw hy. far (takenBase w + y) (λ q. omega arith) ∙ r .val w y hw hy;
           beyond = λ y h₁. far y (λ q. omega arith) ∙ r .beyond y h₁;
         })
 
@@ -323,55 +320,52 @@ module _ (R : Run) (L : Laws R) (t l g : List ℕ) (K : Cols R t l g) where
         let ad : at (R .trace) d ≡ p = sb .0 in
         let kd : kind (R .trace) d ≡ send z = sb .1 in
         let nd : numberW t (takeW a c₀) ≡ m = ap (numberW t) (full .is-first) ∙ (told R t l g K) .numbers d z (full .first-pos) (full .first-le) kd ∙ ap (λ x. sent (R .trace) x z d) ad ∙ full .first-sent in
-        let vd : valueW t (takeW a c₀) ≡ value (R .trace) p z m =
-        ap (valueW t) (full .is-first) ∙ (told R t l g K) .values d z (full .first-pos) (full .first-le) kd ∙ ap (λ x. value (R .trace) x z (sent (R .trace) x z d)) ad ∙ ap (value (R .trace) p z) (full .first-sent) in
+        let vd : (w : ℕ) → w < 2 → valueW w t (takeW a c₀) ≡ half w (value (R .trace) p z m) =
+        λ w hw. ap (valueW w t) (full .is-first) ∙ (told R t l g K) .values w d z hw (full .first-pos) (full .first-le) kd ∙ ap (λ x. half w (value (R .trace) x z (sent (R .trace) x z d))) ad ∙ ap (λ k. half w (value (R .trace) p z k)) (full .first-sent) in
         let v = getD l (4 * takeW a c₀ + 1) 0 in
         let a₁ = set a (takeBase + c₀) v in
-        let a₂ = set a₁ e (numberW t (takeW a c₀)) in
-        let b = set a₂ (takenBase + e) (valueW t (takeW a c₀)) in
+        let b = notedW t a₁ e (takeW a c₀) in
         let l₁ : length a₁ ≡ length a = length-set a (takeBase + c₀) v in
-        let l₂ : length a₂ ≡ length a = length-set a₁ e (numberW t (takeW a c₀)) ∙ l₁ in
+        let room₁ : recordEnd ≤ length a₁ = omega (arith, l₁, r .room) in
         let e-lt : e < 2049 = omega (arith, n .1, (told R t l g K) .few) in
-        let far : (x : ℕ) → x ≢ takeBase + c₀ → x ≢ e → x ≢ takenBase + e → getD b x 0 ≡ getD a x 0 =
-        λ x f g₁ h₁. getD-set-other a₂ (takenBase + e) x _ 0 h₁ ∙ getD-set-other a₁ e x _ 0 g₁ ∙ getD-set-other a (takeBase + c₀) x v 0 f in
+        let far : (x : ℕ) → x ≢ takeBase + c₀ → x ≢ e → ((w : ℕ) → w < 2 → x ≢ takenBase w + e) → getD b x 0 ≡ getD a x 0 =
+        λ x f g₁ h₁. noted-other t a₁ e (takeW a c₀) x g₁ h₁ ∙ getD-set-other a (takeBase + c₀) x v 0 f in
         let no : orph R z e ≡ false = rw k in
         let gl = got-length p k in
         let gl₂ : length (s .got p z) ≡ rcvd (R .trace) p z e - 1 = omega (arith, gl) in
         let in-e : (ltb 0 e && leb e (size (R .trace))) ≡ true = rw (lt-ltb 0 e (n .0), le-leb e (size (R .trace)) (n .1)) in
         let vs = rw gl₂ at (last-mapped (value (R .trace) p z) (s .got p z) m) in
-        rel-move b u refl (λ y hy. far (currentBase + y) (λ q. omega arith) (λ q. omega arith) (λ q. omega arith)) (record {
-          room = rw (length-set, length-set, length-set) (r .room);
-          orp = λ y hy. far (orphanBase + y) (λ q. omega arith) (λ q. omega arith) (λ q. omega arith) ∙ r .orp y hy ∙ ap head0 (sym (orp-skip s i z e es h no y));
-          low = λ x hx. ready-skip s u i z e es h no refl x ∙ r .low x hx ∙ ap (ltb x) (sym (far lowPlace (λ q. omega arith) (λ q. omega arith) (λ q. omega arith)));
+        rel-move b u refl (λ y hy. far (currentBase + y) (λ q. omega arith) (λ q. omega arith) (λ w hw q. omega arith)) (record {
+          room = rw (length-noted t a₁ e (takeW a c₀), l₁) (r .room);
+          orp = λ y hy. far (orphanBase + y) (λ q. omega arith) (λ q. omega arith) (λ w hw q. omega arith) ∙ r .orp y hy ∙ ap head0 (sym (orp-skip s i z e es h no y));
+          low = λ x hx. ready-skip s u i z e es h no refl x ∙ r .low x hx ∙ ap (ltb x) (sym (far lowPlace (λ q. omega arith) (λ q. omega arith) (λ w hw q. omega arith)));
           chan = λ p₂ q hp₂ hq. by (eqb p₂ p && eqb q z)
               (λ c. let f = same2 p₂ p q z c in
               subst (λ x. Chan R u x q (takeW b (64 * x + q)) (putW b (64 * x + q))) (sym (f .0))
               (subst (λ y. Chan R u p y (takeW b (64 * p + y)) (putW b (64 * p + y))) (sym (f .1))
               (rw (
-                far (putBase + c₀) (λ q. omega arith) (λ q. omega arith) (λ q. omega arith),
-                getD-set-other a₂ (takenBase + e) (takeBase + c₀) (valueW t (takeW a c₀)) 0 (λ q. omega arith),
-                getD-set-other a₁ e (takeBase + c₀) (numberW t (takeW a c₀)) 0 (λ q. omega arith),
+                far (putBase + c₀) (λ q. omega arith) (λ q. omega arith) (λ w hw q. omega arith),
+                noted-other t a₁ e (takeW a c₀) (takeBase + c₀) (λ q. omega arith) (λ w hw q. omega arith),
                 getD-set-same a (takeBase + c₀) v 0 (omega (arith, r .room)),
               )
               (chan-take s u i p z (takeW a c₀) (putW a c₀) m ms (r .chan p z hp hz) cm
               (rw (eqb-self p, eqb-self z)) refl (ahead-put R s z e es h p z (λ j. rw k))))))
-              (λ c. rw (far (takeBase + (64 * p₂ + q)) (λ w. one-channel p₂ q p z hq hz c (omega arith)) (λ q. omega arith) (λ q. omega arith), far (putBase + (64 * p₂ + q)) (λ q. omega arith) (λ q. omega arith) (λ q. omega arith))
+              (λ c. rw (far (takeBase + (64 * p₂ + q)) (λ w. one-channel p₂ q p z hq hz c (omega arith)) (λ q. omega arith) (λ w hw q. omega arith), far (putBase + (64 * p₂ + q)) (λ q. omega arith) (λ q. omega arith) (λ w hw q. omega arith))
               (chan-same s u p₂ q _ _ (rw c) refl (ahead-put R s z e es h p₂ q (λ j. rw k)) (r .chan p₂ q hp₂ hq)));
           num = λ y hy. by (eqb y e)
               (λ f. let j : y ≡ e = eqb-true y e f in
               rw (j, in-e, k, n .2, eqb-self p, eqb-self z)
-              (getD-set-other a₂ (takenBase + e) e (valueW t (takeW a c₀)) 0 (λ q. omega arith) ∙ getD-set-same a₁ e (numberW t (takeW a c₀)) 0 (omega (arith, l₁, r .room)) ∙ nd
+              (noted-number t a₁ e (takeW a c₀) room₁ e-lt ∙ nd
               ∙ sym (getD-at (s .got p z) m [] 0 (rcvd (R .trace) p z e - 1) gl₂)))
               (λ f. let ne : y ≢ e = eqb-false y e f in
-              far y (λ q. omega arith) ne (λ q. omega arith) ∙ r .num y hy ∙ in-range y (λ hy₀. (slot-same p m y k hy₀ ne) .0));
-          val = λ y hy. by (eqb y e)
+              far y (λ q. omega arith) ne (λ w hw q. omega arith) ∙ r .num y hy ∙ in-range y (λ hy₀. (slot-same p m y k hy₀ ne) .0));
+          val = λ w y hw hy. by (eqb y e)
               (λ f. let j : y ≡ e = eqb-true y e f in
               rw (j, in-e, k, n .2, eqb-self p, eqb-self z)
-              (getD-set-same a₂ (takenBase + e) (valueW t (takeW a c₀)) 0 (omega (arith, l₂, r .room)) ∙ vd ∙ sym vs))
+              (noted-value t a₁ e (takeW a c₀) room₁ e-lt w hw ∙ vd w hw ∙ ap (half w) (sym vs)))
               (λ f. let ne : y ≢ e = eqb-false y e f in
-              far (takenBase + y) (λ q. omega arith) (λ q. omega arith) (λ q. ne (omega arith)) ∙ r .val y hy ∙ in-range y (λ hy₀. (slot-same p m y k hy₀ ne) .1));
-          gap = λ y h₁ h₂. far y (λ q. omega arith) (λ q. omega arith) (λ q. omega arith) ∙ r .gap y h₁ h₂;
-          beyond = λ y h₁. far y (λ q. omega arith) (λ q. omega arith) (λ q. omega arith) ∙ r .beyond y h₁;
+              far (takenBase w + y) (λ q. omega arith) (λ q. omega arith) (λ x hx q. ne (omega arith)) ∙ r .val w y hw hy ∙ ap (half w) (in-range y (λ hy₀. (slot-same p m y k hy₀ ne) .1)));
+          beyond = λ y h₁. far y (λ q. omega arith) (λ q. omega arith) (λ w hw q. omega arith) ∙ r .beyond y h₁;
         })
       where
         in-range : (y : ℕ) {c d : ℕ} → (0 < y → d ≡ c) → cond (ltb 0 y && leb y (size (R .trace))) c 0 ≡ cond (ltb 0 y && leb y (size (R .trace))) d 0
@@ -402,7 +396,6 @@ module _ (R : Run) (L : Laws R) (t l g : List ℕ) (K : Cols R t l g) where
             (λ c. rw (far (takeBase + (64 * p₂ + q₂)) (λ q. omega arith), far (putBase + (64 * p₂ + q₂)) (λ w. one-channel p₂ q₂ p q hq₂ hq c (omega arith)))
             (chan-same s u p₂ q₂ _ _ (rw c) (rw c) refl (r .chan p₂ q₂ hp₂ hq₂)));
         num = λ y hy. far y (λ q. omega arith) ∙ r .num y hy;
-        val = λ y hy. far (takenBase + y) (λ q. omega arith) ∙ r .val y hy;
-        gap = λ y h₁ h₂. far y (λ q. omega arith) ∙ r .gap y h₁ h₂;
+        val = λ w y hw hy. far (takenBase w + y) (λ q. omega arith) ∙ r .val w y hw hy;
         beyond = λ y h₁. far y (λ q. omega arith) ∙ r .beyond y h₁;
       }

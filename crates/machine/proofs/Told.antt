@@ -2,8 +2,9 @@
 -- gates.
 use mathlib.Core.Path.{_≡_, refl, sym, _∙_}
 use mathlib.Core.List.{List}
-use Prim.Native.Nat.{ℕ, _-_, _≤_, _<_}
+use Prim.Native.Nat.{ℕ, _≤_, _<_}
 use native.Mathlib.Omega.{arith}
+use Rattle.words.specs.Halves.{half}
 use Rattle.theory.specs.Events.{send, size, at, kind, sent, value}
 use Rattle.theory.specs.Line.{Run}
 use Rattle.theory.specs.Replay.{gate}
@@ -21,8 +22,8 @@ pub record Told (R : Run) (t g : List ℕ) : Type 0 where
   pub procs-is : procsW t ≡ R .trace .procs
   pub kinds : (e : ℕ) → 0 < e → e ≤ size (R .trace) → kind (R .trace) e ≡ kindBy (kindW t e) (peerW t e)
   pub numbers : (e q : ℕ) → 0 < e → e ≤ size (R .trace) → kind (R .trace) e ≡ send q → numberW t e ≡ sent (R .trace) (at (R .trace) e) q e
-  pub values : (e q : ℕ) → 0 < e → e ≤ size (R .trace) → kind (R .trace) e ≡ send q
-      → valueW t e ≡ value (R .trace) (at (R .trace) e) q (sent (R .trace) (at (R .trace) e) q e)
+  pub values : (b e q : ℕ) → b < 2 → 0 < e → e ≤ size (R .trace) → kind (R .trace) e ≡ send q
+      → valueW b t e ≡ half b (value (R .trace) (at (R .trace) e) q (sent (R .trace) (at (R .trace) e) q e))
   pub phases : (e : ℕ) → 0 < e → e ≤ size (R .trace) → phaseW t e ≡ R .phase (at (R .trace) e) e
   pub phase-lt : (e : ℕ) → 0 < e → e ≤ size (R .trace) → R .phase (at (R .trace) e) e < noPhase
   pub gated : Gated R g
@@ -46,7 +47,7 @@ module _ (R : Run) (t g : List ℕ) (T : Tells R t) (G : Gated R g) where
         procs-is = view.procs-is (R .trace) t (T .tabled);
         kinds = view.kind-is (R .trace) t (T .tabled);
         numbers = λ e q h k c. C .number-send (at (R .trace) e) q e (sends-of (R .trace) (at (R .trace) e) q e refl c) h k;
-        values = λ e q h k c. view.send-value (R .trace) t (T .tabled) (at (R .trace) e) q e (sends-of (R .trace) (at (R .trace) e) q e refl c) h k;
+        values = λ b e q l h k c. view.send-value (R .trace) t (T .tabled) (at (R .trace) e) q e (sends-of (R .trace) (at (R .trace) e) q e refl c) h k b l;
         phases = λ e h k. C .phase e h k ∙ sym (T .phases (at (R .trace) e) e);
         phase-lt = λ e h k. phase-few (at (R .trace) e) e k;
         gated = G;

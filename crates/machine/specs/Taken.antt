@@ -1,21 +1,21 @@
 -- What the receives of a replay have taken, as the run area has it.
 use mathlib.Core.Bool.{_&&_, cond}
 use mathlib.Core.List.{List, map}
-use Prim.Native.Nat.{ℕ, _-_}
+use Prim.Native.Nat.{ℕ, _+_, _-_, _*_}
 use lib.ListN.{getD}
 use lib.Dec.{ltb, leb}
 use Rattle.theory.specs.Events.{Kind, send, recv, other, size, at, kind, rcvd, value}
 use Rattle.theory.specs.Line.{Run}
 use Rattle.theory.specs.Replay.{State}
 
--- The run area: word e the number of the message that receive e took, word takenBase + e its value; then working words,
--- zero again at the end.
-abbrev pub takenBase : ℕ
-takenBase = 2049
+-- The run area: word e the number of the message that receive e took, word `takenBase b + e` half b of its value; then
+-- working words, zero again at the end.
+abbrev pub takenBase : ℕ → ℕ
+takenBase b = 2049 + 2049 * b
 
 -- where the words of the record end
 abbrev pub recordEnd : ℕ
-recordEnd = 4098
+recordEnd = 6147
 
 module _ (R : Run) where
   -- what the receive e has taken: number and value, or 0

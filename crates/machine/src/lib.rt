@@ -1,22 +1,30 @@
 // The state of a replay in words, and which choices are allowed in it. Every message is its send event, every queue the
 // stretch between two pointers into events, so a test costs the same however long the run is. Tests write nothing; what
-// a choice does is in crate moves. specs/Inner/Words says what tests and steps do with words, specs/Inner/Related how
-// words stand for a state of the theory's machine; proofs/Choices that the two agree choice by choice. Assumes nothing.
+// a choice does is in crate moves, and `note_taken` is here for the two that put a message on record. specs/Inner/Words
+// says what tests and steps do with words, specs/Inner/Related how words stand for a state of the theory's machine;
+// proofs/Choices that the two agree choice by choice. Assumes nothing.
 ghost use mathlib.Core.Path.{_≡_};
 ghost use Prim.Native.Nat.{_≤_, _<_};
-ghost use lib.ListN.{getD};
-ghost use Rattle.machine.specs.Inner.Words.{currentBase, lowPlace, sendOk, eventOk, processOk, handOk, allowedW, lesser, leastWith, lowOf, noneFrom, keptPhase};
+ghost use lib.ListN.{length, getD};
+ghost use Rattle.words.specs.Area.{areaWords};
+ghost use Rattle.machine.specs.Inner.Words.{currentBase, lowPlace, sendOk, eventOk, processOk, handOk, allowedW, lesser, leastWith, lowOf, notedW, noneFrom, keptPhase};
 ghost use Rattle.machine.specs.Inner.Shapes.{FullLong, Pointed, Ranged, Readable};
+use columns::NUMBER_BASE;
 use columns::PHASE_BASE;
 use columns::RESTART_BASE;
 use trace::EVENT_BASE;
+use trace::HIGH_BASE;
 use trace::RECEIVE;
 use trace::SEND;
+use trace::VALUE_BASE;
 
-// Words of the run area. Word e is the number of the message that receive e took, word TAKEN_BASE + e its value; the
-// working words come after: of each process its next event and the send of its next orphan, of each channel the send of
-// its next message to take and of its next message to put in, and the least phase of an orphan that is not sent again.
+// Words of the run area. Word e is the number of the message that receive e took, word TAKEN_BASE + e the low half of
+// its value, word TAKEN_HIGH_BASE + e the high half; the working words come after: of each process its next event and
+// the send of its next orphan, of each channel the send of its next message to take and of its next message to put in,
+// and the least phase of an orphan that is not sent again.
 pub const TAKEN_BASE: usize = 2049;
+
+pub const TAKEN_HIGH_BASE: usize = 4098;
 
 pub const CURRENT_BASE: usize = 6147;
 
@@ -44,6 +52,16 @@ pub fn pointer(area: &[u32], k: usize) -> usize
     ensures bound { λ r. ⌜ r < 2049 ⌝ }
 {
     area[k] as usize
+}
+
+// The receive e takes the message that event m sends: its number and both halves of its value go on record.
+pub fn note_taken(full: &[u32], area: &mut [u32], e: usize, m: usize)
+    requires { ⌜ (e < 2049) × (m < 2049) × FullLong (now full) × (length (now area) ≡ areaWords) ⌝ }
+    ensures { λ _. ⌜ now (area .exit) ≡ notedW (now (full .entry)) (now (area .entry)) e m ⌝ }
+{
+    area[e] = full[NUMBER_BASE + m];
+    area[TAKEN_BASE + e] = full[VALUE_BASE + m];
+    area[TAKEN_HIGH_BASE + e] = full[HIGH_BASE + m];
 }
 
 // Is no kept message left on a channel whose next message to put in is sent by event m, and whose sender restarts after

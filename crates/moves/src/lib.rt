@@ -5,7 +5,6 @@ ghost use Prim.Native.Nat.{_≤_, _<_};
 ghost use lib.ListN.{length};
 ghost use Rattle.machine.specs.Inner.Words.{lowOf, dropW, putInW, takeOutW, eventStepW, processW, applyW};
 ghost use Rattle.machine.specs.Inner.Shapes.{Pointed, Ranged, Movable};
-use columns::NUMBER_BASE;
 use machine::CURRENT_BASE;
 use machine::HANDS;
 use machine::LOW_PLACE;
@@ -13,11 +12,9 @@ use machine::NO_PHASE;
 use machine::ORPHAN_BASE;
 use machine::PUT_BASE;
 use machine::TAKE_BASE;
-use machine::TAKEN_BASE;
 use trace::EVENT_BASE;
 use trace::RECEIVE;
 use trace::SEND;
-use trace::VALUE_BASE;
 
 // The least phase of an orphan that is not sent again, where none is below the one given: an orphan of that phase is
 // looked for from one process on, before all are looked at.
@@ -51,15 +48,14 @@ pub fn put_in(links: &[u16], area: &mut [u32], c: usize)
     area[PUT_BASE + c] = linked(links[4 * m + 1]);
 }
 
-// The receive e takes the oldest message of channel c: its number and value go on record.
+// The receive e takes the oldest message of channel c, which goes on record.
 fn take_out(full: &[u32], links: &[u16], area: &mut [u32], c: usize, e: usize)
     requires { ⌜ (c < 4096) × (e < 2049) × Movable (now full) (now links) (now area) ⌝ }
     ensures { λ _. ⌜ now (area .exit) ≡ takeOutW (now (full .entry)) (now (links .entry)) (now (area .entry)) c e ⌝ }
 {
     let m = machine::pointer(area, TAKE_BASE + c);
     area[TAKE_BASE + c] = linked(links[4 * m + 1]);
-    area[e] = full[NUMBER_BASE + m];
-    area[TAKEN_BASE + e] = full[VALUE_BASE + m];
+    machine::note_taken(full, area, e, m);
 }
 
 // The send e of process z is an orphan's: its message is dropped, and counts as sent again. No orphan has a phase below

@@ -30,9 +30,9 @@ matchBase = 12310
 abbrev pub loggedBase : ℕ
 loggedBase = 6163
 
--- the words up to here are those of the trace; the words between them and the first column are free
+-- the words up to here are those of the trace
 abbrev pub traceWords : ℕ
-traceWords = 4114
+traceWords = 6163
 
 -- how many words there are: it is no lent area, and has a size of its own
 abbrev pub fullWords : ℕ
@@ -62,8 +62,6 @@ pub record Others (t : Trace) (x : ℕ) (before after : List ℕ) : Type 0 where
   -- a checkpoint has no message
   pub number-checkpoint : (z e : ℕ) → checkpoints t z e ≡ true → 0 < e → e ≤ x → getD after (numberBase + e) 0 ≡ 0
   pub match-checkpoint : (z e : ℕ) → checkpoints t z e ≡ true → 0 < e → e ≤ x → getD after (matchBase + e) 0 ≡ 0
-  -- the free words are as they were
-  pub free : (k : ℕ) → traceWords ≤ k → k < numberBase → getD after k 0 ≡ getD before k 0
   -- there is no event 0; its word is 0, and a channel's first message gets one more
   pub number-none : getD after numberBase 0 ≡ 0
   -- the others are as they were: in each column those after event x, up to the next column's event 0

@@ -16,7 +16,7 @@ procsW t = getD t 0 0
 abbrev pub eventsW : List ℕ → ℕ
 eventsW t = getD t 1 0
 
--- of event e: its word, its kind (1 send, 2 receive, 3 checkpoint), its process, its peer, its value
+-- of event e: its word, its kind (1 send, 2 receive, 3 checkpoint), its process, its peer, half b of its value
 abbrev pub eventW : List ℕ → ℕ → ℕ
 eventW t e = getD t (eventBase + e) 0
 
@@ -29,8 +29,8 @@ atW t e = processIn (eventW t e)
 abbrev pub peerW : List ℕ → ℕ → ℕ
 peerW t e = peerIn (eventW t e)
 
-abbrev pub valueW : List ℕ → ℕ → ℕ
-valueW t e = getD t (valueBase + e) 0
+abbrev pub valueW : ℕ → List ℕ → ℕ → ℕ
+valueW b t e = getD t (valueBase b + e) 0
 
 -- of a send: the number of its message; of any event: its epoch and its phase, the event that it is matched with
 abbrev pub numberW : List ℕ → ℕ → ℕ

@@ -1,7 +1,7 @@
 -- `links::link_event` meets its contract: its process's chain or the record, and what it sends.
 use mathlib.Core.Path.{refl, sym, _∙_}
 use borrow.Author.Tests.{lt-ltb, le-ltb, eqb-true}
-use Rattle.links.proofs.Passing.{pointed-next, linked-l, linked-a, chain-no, chain-none, early-listed, early-other}
+use Rattle.links.proofs.Passing.{pointed-next, linked-l, linked-a, chain-no, record-none, early-listed, early-other}
 use native.Mathlib.Omega.{arith}
 use borrow.Author.Needs.{needs}
 use Rattle.links.proofs.link_event.Statement.{statement}
@@ -59,7 +59,7 @@ returns c =
     let chain = c .before .before .before .before .before .before .before .before .before .before .before .before .before .chain in
     let class-sent = c .before .before .before .before .before .before .before .before .class-sent in
     let link-sent = c .before .before .before .before .link-sent in
-    (linked-l (args .full .now) (args .gates .now) (args .cut) (args .links .now) (args .area .now) (args .e) _ _ _ _ _ _ _ (process .ensures .0) (peer .ensures .0) (wide .ensures) (lt-ltb _ _ (if1 .taken)) (chain .ensures .0) (chain .ensures .1) (class-sent .ensures) _ (link-sent .ensures .0), linked-a (args .full .now) (args .gates .now) (args .cut) (args .links .now) (args .area .now) (args .e) _ _ _ _ _ _ _ (process .ensures .0) (peer .ensures .0) (wide .ensures) (lt-ltb _ _ (if1 .taken)) (chain .ensures .0) (chain .ensures .1) (class-sent .ensures) _ _ _ (early-listed _ _ _ _ _ (process .ensures .0) (wide .ensures) (if1 .taken)) (link-sent .ensures .1) (chain-none _ _ _ _ _))
+    (linked-l (args .full .now) (args .gates .now) (args .cut) (args .links .now) (args .area .now) (args .e) _ _ _ _ _ _ _ (process .ensures .0) (peer .ensures .0) (wide .ensures) (lt-ltb _ _ (if1 .taken)) (chain .ensures .0) (chain .ensures .1) (class-sent .ensures) _ (link-sent .ensures .0), linked-a (args .full .now) (args .gates .now) (args .cut) (args .links .now) (args .area .now) (args .e) _ _ _ _ _ _ _ (process .ensures .0) (peer .ensures .0) (wide .ensures) (lt-ltb _ _ (if1 .taken)) (chain .ensures .0) (chain .ensures .1) (class-sent .ensures) _ _ _ (early-listed _ _ _ _ _ (process .ensures .0) (wide .ensures) (if1 .taken)) (link-sent .ensures .1) (record-none _ _ _ _))
 
 returns-2 : tie.Need-returns-2
 returns-2 c =

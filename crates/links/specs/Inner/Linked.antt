@@ -6,12 +6,13 @@ use mathlib.Core.List.{List}
 use Prim.Native.Nat.{ℕ, _+_, _-_, _*_, _≤_, _<_}
 use lib.ListN.{length, getD}
 use lib.Dec.{ltb, eqb}
+use Rattle.words.specs.Halves.{half}
 use Rattle.theory.specs.Lists.{iv, keep}
 use Rattle.theory.specs.Events.{size, at}
 use Rattle.theory.specs.Line.{Run}
 use Rattle.theory.specs.Replay.{start}
-use Rattle.machine.specs.Taken.{takenBase, recordEnd, takenNumber, takenValue}
-use Rattle.machine.specs.Inner.Words.{currentBase, lowPlace, curW, orpW, takeW, putW, Small}
+use Rattle.machine.specs.Taken.{takenBase, takenNumber, takenValue}
+use Rattle.machine.specs.Inner.Words.{lowPlace, curW, orpW, takeW, putW, Small}
 use Rattle.theory.specs.Inner.Lists.{head0}
 use Rattle.machine.specs.Inner.Related.{goes, evs, orph}
 
@@ -36,7 +37,6 @@ module _ (R : Run) where
     pub next-orphan : (e : ℕ) → x < e → e ≤ size (R .trace) → (mine (at (R .trace) e) e && orph R (at (R .trace) e) e) ≡ true
         → getD l (4 * e + 2) 0 ≡ head0 (rest (λ d. mine (at (R .trace) e) d && orph R (at (R .trace) e) d) e)
     pub num : (e : ℕ) → e < 2049 → getD a e 0 ≡ cond (ltb x e) (takenNumber R (start R) e) 0
-    pub val : (e : ℕ) → e < 2049 → getD a (takenBase + e) 0 ≡ cond (ltb x e) (takenValue R (start R) e) 0
-    pub gap : (k : ℕ) → recordEnd ≤ k → k < currentBase → getD a k 0 ≡ 0
+    pub val : (b e : ℕ) → b < 2 → e < 2049 → getD a (takenBase b + e) 0 ≡ half b (cond (ltb x e) (takenValue R (start R) e) 0)
     pub beyond : (k : ℕ) → lowPlace < k → getD a k 0 ≡ 0
     pub small : Small l

@@ -6,9 +6,8 @@ use mathlib.Core.List.{List}
 use Prim.Native.Nat.{ℕ, zero, suc, _+_, _-_, _*_}
 use lib.ListN.{getD, set}
 use lib.Dec.{leb, ltb, eqb}
-use Rattle.machine.specs.Taken.{takenBase}
-use Rattle.machine.specs.Inner.Words.{currentBase, orphanBase, takeBase, putBase, lowPlace, curW, orpW, putW, lowOf}
-use Rattle.columns.specs.Inner.Full.{kindW, peerW, valueW, numberW, atW, matchW}
+use Rattle.machine.specs.Inner.Words.{currentBase, orphanBase, takeBase, putBase, lowPlace, curW, orpW, putW, lowOf, notedW}
+use Rattle.columns.specs.Inner.Full.{kindW, peerW, atW, matchW}
 use Rattle.classes.specs.Inner.Words.{classW}
 
 -- event e is after the restart of its process
@@ -39,6 +38,10 @@ earlyW t g e = cond (eqb (kindW t e) 2) (leb e (getD g (64 + atW t e) 0)) false
 unfoldable pub chainA : Bool → List ℕ → ℕ → ℕ → List ℕ
 chainA b a k v = cond b (set a k v) a
 
+-- the message that event m sends on record as taken by receive e, where a test holds
+unfoldable pub recordA : Bool → List ℕ → List ℕ → ℕ → ℕ → List ℕ
+recordA b t a e m = cond b (notedW t a e m) a
+
 -- the links and the run area with event e of process z on channel c, by the class of the message that it sends
 unfoldable pub sentL : List ℕ → List ℕ → ℕ → ℕ → ℕ → ℕ → List ℕ
 sentL l a z c e class = chainA (goesClass class) (chainA (eqb class 1) l (4 * e + 2) (orpW a z)) (4 * e + 1) (putW a c)
@@ -55,11 +58,11 @@ linkL t g cut l a e =
 
 unfoldable pub linkA : List ℕ → List ℕ → ℕ → List ℕ → ℕ → List ℕ
 linkA t g cut a e =
-    chainA (earlyW t g e) (chainA (earlyW t g e)
+    recordA (earlyW t g e) t
     (chainA (goesW t g cut e) (chainA (goesW t g cut e)
     (chainA (orphanW t g cut e) (chainA (mineW t g e) a (currentBase + atW t e) e) (orphanBase + atW t e) e)
     (putBase + (64 * atW t e + peerW t e)) e) (takeBase + (64 * atW t e + peerW t e)) e)
-    e (numberW t (matchW t e))) (takenBase + e) (valueW t (matchW t e))
+    e (matchW t e)
 
 -- the run area and the links after the last d of n events
 unfoldable pub linkedA : List ℕ → List ℕ → ℕ → ℕ → ℕ → List ℕ → List ℕ

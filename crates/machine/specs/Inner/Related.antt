@@ -5,14 +5,15 @@ use mathlib.Core.List.{List, _++_, map}
 use Prim.Native.Nat.{ℕ, _+_, _-_, _*_, _≤_, _<_}
 use lib.ListN.{length, getD}
 use lib.Dec.{leb, ltb}
+use Rattle.words.specs.Halves.{half}
 use Rattle.theory.specs.Lists.{iv, keep}
 use Rattle.theory.specs.Events.{Kind, send, recv, other, size, at, kind, sends, sent, rcvd}
 use Rattle.theory.specs.Line.{Run, kept}
 use Rattle.theory.specs.Replay.{State, listed, ready, start}
 use Rattle.theory.specs.Inner.Laws.{Laws}
 use Rattle.theory.specs.Inner.Flow.{ahead}
-use Rattle.machine.specs.Taken.{takenBase, recordEnd, takenNumber, takenValue}
-use Rattle.machine.specs.Inner.Words.{currentBase, lowPlace, noPhase, curW, orpW, takeW, putW, lowW}
+use Rattle.machine.specs.Taken.{takenBase, takenNumber, takenValue}
+use Rattle.machine.specs.Inner.Words.{lowPlace, noPhase, curW, orpW, takeW, putW, lowW}
 use Rattle.columns.specs.Inner.Given.{Tells, Gated}
 use Rattle.theory.specs.Inner.Lists.{head0}
 
@@ -68,8 +69,7 @@ module _ (R : Run) where
     pub low : (r : ℕ) → r < noPhase → ready R s r ≡ ltb r (lowW a)
     pub chan : (p q : ℕ) → p < 64 → q < 64 → Chan s p q (takeW a (64 * p + q)) (putW a (64 * p + q))
     pub num : (e : ℕ) → e < 2049 → getD a e 0 ≡ takenNumber R s e
-    pub val : (e : ℕ) → e < 2049 → getD a (takenBase + e) 0 ≡ takenValue R s e
-    pub gap : (k : ℕ) → recordEnd ≤ k → k < currentBase → getD a k 0 ≡ 0
+    pub val : (b e : ℕ) → b < 2 → e < 2049 → getD a (takenBase b + e) 0 ≡ half b (takenValue R s e)
     pub beyond : (k : ℕ) → lowPlace < k → getD a k 0 ≡ 0
 
   -- what a replay begins with

@@ -86,9 +86,12 @@ dropW t l a z e = set (set a (orphanBase + z) (getD l (4 * e + 2) 0)) lowPlace (
 unfoldable pub putInW : List ℕ → List ℕ → ℕ → List ℕ
 putInW l a c = set a (putBase + c) (getD l (4 * putW a c + 1) 0)
 
+-- the receive e takes the message that event m sends: its number and both halves of its value go on record
+unfoldable pub notedW : List ℕ → List ℕ → ℕ → ℕ → List ℕ
+notedW t a e m = set (set (set a e (numberW t m)) (takenBase 0 + e) (valueW 0 t m)) (takenBase 1 + e) (valueW 1 t m)
+
 unfoldable pub takeOutW : List ℕ → List ℕ → List ℕ → ℕ → ℕ → List ℕ
-takeOutW t l a c e =
-    set (set (set a (takeBase + c) (getD l (4 * takeW a c + 1) 0)) e (numberW t (takeW a c))) (takenBase + e) (valueW t (takeW a c))
+takeOutW t l a c e = notedW t (set a (takeBase + c) (getD l (4 * takeW a c + 1) 0)) e (takeW a c)
 
 unfoldable pub eventStepW : List ℕ → List ℕ → List ℕ → ℕ → ℕ → List ℕ
 eventStepW t l a z e =

@@ -1,25 +1,25 @@
--- `moves::take_out` meets its contract: the stores themselves.
-use native.Mathlib.Omega.{arith}
+-- `moves::take_out` meets its contract: the channel's next message, and the record.
+use mathlib.Core.Path.{_∙_}
 use lib.ListN.{length-set}
 use Rattle.machine.specs.Inner.Words.{takeOutW}
 use borrow.Author.Needs.{needs}
 use Rattle.moves.proofs.take_out.Statement.{statement}
 use Rattle.moves.proofs.take_out.Tie as tie
 
-slice-write-area-2 : tie.Need-slice-write-area-2
-slice-write-area-2 c = simp length-set (omega arith)
-
-slice-write-area-3 : tie.Need-slice-write-area-3
-slice-write-area-3 c = simp length-set (omega arith)
+same-length : tie.Need-same-length
+same-length c =
+    let note-taken = c .before .before .note-taken in
+    (note-taken .kept .1 .0) ∙ (simp length-set)
 
 returns : tie.Need-returns
 unfolding takeOutW
 returns c =
-    let linked = c .before .before .linked in
-    let pointer = c .before .before .before .before .pointer in
-    rw ((linked .ensures), (pointer .ensures .0))
+    let note-taken = c .before .before .note-taken in
+    let linked = c .before .before .before .before .linked in
+    let pointer = c .before .before .before .before .before .before .pointer in
+    (note-taken .ensures) ∙ rw ((linked .ensures), (pointer .ensures .0))
 
 pub take-out-spec : {M : Type 1} → statement M
 take-out-spec =
     tie.close
-    (tie.spec (λ c. search needs) (λ c κs. search needs) (λ c. search needs) (λ c. search needs) (λ c. search needs) (λ c. search needs) (λ c κs. search needs) (λ c. search needs) (λ c. search needs) (λ c. search needs) (λ c. search needs) (λ c. search needs) (λ c. search needs) (λ c. search needs) slice-write-area-2 (λ c. search needs) (λ c. search needs) (λ c. search needs) (λ c. search needs) (λ c. search needs) slice-write-area-3 (λ c. search needs) returns)
+    (tie.spec (λ c. search needs) (λ c κs. search needs) (λ c. search needs) (λ c. search needs) (λ c. search needs) (λ c. search needs) (λ c κs. search needs) (λ c. search needs) (λ c. search needs) (λ c. search needs) (λ c κs. search needs) same-length returns)
