@@ -43,34 +43,34 @@ module _ (t : Trace) (few : size t ≤ 2048) (before : List ℕ) where
 
   -- ---- A word of each plane
 
-  trace-word : (k : ℕ) → k < 4114 → getD table k 0 ≡ tableWord t k
+  trace-word : (k : ℕ) → k < 6163 → getD table k 0 ≡ tableWord t k
   unfolding fullWord
-  trace-word k h = at-place k (omega arith) ∙ rw (lt-ltb k 4114 h)
+  trace-word k h = at-place k (omega arith) ∙ rw (lt-ltb k 6163 h)
 
   none-word : getD table 6163 0 ≡ 0
   unfolding fullWord
   none-word = at-place 6163 (omega arith)
 
-  number-word : (k : ℕ) → 4114 ≤ k → (k ≡ 6163 → ⊥) → k ≤ 8212 → getD table k 0 ≡ columnWord t before 6163 numbers k
+  number-word : (k : ℕ) → 6163 < k → k ≤ 8212 → getD table k 0 ≡ columnWord t before 6163 numbers k
   unfolding fullWord
-  number-word k h n l = at-place k (omega arith) ∙ rw (le-ltb k 4114 h, ne-eqb k 6163 n, le-leb k 8212 l)
+  number-word k h l = at-place k (omega arith) ∙ rw (le-ltb k 6163 (omega arith), ne-eqb k 6163 (λ e. omega arith), le-leb k 8212 l)
 
   epoch-word : (k : ℕ) → 8212 < k → k ≤ 10261 → getD table k 0 ≡ columnWord t before 8212 epochs k
   unfolding fullWord
   epoch-word k h l =
-      at-place k (omega arith) ∙ rw (le-ltb k 4114 (omega arith), ne-eqb k 6163 (λ e. omega arith), lt-leb k 8212 h, le-leb k 10261 l)
+      at-place k (omega arith) ∙ rw (le-ltb k 6163 (omega arith), ne-eqb k 6163 (λ e. omega arith), lt-leb k 8212 h, le-leb k 10261 l)
 
   phase-word : (k : ℕ) → 10261 < k → k ≤ 12310 → getD table k 0 ≡ columnWord t before 10261 phases k
   unfolding fullWord
   phase-word k h l =
       at-place k (omega arith)
-      ∙ rw (le-ltb k 4114 (omega arith), ne-eqb k 6163 (λ e. omega arith), lt-leb k 8212 (omega arith), lt-leb k 10261 h, le-leb k 12310 l)
+      ∙ rw (le-ltb k 6163 (omega arith), ne-eqb k 6163 (λ e. omega arith), lt-leb k 8212 (omega arith), lt-leb k 10261 h, le-leb k 12310 l)
 
   match-word : (k : ℕ) → 12310 < k → k < 14359 → getD table k 0 ≡ columnWord t before 12310 matches k
   unfolding fullWord
   match-word k h l =
       at-place k l
-      ∙ rw (le-ltb k 4114 (omega arith), ne-eqb k 6163 (λ e. omega arith), lt-leb k 8212 (omega arith), lt-leb k 10261 (omega arith), lt-leb k 12310 h)
+      ∙ rw (le-ltb k 6163 (omega arith), ne-eqb k 6163 (λ e. omega arith), lt-leb k 8212 (omega arith), lt-leb k 10261 (omega arith), lt-leb k 12310 h)
 
   -- ---- A word of a column: of an event, or as it was
 
@@ -84,7 +84,7 @@ module _ (t : Trace) (few : size t ≤ 2048) (before : List ℕ) where
 
   number-of : (e : ℕ) (k : Kind) → kind t e ≡ k → 0 < e → e ≤ size t → getD table (6163 + e) 0 ≡ numberWord t e k
   number-of e k q h l =
-      number-word (6163 + e) (omega arith) (λ z. omega arith) (omega arith) ∙ of-event 6163 e numbers h l ∙ ap (numberWord t e) q
+      number-word (6163 + e) (omega arith) (omega arith) ∙ of-event 6163 e numbers h l ∙ ap (numberWord t e) q
 
   match-of : (e : ℕ) (k : Kind) → kind t e ≡ k → 0 < e → e ≤ size t → getD table (12310 + e) 0 ≡ matchWord t e k
   match-of e k q h l =
@@ -110,9 +110,8 @@ module _ (t : Trace) (few : size t ≤ 2048) (before : List ℕ) where
   table-others long = record {
     number-checkpoint = λ z e s h l. number-of e _ (checkpoints-is t z e s .1) h l;
     match-checkpoint = λ z e s h l. match-of e _ (checkpoints-is t z e s .1) h l;
-    free = λ k h m. number-word k h (λ z. omega arith) (omega arith) ∙ rw (le-ltb 6163 k (omega arith));
     number-none = none-word;
-    after-number = λ k h m. number-word k (omega arith) (λ z. omega arith) m ∙ as-was 6163 k numbers h;
+    after-number = λ k h m. number-word k (omega arith) m ∙ as-was 6163 k numbers h;
     after-epoch = λ k h m. epoch-word k (omega arith) m ∙ as-was 8212 k epochs h;
     after-phase = λ k h m. phase-word k (omega arith) m ∙ as-was 10261 k phases h;
     after-match = λ k h. by-lt k 14359

@@ -63,7 +63,7 @@ module _ (a : List ℕ) (h : holdsTrace a ≡ true) where
 
 -- ---- `tabulate`
 
-pub copied-filled : (a full : List ℕ) → holdsTrace a ≡ true → length full ≡ fullWords → ((k : ℕ) → k < 4114 → getD full k 0 ≡ getD a k 0)
+pub copied-filled : (a full : List ℕ) → holdsTrace a ≡ true → length full ≡ fullWords → ((k : ℕ) → k < 6163 → getD full k 0 ≡ getD a k 0)
     → Filled (held a) 0 (set full 6163 0)
 copied-filled a full h l c =
     begin-filled (held a) (set full 6163 0) (simp length-set l)

@@ -17,6 +17,7 @@ use columns::NUMBER_BASE;
 use columns::TRACE_WORDS;
 use columns::WORK_WORDS;
 use trace::EVENT_BASE;
+use trace::HIGH_BASE;
 use trace::VALUE_BASE;
 
 // Copies the first n words of an area.
@@ -56,12 +57,8 @@ fn fill(area: &[u32], full: &mut [u32], work: &mut [u16])
     let mut e: usize = 0;
     while e < n {
         e += 1;
-        columns::note(
-            full,
-            work,
-            e,
-            table::event(area[EVENT_BASE + e], area[VALUE_BASE + e]),
-        );
+        let value = words::from_halves(area[VALUE_BASE + e], area[HIGH_BASE + e]);
+        columns::note(full, work, e, table::event(area[EVENT_BASE + e], value));
     }
 }
 

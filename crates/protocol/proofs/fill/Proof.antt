@@ -33,54 +33,73 @@ add-e c =
     let loop = c .before .loop in
     omega (arith, (loop .inv .few))
 
+add-from-halves : tie.Need-add-from-halves Inv-loop μ-loop
+add-from-halves c =
+    let loop = c .before .loop in
+    omega (arith, (loop .inv) .few)
+
+mul-from-halves : tie.Need-mul-from-halves Inv-loop μ-loop
+mul-from-halves c =
+    let loop = c .before .loop in
+    omega (arith, (loop .inv) .few)
+
+shared-slice-read-from-halves : tie.Need-shared-slice-read-from-halves Inv-loop μ-loop
+shared-slice-read-from-halves c =
+    let loop = c .before .before .loop in
+    let args = c .before .before .before .before .before .before .before .args in
+    let pre = c .before .before .before .before .before .before .before .pre in
+    omega (arith, (loop .inv) .few, held-long ((args .area) .now) (pre .0))
+
+add-from-halves-2 : tie.Need-add-from-halves-2 Inv-loop μ-loop
+add-from-halves-2 c =
+    let loop = c .before .before .loop in
+    omega (arith, (loop .inv) .few)
+
+mul-from-halves-2 : tie.Need-mul-from-halves-2 Inv-loop μ-loop
+mul-from-halves-2 c =
+    let loop = c .before .before .loop in
+    omega (arith, (loop .inv) .few)
+
+shared-slice-read-from-halves-2 : tie.Need-shared-slice-read-from-halves-2 Inv-loop μ-loop
+shared-slice-read-from-halves-2 c =
+    let loop = c .before .before .before .loop in
+    let args = c .before .before .before .before .before .before .before .before .args in
+    let pre = c .before .before .before .before .before .before .before .before .pre in
+    omega (arith, (loop .inv) .few, held-long ((args .area) .now) (pre .0))
+
 add-event : tie.Need-add-event Inv-loop μ-loop
 add-event c =
-    let loop = c .before .before .before .loop in
-    omega (arith, (loop .inv .few))
+    let loop = c .before .before .before .before .before .before .loop in
+    omega (arith, (loop .inv) .few)
 
 mul-event : tie.Need-mul-event Inv-loop μ-loop
 mul-event c =
-    let loop = c .before .before .before .loop in
-    omega (arith, (loop .inv .few))
+    let loop = c .before .before .before .before .before .before .loop in
+    omega (arith, (loop .inv) .few)
 
 shared-slice-read-event : tie.Need-shared-slice-read-event Inv-loop μ-loop
 shared-slice-read-event c =
-    let loop = c .before .before .before .before .loop in
-    let args = c .before .before .before .before .before .before .before .before .before .args in
-    let pre = c .before .before .before .before .before .before .before .before .before .pre in
-    omega (arith, (loop .inv .few), held-long (args .area .now) (pre .0))
-
-add-event-2 : tie.Need-add-event-2 Inv-loop μ-loop
-add-event-2 c =
-    let loop = c .before .before .before .before .loop in
-    omega (arith, (loop .inv .few))
-
-mul-event-2 : tie.Need-mul-event-2 Inv-loop μ-loop
-mul-event-2 c =
-    let loop = c .before .before .before .before .loop in
-    omega (arith, (loop .inv .few))
-
-shared-slice-read-event-2 : tie.Need-shared-slice-read-event-2 Inv-loop μ-loop
-shared-slice-read-event-2 c =
-    let loop = c .before .before .before .before .before .loop in
-    let args = c .before .before .before .before .before .before .before .before .before .before .args in
-    let pre = c .before .before .before .before .before .before .before .before .before .before .pre in
-    omega (arith, (loop .inv .few), held-long (args .area .now) (pre .0))
+    let loop = c .before .before .before .before .before .before .before .loop in
+    let args = c .before .before .before .before .before .before .before .before .before .before .before .before .args in
+    let pre = c .before .before .before .before .before .before .before .before .before .before .before .before .pre in
+    omega (arith, (loop .inv) .few, held-long ((args .area) .now) (pre .0))
 
 note-requires : tie.Need-note-requires Inv-loop μ-loop
 note-requires c κs =
-    let pre = c .before .before .before .before .before .before .before .before .before .before .before .pre in
-    let loop = c .before .before .before .before .before .before .loop in
+    let pre = c .before .before .before .before .before .before .before .before .before .before .before .before .before .pre in
+    let loop = c .before .before .before .before .before .before .before .before .loop in
+    let from-halves = c .before .before .before .before .from-halves in
     let event = c .event in
-    noted-notable _ _ (pre .0) _ _ _ (loop .e) (loop .inv) (omega arith) _ (event .ensures)
+    noted-notable _ _ (pre .0) _ _ _ (loop .e) (loop .inv) (omega arith) _ (rw (from-halves .ensures .0) at (event .ensures))
 
 loop-again : tie.Need-loop-again Inv-loop μ-loop
 loop-again c =
-    let pre = c .before .before .before .before .before .before .before .before .before .before .before .before .before .before .before .before .pre in
-    let loop = c .before .before .before .before .before .before .before .before .before .before .before .loop in
+    let pre = c .before .before .before .before .before .before .before .before .before .before .before .before .before .before .before .before .before .before .pre in
+    let loop = c .before .before .before .before .before .before .before .before .before .before .before .before .before .loop in
+    let from-halves = c .before .before .before .before .before .before .before .before .before .from-halves in
     let event = c .before .before .before .before .before .event in
     let note = c .before .before .before .before .note in
-    one-noted _ _ (pre .0) _ _ _ (loop .e) (loop .inv) (omega arith) _ (event .ensures) _ _ (note .ensures .0) (note .ensures .1)
+    one-noted _ _ (pre .0) _ _ _ (loop .e) (loop .inv) (omega arith) _ (rw (from-halves .ensures .0) at (event .ensures)) _ _ (note .ensures .0) (note .ensures .1)
 
 returns : tie.Need-returns Inv-loop μ-loop
 returns c =
@@ -91,4 +110,4 @@ returns c =
 pub fill-spec : {M : Type 1} → statement M
 fill-spec =
     tie.close
-    (tie.spec Inv-loop μ-loop shared-slice-read-n cast-n loop-holds add-e add-event mul-event shared-slice-read-event add-event-2 mul-event-2 shared-slice-read-event-2 (λ c κs. search needs) note-requires (λ c. search needs) loop-again (λ c. search needs) (λ c. search needs) returns)
+    (tie.spec Inv-loop μ-loop shared-slice-read-n cast-n loop-holds add-e add-from-halves mul-from-halves shared-slice-read-from-halves add-from-halves-2 mul-from-halves-2 shared-slice-read-from-halves-2 (λ c κs. search needs) add-event mul-event shared-slice-read-event (λ c κs. search needs) note-requires (λ c. search needs) loop-again (λ c. search needs) (λ c. search needs) returns)
