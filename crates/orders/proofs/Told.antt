@@ -121,34 +121,42 @@ module _ (R : Run) where
   -- an area in which the receives of a channel have taken the messages gs, one after another, has this list
   list-is : (w : List ℕ) (p q : ℕ) (gs : List ℕ)
       → ((e : ℕ) → 0 < e → e ≤ n → recvs t p q e ≡ true
-      → (getD w e 0 ≡ getD gs (rcvd t p q e - 1) 0) × (getD w (takenBase + e) 0 ≡ getD (map (value t p q) gs) (rcvd t p q e - 1) 0))
+      → (getD w e 0 ≡ getD gs (rcvd t p q e - 1) 0) × (entryIn t w e .1 ≡ getD (map (value t p q) gs) (rcvd t p q e - 1) 0))
       → length gs ≤ rcvd t p q n → has 0 gs ≡ false → listIn t w p q ≡ map (entry R p q) gs
   unfolding listIn
   list-is w p q gs h most z =
       let count = receives-count p q in
-      let takes : Takes (λ e. getD w e 0) (λ e. getD w (takenBase + e) 0) (rcvd t p q) (value t p q) (receives p q) 0 gs = λ e l.
+      let takes : Takes (λ e. getD w e 0) (λ e. entryIn t w e .1) (rcvd t p q) (value t p q) (receives p q) 0 gs = λ e l.
       let r = receive-at p q e l in h e (r .0) (r .1) (r .2) in
-      ap (map {B = ℕ × ℕ} (λ (e : ℕ). (getD w e 0, getD w (takenBase + e) 0))) (sym (keep-keep (λ e. ltb 0 (getD w e 0)) (recvs t p q) (iv 0 n)))
-      ∙ taken-list (λ e. getD w e 0) (λ e. getD w (takenBase + e) 0) (rcvd t p q) (value t p q) (receives p q) gs 0
+      ap (map (entryIn t w)) (sym (keep-keep (λ e. ltb 0 (getD w e 0)) (recvs t p q) (iv 0 n)))
+      ∙ taken-list (λ e. getD w e 0) (λ e. entryIn t w e .1) (rcvd t p q) (value t p q) (receives p q) gs 0
       (receives-are p q ∙ ap (iv 0) (sym count)) takes (omega arith) z
 
-module _ (R : Run) (few : size (R .trace) ≤ 2048) where
+-- no value of a list is larger than the largest
+mapped-most : (f : ℕ → ℕ) (most : ℕ) → ((k : ℕ) → f k ≤ most) → (ks : List ℕ) (i : ℕ) → getD (map f ks) i 0 ≤ most
+mapped-most f most h [] i = omega arith
+mapped-most f most h (k ∷ ks) zero = h k
+mapped-most f most h (k ∷ ks) (suc i) = mapped-most f most h ks i
+
+-- values of 64 bits: those of every well-formed trace (`message-most` of crate columns)
+abbrev pub Narrow : Trace → Type 0
+Narrow t = (p q k : ℕ) → value t p q k ≤ 18446744073709551615
+
+module _ (R : Run) (few : size (R .trace) ≤ 2048) (narrow : Narrow (R .trace)) where
   -- the words of a receive are among those of the record
   module _ (e : ℕ) (h : 0 < e) (k : e ≤ size (R .trace)) where
-    low : ltb e takenBase ≡ true
-    low = lt-ltb e takenBase (omega (arith, few))
-
-    high : ltb (takenBase + e) takenBase ≡ false
-    high = le-ltb (takenBase + e) takenBase (omega arith)
-
-    within : ltb (takenBase + e) recordEnd ≡ true
-    within = lt-ltb (takenBase + e) recordEnd (omega (arith, few))
-
-    back : takenBase + e - takenBase ≡ e
-    back = omega arith
+    low : ltb e (takenBase 0) ≡ true
+    low = lt-ltb e (takenBase 0) (omega (arith, few))
 
     event : (ltb 0 e && leb e (size (R .trace))) ≡ true
     event = rw (lt-ltb 0 e h, le-leb e (size (R .trace)) k)
+
+  -- words whose halves are those of a message's value say it
+  whole-value : (w : List ℕ) (p q e v : ℕ) (ks : List ℕ) (j : ℕ) → ((b : ℕ) → b < 2 → getD w (takenBase b + e) 0 ≡ half b v) → v ≡ getD (map (value (t R) p q) ks) j 0
+      → entryIn (t R) w e .1 ≡ v
+  whole-value w p q e v ks j h is =
+      rw (h 0 (omega arith), h 1 (omega arith))
+      (halves-back v (omega (arith, is, mapped-most (value (t R) p q) 18446744073709551615 (narrow p q) ks j)))
 
   module _ (L : Laws R) (s : State) (i : Inv R s) where
     -- what the state has at the place of a receive

@@ -1,8 +1,9 @@
--- What a replay leaves in the run area: the record. Word e the number, word takenBase + e the value of the message that
--- receive e took; the rest 0. Definitions only.
+-- What a replay leaves in the run area: the record. Word e the number, word `takenBase b + e` half b of the value of the
+-- message that receive e took; the rest 0. Definitions only.
 use Prim.Native.Nat.{ℕ, _+_, _-_}
 use lib.Dec.{ltb}
 use lib.ListN.{getD}
+use Rattle.words.specs.Halves.{half, fromHalves}
 use Rattle.trace.specs.Trace.{Trace, valueOf}
 use mathlib.Core.Bool.{_&&_, cond}
 use mathlib.Core.List.{List, map}
@@ -15,7 +16,10 @@ use Rattle.machine.specs.Taken.{takenBase, recordEnd, takenNumber, takenValue}
 module _ (R : Run) where
   -- word k of the record of a state
   unfoldable pub recordAt : State → ℕ → ℕ
-  recordAt s k = cond (ltb k takenBase) (takenNumber R s k) (cond (ltb k recordEnd) (takenValue R s (k - takenBase)) 0)
+  recordAt s k =
+      cond (ltb k (takenBase 0)) (takenNumber R s k)
+      (cond (ltb k (takenBase 1)) (half 0 (takenValue R s (k - takenBase 0)))
+      (cond (ltb k recordEnd) (half 1 (takenValue R s (k - takenBase 1))) 0))
 
 module _ (t : Trace) where
   -- the record of the run without failure: each receive of the trace took the oldest message in transit
@@ -31,11 +35,15 @@ module _ (t : Trace) where
 
   unfoldable pub faultlessAt : ℕ → ℕ
   faultlessAt k =
-      cond (ltb k takenBase) (receivedNumber k (kind t k))
-      (cond (ltb k recordEnd) (receivedValue (k - takenBase) (kind t (k - takenBase))) 0)
+      cond (ltb k (takenBase 0)) (receivedNumber k (kind t k))
+      (cond (ltb k (takenBase 1)) (half 0 (receivedValue (k - takenBase 0) (kind t (k - takenBase 0))))
+      (cond (ltb k recordEnd) (half 1 (receivedValue (k - takenBase 1) (kind t (k - takenBase 1)))) 0))
 
   -- "The delivery record has one list for each channel: number and value of each message its receiver received there,
   -- in that order.": the list of a channel, read from the words of a run area. A receive that took no message has
-  -- number 0.
+  -- number 0. Document 02, item 4: "Records and equality of records use the wide value".
+  abbrev pub entryIn : List ℕ → ℕ → ℕ × ℕ
+  entryIn w e = (getD w e 0, fromHalves (getD w (takenBase 0 + e) 0) (getD w (takenBase 1 + e) 0))
+
   unfoldable pub listIn : List ℕ → ℕ → ℕ → List (ℕ × ℕ)
-  listIn w p q = map (λ e. (getD w e 0, getD w (takenBase + e) 0)) (keep (λ e. recvs t p q e && ltb 0 (getD w e 0)) (iv 0 (size t)))
+  listIn w p q = map (entryIn w) (keep (λ e. recvs t p q e && ltb 0 (getD w e 0)) (iv 0 (size t)))
