@@ -1,6 +1,6 @@
 -- The one view of the full table: what its words say of the trace (how many processes and events; of each event the
--- process, the kind, the peer, the value's halves, the match and whether its message is logged), and that they are in their
--- ranges.
+-- process, the kind, the peer, both halves of the value, the match and whether its message is logged), and that they
+-- are in their ranges.
 use mathlib.Core.Path.{_≡_, refl, sym, ap, _∙_}
 use mathlib.Core.Logic.{_≢_}
 use mathlib.Core.Bool.{Bool, true, _&&_, cond}

@@ -71,7 +71,7 @@ module _ (R : Run) where
       let e : size (R .trace) - x ≡ suc (size (R .trace) - suc x) = omega arith in
       rw e (by (f (suc x)) (λ t. rw t) (λ t. rw t))
 
-  -- the tests that the pass makes at an event of process z with peer q, and what they mean; m is the send of the message
+  -- the tests that the pass makes at an event of process z with peer q, and what they mean; event m sends the message
   -- that it receives
   pub record Tests (e z q : ℕ) (f₁ f₂ f₃ f₄ : Bool) (full : List ℕ) (m : ℕ) : Type 0 where
     pub z-lt : z < 64
