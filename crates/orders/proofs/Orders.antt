@@ -11,6 +11,7 @@ use lib.ListN.{length, getD, drop}
 use lib.Dec.{ltb}
 use borrow.Author.Tests.{lt-ltb, le-ltb}
 use Rattle.words.specs.Area.{wordsFrom}
+use Rattle.words.specs.Halves.{half}
 use Rattle.words.proofs.Area.{words-ext}
 use Rattle.theory.specs.Lists.{keep, all-below, ifSome}
 use Rattle.theory.specs.Events.{size}
@@ -21,7 +22,7 @@ use Rattle.theory.specs.Inner.Laws.{Laws}
 use Rattle.theory.proofs.Base.{on, clash, le?}
 use Rattle.theory.specs.Inner.Flow.{Inv}
 use Rattle.theory.proofs.Loss.{inv-start}
-use Rattle.machine.specs.Taken.{takenBase, recordEnd}
+use Rattle.machine.specs.Taken.{takenBase, recordEnd, takenValue}
 use Rattle.machine.specs.Inner.Words.{currentBase, orphanBase, takeBase, putBase, lowPlace, takeW, putW, allowedW, applyW, Bounded, noneFrom}
 use Rattle.theory.specs.Inner.Lists.{head0}
 use Rattle.machine.specs.Inner.Related.{evs, orph, Cols, Chan, Rel}
@@ -147,16 +148,18 @@ module _ (R : Run) (L : Laws R) (t l g : List ℕ) (K : Cols R t l g) where
       low : (k : ℕ) → k < currentBase → getD b k 0 ≡ getD a k 0
       low k v = others k (λ i. absurd (omega arith))
 
+      -- a word of a plane of halves
+      half-at : (h k : ℕ) → h < 2 → takenBase h ≤ k → k < takenBase h + 2049 → getD a k 0 ≡ half h (takenValue R s (k - takenBase h))
+      half-at h k c l m =
+          let e : takenBase h + (k - takenBase h) ≡ k = omega arith in
+          ap (λ x. getD a x 0) (sym e) ∙ r .val h (k - takenBase h) c (omega arith)
+
       at : (k : ℕ) → k < 16384 → getD b k 0 ≡ recordAt R s k
       at k j = on (le? recordEnd k)
-          (λ u. let x : ltb k takenBase ≡ false = le-ltb k takenBase (omega arith) in
-          let y : ltb k recordEnd ≡ false = le-ltb k recordEnd u in
-          rw (x, y) (on (le? currentBase k)
-          (λ v. on (le? k lowPlace) (λ w. zeros k v w) (λ w. others k (λ i. w) ∙ r .beyond k w))
-          (λ v. low k v ∙ r .gap k u v)))
-          (λ u. low k (omega arith) ∙ on (le? takenBase k)
-          (λ v. let x : ltb k takenBase ≡ false = le-ltb k takenBase v in
-          let y : ltb k recordEnd ≡ true = lt-ltb k recordEnd u in
-          let e : takenBase + (k - takenBase) ≡ k = omega arith in
-          rw (x, y) (ap (λ x. getD a x 0) (sym e) ∙ r .val (k - takenBase) (omega arith)))
-          (λ v. let x : ltb k takenBase ≡ true = lt-ltb k takenBase v in rw x (r .num k v)))
+          (λ u. rw (le-ltb k (takenBase 0) (omega arith), le-ltb k (takenBase 1) (omega arith), le-ltb k recordEnd u)
+          (on (le? k lowPlace) (λ w. zeros k u w) (λ w. others k (λ i. w) ∙ r .beyond k w)))
+          (λ u. low k (omega arith) ∙ on (le? (takenBase 0) k)
+          (λ v. on (le? (takenBase 1) k)
+          (λ w. rw (le-ltb k (takenBase 0) v, le-ltb k (takenBase 1) w, lt-ltb k recordEnd u) (half-at 1 k (omega arith) w (omega arith)))
+          (λ w. rw (le-ltb k (takenBase 0) v, lt-ltb k (takenBase 1) w) (half-at 0 k (omega arith) v (omega arith))))
+          (λ v. rw (lt-ltb k (takenBase 0) v) (r .num k v)))

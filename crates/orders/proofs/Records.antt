@@ -101,14 +101,14 @@ module _ (R : Run) (L : Laws R) (s : State) where
 
   all-record : All → (k : ℕ) → recordAt R s k ≡ faultlessAt t k
   unfolding recordAt faultlessAt
-  all-record h k = rw ((all-words h k) .0, (all-words h (k - takenBase)) .1)
+  all-record h k = rw ((all-words h k) .0, (all-words h (k - takenBase 0)) .1, (all-words h (k - takenBase 1)) .1)
 
   -- the other way: the words tell how many messages were received, and which
-  module _ (few : n ≤ 2048) (i : Inv R s) (w : (k : ℕ) → k < takenBase → recordAt R s k ≡ faultlessAt t k) where
+  module _ (few : n ≤ 2048) (i : Inv R s) (w : (k : ℕ) → k < takenBase 0 → recordAt R s k ≡ faultlessAt t k) where
     told-number : (e : ℕ) → 0 < e → e ≤ n → tookNumber R (s .got) e (kind t e) ≡ receivedNumber t e (kind t e)
     unfolding recordAt faultlessAt takenNumber
     told-number e h k =
-        let a : ltb e takenBase ≡ true = lt-ltb e takenBase (omega (arith, few)) in
+        let a : ltb e (takenBase 0) ≡ true = lt-ltb e (takenBase 0) (omega (arith, few)) in
         let b : (ltb 0 e && leb e n) ≡ true = rw (lt-ltb 0 e h, le-leb e n k) in
         rw (a, b) at (w e (omega (arith, few)))
 

@@ -2,14 +2,16 @@
 -- complete or not; so two orders of one trace leave the same words exactly if they leave the same lists.
 use mathlib.Core.Path.{_≡_, refl, sym, ap, _∙_}
 use mathlib.Core.Logic.{_↔_, inl, inr}
-use mathlib.Core.Bool.{true, false, _&&_}
+use mathlib.Core.Bool.{true, false, _&&_, cond}
 use mathlib.Core.List.{List, [], _∷_, map}
-use Prim.Native.Nat.{ℕ, suc, _+_, _-_, _≤_, _<_}
+use Prim.Native.Nat.{ℕ, zero, suc, _+_, _-_, _≤_, _<_}
 use native.Mathlib.Omega.{arith}
 use lib.ListN.{length, getD, length-map}
 use lib.Dec.{leb, ltb, eqb}
 use borrow.Author.Tests.{eqb-true, eq-eqb, lt-ltb, le-ltb, le-leb}
 use Rattle.words.specs.Area.{wordsFrom}
+use Rattle.words.specs.Halves.{half}
+use Rattle.words.proofs.Halves.{halves-back}
 use Rattle.words.proofs.Area.{words-at}
 use Rattle.trace.specs.Trace.{Trace}
 use Rattle.theory.specs.Lists.{iv, keep}
@@ -30,7 +32,7 @@ use Rattle.theory.proofs.Events.{recvs-is, rcvd-le, rcvd-lt}
 use Rattle.theory.proofs.Loss.{taken-iv, ahead-listed, inv, same-numbers}
 use Rattle.theory.proofs.Orders.{run-reaches}
 use Rattle.machine.specs.Taken.{takenBase, recordEnd, tookNumber, tookValue, takenNumber, takenValue}
-use Rattle.orders.specs.Record.{recordAt, faultlessAt, listIn}
+use Rattle.orders.specs.Record.{recordAt, receivedNumber, receivedValue, faultlessAt, entryIn, listIn}
 use Rattle.links.proofs.Matches.{getD-iv, getD-map}
 use Rattle.orders.proofs.Records.{words-cong}
 
@@ -138,6 +140,19 @@ mapped-most f most h [] i = omega arith
 mapped-most f most h (k ∷ ks) zero = h k
 mapped-most f most h (k ∷ ks) (suc i) = mapped-most f most h ks i
 
+-- the word of half b of a value in an area that is laid out as a record
+half-word : (b e : ℕ) (number value : ℕ → ℕ) → b < 2 → e ≤ 2048
+    → cond (ltb (takenBase b + e) (takenBase 0)) (number (takenBase b + e))
+    (cond (ltb (takenBase b + e) (takenBase 1)) (half 0 (value (takenBase b + e - takenBase 0)))
+    (cond (ltb (takenBase b + e) recordEnd) (half 1 (value (takenBase b + e - takenBase 1))) 0)) ≡ half b (value e)
+half-word zero e number value l h =
+    let q : 2049 + e - 2049 ≡ e = omega arith in
+    rw (le-ltb (2049 + e) 2049 (omega arith), lt-ltb (2049 + e) 4098 (omega arith), q)
+half-word (suc zero) e number value l h =
+    let q : 4098 + e - 4098 ≡ e = omega arith in
+    rw (le-ltb (4098 + e) 2049 (omega arith), le-ltb (4098 + e) 4098 (omega arith), lt-ltb (4098 + e) 6147 (omega arith), q)
+half-word (suc (suc b)) e number value l h = absurd (let z : ⊥ = omega arith in z)
+
 -- values of 64 bits: those of every well-formed trace (`message-most` of crate columns)
 abbrev pub Narrow : Trace → Type 0
 Narrow t = (p q k : ℕ) → value t p q k ≤ 18446744073709551615
@@ -162,18 +177,25 @@ module _ (R : Run) (few : size (R .trace) ≤ 2048) (narrow : Narrow (R .trace))
     -- what the state has at the place of a receive
     words-of : (p q e : ℕ) → 0 < e → e ≤ n R → recvs (t R) p q e ≡ true
         → (recordAt R s e ≡ getD (s .got p q) (rcvd (t R) p q e - 1) 0)
-        × (recordAt R s (takenBase + e) ≡ getD (map (value (t R) p q) (s .got p q)) (rcvd (t R) p q e - 1) 0)
+        × (takenValue R s e ≡ getD (map (value (t R) p q) (s .got p q)) (rcvd (t R) p q e - 1) 0)
     unfolding recordAt takenNumber takenValue
     words-of p q e h k r =
         let (u, v) = recvs-is (t R) p q e r in
-        (rw (low e h k, event e h k, v, u), rw (high e h k, within e h k, back e h k, event e h k, v, u))
+        (rw (low e h k, event e h k, v, u), rw (event e h k, v, u))
+
+    halves-of : (b e : ℕ) → b < 2 → e ≤ n R → recordAt R s (takenBase b + e) ≡ half b (takenValue R s e)
+    unfolding recordAt
+    halves-of b e l k = half-word b e (takenNumber R s) (takenValue R s) l (omega (arith, few))
 
     -- an area whose words are those of the state's record has its lists
     pub told : (w : List ℕ) → ((k : ℕ) → k < recordEnd → getD w k 0 ≡ recordAt R s k) → (p q : ℕ) → listIn (t R) w p q ≡ delivered R s p q
     unfolding delivered
     told w h p q =
         list-is R w p q (s .got p q)
-        (λ e a b r. let x = words-of p q e a b r in (h e (omega (arith, few)) ∙ x .0, h (takenBase + e) (omega (arith, few)) ∙ x .1))
+        (λ e a b r. let x = words-of p q e a b r in (
+          h e (omega (arith, few)) ∙ x .0,
+          whole-value w p q e (takenValue R s e) _ _ (λ c l. h (takenBase c + e) (omega (arith, few)) ∙ halves-of c e l b) (x .1) ∙ x .1,
+        ))
         (omega (arith, i .taken p q)) (got-no-zero R L s i p q)
 
     pub told-words : (p q : ℕ) → listIn (t R) (wordsFrom (recordAt R s) 0 16384) p q ≡ delivered R s p q
@@ -181,11 +203,16 @@ module _ (R : Run) (few : size (R .trace) ≤ 2048) (narrow : Narrow (R .trace))
 
   -- the words of the run without failure have its lists
   faultless-of : (p q e : ℕ) → 0 < e → e ≤ n R → recvs (t R) p q e ≡ true
-      → (faultlessAt (t R) e ≡ rcvd (t R) p q e) × (faultlessAt (t R) (takenBase + e) ≡ value (t R) p q (rcvd (t R) p q e))
+      → (faultlessAt (t R) e ≡ rcvd (t R) p q e) × (receivedValue (t R) e (kind (t R) e) ≡ value (t R) p q (rcvd (t R) p q e))
   unfolding faultlessAt value
   faultless-of p q e h k r =
       let (u, v) = recvs-is (t R) p q e r in
-      (rw (low e h k, v, u), rw (high e h k, within e h k, back e h k, v, u))
+      (rw (low e h k, v, u), rw (v, u))
+
+  faultless-halves : (b e : ℕ) → b < 2 → e ≤ n R → faultlessAt (t R) (takenBase b + e) ≡ half b (receivedValue (t R) e (kind (t R) e))
+  unfolding faultlessAt
+  faultless-halves b e l k =
+      half-word b e (λ d. receivedNumber (t R) d (kind (t R) d)) (λ d. receivedValue (t R) d (kind (t R) d)) l (omega (arith, few))
 
   pub faultless-told : (p q : ℕ) → listIn (t R) (wordsFrom (faultlessAt (t R)) 0 16384) p q ≡ faultless R p q
   unfolding faultless
@@ -200,15 +227,16 @@ module _ (R : Run) (few : size (R .trace) ≤ 2048) (narrow : Narrow (R .trace))
       let most : j ≤ m = rcvd-le (t R) p q e (n R) b in
       let g : getD (iv 0 m) (j - 1) 0 ≡ j = getD-iv 0 m (j - 1) (omega arith) ∙ omega arith in (
         words-at (faultlessAt (t R)) 16384 e (omega (arith, few)) ∙ x .0 ∙ sym g,
-        words-at (faultlessAt (t R)) 16384 (takenBase + e) (omega (arith, few)) ∙ x .1
-            ∙ sym (getD-map (value (t R) p q) (iv 0 m) (j - 1) (omega (arith, length-iv 0 m)) ∙ ap (value (t R) p q) g),
+        let is = x .1 ∙ sym (getD-map (value (t R) p q) (iv 0 m) (j - 1) (omega (arith, length-iv 0 m)) ∙ ap (value (t R) p q) g) in
+            whole-value w p q e (receivedValue (t R) e (kind (t R) e)) _ _
+            (λ c l. words-at (faultlessAt (t R)) 16384 (takenBase c + e) (omega (arith, few)) ∙ faultless-halves c e l b) is ∙ is,
       ))
       (omega (arith, length-iv 0 m)) (has-iv-not 0 0 m (inl (omega arith)))
       ∙ ap (map (entry R p q)) (sym (taken-iv R p q (n R)))
 
 -- ---- Two orders of one trace, from any cuts and lines, complete or not
 
-module _ (t : Trace) (A : Valid t) (few : size t ≤ 2048) (cut other-cut : ℕ) (cl : cut ≤ size t) (ocl : other-cut ≤ size t) (line other-line : ℕ → ℕ)
+module _ (t : Trace) (A : Valid t) (few : size t ≤ 2048) (narrow : Narrow t) (cut other-cut : ℕ) (cl : cut ≤ size t) (ocl : other-cut ≤ size t) (line other-line : ℕ → ℕ)
     (order other-order : List ℕ) (s u : State) (h : run (runAt t cut line) order ≡ carriedOut s) (k : run (runAt t other-cut other-line) other-order ≡ carriedOut u) where
   abbrev F : Run
   F = runAt t cut line
@@ -236,14 +264,15 @@ module _ (t : Trace) (A : Valid t) (few : size t ≤ 2048) (cut other-cut : ℕ)
 
   same-word : Same → (x : ℕ) → recordAt F s x ≡ recordAt G u x
   unfolding recordAt takenNumber takenValue
-  same-word d x = rw (same-took d x (kind t x) .0, same-took d (x - takenBase) (kind t (x - takenBase)) .1)
+  same-word d x =
+      rw (same-took d x (kind t x) .0, same-took d (x - takenBase 0) (kind t (x - takenBase 0)) .1, same-took d (x - takenBase 1) (kind t (x - takenBase 1)) .1)
 
   -- the same words exactly if the same list on every channel
   pub record-told : (wordsFrom (recordAt F s) 0 16384 ≡ wordsFrom (recordAt G u) 0 16384) ↔ Same
   record-told = (
     λ w p q.
-        sym (told-words F few LF s (inv F LF s (length order) (run-reaches F order s h)) p q)
+        sym (told-words F few narrow LF s (inv F LF s (length order) (run-reaches F order s h)) p q)
         ∙ ap (λ (x : List ℕ). listIn t x p q) w
-        ∙ told-words G few LG u (inv G LG u (length other-order) (run-reaches G other-order u k)) p q,
+        ∙ told-words G few narrow LG u (inv G LG u (length other-order) (run-reaches G other-order u k)) p q,
     λ d. words-cong (recordAt F s) (recordAt G u) 16384 (λ x l. same-word d x),
   )

@@ -17,8 +17,8 @@ pub enum Event {
     Save { at: u64 },
 }
 
-// Where the planes of the table area begin: the word of event e, from 1, is at EVENT_BASE + e, the low half of its value
-// at VALUE_BASE + e, the high half at HIGH_BASE + e.
+// Where the planes of the table area begin: the word of event e, from 1, is at EVENT_BASE + e, the low half of its
+// value at VALUE_BASE + e, the high half at HIGH_BASE + e.
 pub const EVENT_BASE: usize = 16;
 
 pub const VALUE_BASE: usize = 2065;

@@ -1,6 +1,6 @@
 -- Halves tell the number, and the number its halves.
 use Prim.Native.Nat.{ℕ, zero, suc, _<_, _≤_}
-use mathlib.Core.Path.{_≡_, sym, ap, _∙_}
+use mathlib.Core.Path.{_≡_, refl, sym, ap, _∙_}
 use native.Mathlib.Omega.{arith}
 use Rattle.words.specs.Halves.{half, fromHalves}
 
@@ -14,6 +14,11 @@ pub half-lt : (b v : ℕ) → half b v < 4294967296
 unfolding half
 half-lt zero v = omega arith
 half-lt (suc b) v = omega arith
+
+pub half-none : (b : ℕ) → half b 0 ≡ 0
+unfolding half
+half-none zero = refl
+half-none (suc b) = refl
 
 pub halves-back : (v : ℕ) → v ≤ 18446744073709551615 → fromHalves (half 0 v) (half 1 v) ≡ v
 unfolding half

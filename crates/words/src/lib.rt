@@ -1,7 +1,6 @@
 // Lent areas of words: what an area holds is said by a rule for its first words, and later words stay as they were. The
-// definitions are in specs/: Area, and Halves (a number of 64 bits in two words); laws on them, and on cases and lists, in
-// proofs/. No public function has a `requires`.
-// Assumes nothing.
+// definitions are in specs/: Area, and Halves (a number of 64 bits in two words); laws on them, and on cases and lists,
+// in proofs/. No public function has a `requires`. Assumes nothing.
 ghost use mathlib.Core.Path.{_≡_};
 ghost use lib.ListN.{length, replicate};
 ghost use mathlib.Core.Bool.{cond};
