@@ -166,12 +166,9 @@ module _ (R : Run) (few : size (R .trace) ≤ 2048) (narrow : Narrow (R .trace))
     event : (ltb 0 e && leb e (size (R .trace))) ≡ true
     event = rw (lt-ltb 0 e h, le-leb e (size (R .trace)) k)
 
-  -- words whose halves are those of a message's value say it
-  whole-value : (w : List ℕ) (p q e v : ℕ) (ks : List ℕ) (j : ℕ) → ((b : ℕ) → b < 2 → getD w (takenBase b + e) 0 ≡ half b v) → v ≡ getD (map (value (t R) p q) ks) j 0
-      → entryIn (t R) w e .1 ≡ v
-  whole-value w p q e v ks j h is =
-      rw (h 0 (omega arith), h 1 (omega arith))
-      (halves-back v (omega (arith, is, mapped-most (value (t R) p q) 18446744073709551615 (narrow p q) ks j)))
+  -- words that are the halves of a message's value say it
+  whole-value : (w : List ℕ) (e v : ℕ) → ((b : ℕ) → b < 2 → getD w (takenBase b + e) 0 ≡ half b v) → v ≤ 18446744073709551615 → entryIn (t R) w e .1 ≡ v
+  whole-value w e v h most = rw (h 0 (omega arith), h 1 (omega arith)) (halves-back v most)
 
   module _ (L : Laws R) (s : State) (i : Inv R s) where
     -- what the state has at the place of a receive
@@ -192,9 +189,11 @@ module _ (R : Run) (few : size (R .trace) ≤ 2048) (narrow : Narrow (R .trace))
     unfolding delivered
     told w h p q =
         list-is R w p q (s .got p q)
-        (λ e a b r. let x = words-of p q e a b r in (
+        (λ e a b r.
+        let x = words-of p q e a b r in
+        let most = mapped-most (value (t R) p q) 18446744073709551615 (narrow p q) (s .got p q) (rcvd (t R) p q e - 1) in (
           h e (omega (arith, few)) ∙ x .0,
-          whole-value w p q e (takenValue R s e) _ _ (λ c l. h (takenBase c + e) (omega (arith, few)) ∙ halves-of c e l b) (x .1) ∙ x .1,
+          whole-value w e (takenValue R s e) (λ c l. h (takenBase c + e) (omega (arith, few)) ∙ halves-of c e l b) (omega (arith, x .1, most)) ∙ x .1,
         ))
         (omega (arith, i .taken p q)) (got-no-zero R L s i p q)
 
@@ -227,9 +226,10 @@ module _ (R : Run) (few : size (R .trace) ≤ 2048) (narrow : Narrow (R .trace))
       let most : j ≤ m = rcvd-le (t R) p q e (n R) b in
       let g : getD (iv 0 m) (j - 1) 0 ≡ j = getD-iv 0 m (j - 1) (omega arith) ∙ omega arith in (
         words-at (faultlessAt (t R)) 16384 e (omega (arith, few)) ∙ x .0 ∙ sym g,
-        let is = x .1 ∙ sym (getD-map (value (t R) p q) (iv 0 m) (j - 1) (omega (arith, length-iv 0 m)) ∙ ap (value (t R) p q) g) in
-            whole-value w p q e (receivedValue (t R) e (kind (t R) e)) _ _
-            (λ c l. words-at (faultlessAt (t R)) 16384 (takenBase c + e) (omega (arith, few)) ∙ faultless-halves c e l b) is ∙ is,
+        whole-value w e (receivedValue (t R) e (kind (t R) e))
+            (λ c l. words-at (faultlessAt (t R)) 16384 (takenBase c + e) (omega (arith, few)) ∙ faultless-halves c e l b)
+            (omega (arith, x .1, narrow p q j))
+            ∙ x .1 ∙ sym (getD-map (value (t R) p q) (iv 0 m) (j - 1) (omega (arith, length-iv 0 m)) ∙ ap (value (t R) p q) g),
       ))
       (omega (arith, length-iv 0 m)) (has-iv-not 0 0 m (inl (omega arith)))
       ∙ ap (map (entry R p q)) (sym (taken-iv R p q (n R)))
