@@ -4,7 +4,7 @@
 //!
 //! `cargo test --test differential -- [rounds [first round]]`; or, without these, `HALLBACK_ROUNDS`
 //! says how many rounds. A round is made from its number alone, so that one that differs can be run again; before
-//! round 1 come texts at the limits and all small traces. Ends with how many calls were compared and
+//! round 1 come texts and areas at the limits and all small traces. Ends with how many calls were compared and
 //! how many differ, and fails if any does.
 
 #[cfg(not(hallback_archive))]
