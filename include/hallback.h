@@ -70,7 +70,7 @@ static inline uint64_t hallback_value(const uint32_t *table, size_t event) {
 }
 
 /* Gives an event of a table area another value. Only a send has one: with anything but 0 at another event, or past the
-   last, every call refuses the area with 13. */
+   last, every call that takes the area refuses it with 13. */
 static inline void hallback_set_value(uint32_t *table, size_t event, uint64_t value) {
     table[HALLBACK_VALUE_BASE + event] = (uint32_t)value;
     table[HALLBACK_HIGH_BASE + event] = (uint32_t)(value >> 32);

@@ -48,7 +48,7 @@ pub fn value(table: &[u32], event: usize) -> u64 {
 /// Gives an event of a table area another value.
 ///
 /// Only a send has one: with anything but 0 at a receive, at a save, or past the last event, every
-/// call refuses the area with [`Cause::Table`](crate::Cause::Table).
+/// call that takes the area refuses it with [`Cause::Table`](crate::Cause::Table).
 ///
 /// ```
 /// use hallback::{reference, AREA_WORDS, TEXT_BYTES};

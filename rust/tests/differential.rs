@@ -562,9 +562,9 @@ mod compare {
             }
         }
 
-        /// A trace whose values agree in one half or the other, on one channel and on two, with every
-        /// line; and its table area with bits changed in both planes of values, before, between and
-        /// after them.
+        /// A trace whose values agree in one half or the other, on one channel and on two, with all
+        /// kinds of lines; and its table area with bits changed in both planes of values, before,
+        /// between and after them.
         fn halves(&mut self) {
             let mut events = Vec::new();
             for val in LONG_VALUES {
