@@ -12,6 +12,9 @@
    of the failure. A slice is passed as its pointer and its length; a pointer must not be null, not even where the
    length is 0. No two slices of a call may overlap, except two that are only read.
 
+   Values, the `val` of a send, have 64 bits, and an area has each as two words, its low and its high half:
+   hallback_value, hallback_set_value and hallback_taken_value take and give them whole.
+
    Threads: the library keeps nothing from one call to the next and has no memory of its own. Calls may run at the same
    time in any number of threads, as long as no slice that one of them writes is a slice of another; several may read
    one table area.
@@ -34,7 +37,11 @@ extern "C" {
 enum {
     HALLBACK_WORDS = 16384,         /* of a table area, of a run area */
     HALLBACK_EVENT_BASE = 16,       /* word 16 + e of a table area is event e, from 1, ... */
-    HALLBACK_VALUE_BASE = 2065,     /* ... and word 2065 + e its value (docs/LAYOUT.md) */
+    HALLBACK_VALUE_BASE = 2065,     /* ... word 2065 + e the low half of its value, ... */
+    HALLBACK_HIGH_BASE = 4114,      /* ... and word 4114 + e the high half (docs/LAYOUT.md) */
+    HALLBACK_TAKEN_BASE = 2049,     /* word e of a delivery record is the number of the message that event e received,
+                                       0 for none, word 2049 + e the low half of its value, ... */
+    HALLBACK_TAKEN_HIGH_BASE = 4098, /* ... and word 4098 + e the high half */
     HALLBACK_SEND = 1,              /* the kind of an event, bits 12 and 13 of its word: a send, ... */
     HALLBACK_RECV = 2,              /* ... a receive, ... */
     HALLBACK_SAVE = 3,              /* ... a save */
@@ -49,6 +56,32 @@ enum {
     HALLBACK_STACK_REPLAY = 122880, /* ... hallback_replay and hallback_lowest, ... */
     HALLBACK_STACK_REPORT = 172032  /* ... and hallback_report */
 };
+
+/* The number whose low and high half these are. */
+static inline uint64_t hallback_from_halves(uint32_t low, uint32_t high) {
+    return (uint64_t)high << 32 | low;
+}
+
+/* The value of an event of a table area: what a send sends, 0 for a receive, a save, or past the last event. Here and
+   below `event` is 1 to 2,048, and nothing is checked: another one stands for other words of the area, or for words
+   past it. */
+static inline uint64_t hallback_value(const uint32_t *table, size_t event) {
+    return hallback_from_halves(table[HALLBACK_VALUE_BASE + event], table[HALLBACK_HIGH_BASE + event]);
+}
+
+/* Gives an event of a table area another value. Only a send has one: with anything but 0 at another event, or past the
+   last, every call that takes the area refuses it with 13. */
+static inline void hallback_set_value(uint32_t *table, size_t event, uint64_t value) {
+    table[HALLBACK_VALUE_BASE + event] = (uint32_t)value;
+    table[HALLBACK_HIGH_BASE + event] = (uint32_t)(value >> 32);
+}
+
+/* The value of the message that an event received, in the delivery record that hallback_replay or hallback_lowest left
+   in a run area; 0 where it received none. A value may be 0 too: whether there was a message, its number run[event]
+   says, which is 0 only for none. */
+static inline uint64_t hallback_taken_value(const uint32_t *run, size_t event) {
+    return hallback_from_halves(run[HALLBACK_TAKEN_BASE + event], run[HALLBACK_TAKEN_HIGH_BASE + event]);
+}
 
 /* Reads a trace text without a failure line into the table area. Answer: place. Refusals: 12, then 1 to 7; after 1 to 7
    the first 16,384 words of the table area are zero, 12 changes nothing. */
@@ -72,7 +105,7 @@ uint32_t hallback_read_failure(const uint8_t *text, size_t text_len, uint32_t *t
        uint64_t answer[2];
        if (hallback_read(text, text_len, table, HALLBACK_WORDS, answer, 1) != 0) return 1;
        if (table[1] >= 1 && table[HALLBACK_EVENT_BASE + 1] >> 12 == HALLBACK_SEND)
-           table[HALLBACK_VALUE_BASE + 1] = 6;
+           hallback_set_value(table, 1, 18446744073709551615u);
        if (hallback_write(table, HALLBACK_WORDS, out, sizeof out, answer, 2) != 0) return 1;
        fwrite(out, 1, answer[1], stdout);
 */

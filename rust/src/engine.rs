@@ -70,15 +70,15 @@ pub fn read_failure(text: &[u8], table: &mut [u32]) -> Result<Failure, Refusal> 
 /// a refusal `out` is as it was.
 ///
 /// ```
-/// use hallback::{Cause, AREA_WORDS, TEXT_BYTES, VALUE_BASE};
+/// use hallback::{Cause, AREA_WORDS, TEXT_BYTES};
 ///
 /// let (mut table, mut out) = (vec![0; AREA_WORDS], vec![0; TEXT_BYTES]);
 /// let text = b"procs=2\nev=send at=0 to=1 val=7\nev=recv at=1 from=0\n";
 /// hallback::read(text, &mut table)?;
 /// assert_eq!(hallback::write(&table, &mut out)?, text);
 ///
-/// table[VALUE_BASE + 1] = 8;
-/// let edited = b"procs=2\nev=send at=0 to=1 val=8\nev=recv at=1 from=0\n";
+/// hallback::set_value(&mut table, 1, u64::MAX);
+/// let edited = b"procs=2\nev=send at=0 to=1 val=18446744073709551615\nev=recv at=1 from=0\n";
 /// assert_eq!(hallback::write(&table, &mut out)?, edited);
 ///
 /// let one_short = &mut out[..text.len() - 1];
@@ -181,7 +181,7 @@ fn replayed(number: u32, answer: [u64; 3]) -> Result<Replayed, Refusal> {
 /// let failure = Failure { step: 1, set: 2 };
 /// let replayed = hallback::replay(&table, failure, &[32, 1], &[65, 1], &mut run)?;
 /// assert!(replayed.complete);
-/// assert_eq!((run[2], run[2049 + 2]), (1, 7));
+/// assert_eq!((run[2], hallback::taken_value(&run, 2)), (1, 7));
 ///
 /// let refusal = hallback::replay(&table, failure, &[32, 1], &[1], &mut run).unwrap_err();
 /// assert_eq!((refusal.cause, refusal.place), (Cause::Choice, 1));

@@ -12,6 +12,9 @@
 //! are fine, words past that number are never touched. `docs/LAYOUT.md` has them word by word.
 //! [`write`](reference::write) gives the text of a table area again, in a lent byte buffer.
 //!
+//! Values have 64 bits, which an area has as two words: [`value`], [`set_value`] and [`taken_value`]
+//! take and give them whole.
+//!
 #![cfg_attr(
     hallback_archive,
     doc = r#"
@@ -46,9 +49,11 @@ mod engine;
 pub mod raw;
 pub mod reference;
 pub mod shapes;
+mod values;
 
 #[cfg(hallback_archive)]
 pub use engine::{lowest, messages, read, read_failure, replay, report, restart, write};
+pub use values::{set_value, taken_value, value};
 
 /// How many words of a lent area are used; a shorter area is refused with 12.
 pub const AREA_WORDS: usize = 16_384;
@@ -65,8 +70,19 @@ pub const STAY: u32 = 32;
 /// Word `EVENT_BASE + e` of a table area is event e, from 1 (`docs/LAYOUT.md` has its bits).
 pub const EVENT_BASE: usize = 16;
 
-/// Word `VALUE_BASE + e` of a table area is the value that event e sends.
+/// Word `VALUE_BASE + e` of a table area is the low half of the [`value`] that event e sends.
 pub const VALUE_BASE: usize = 2_065;
+
+/// Word `HIGH_BASE + e` of a table area is the high half of the [`value`] that event e sends.
+pub const HIGH_BASE: usize = 4_114;
+
+/// Word e of a delivery record is the number of the message that event e received, word
+/// `TAKEN_BASE + e` the low half of its value ([`taken_value`]).
+pub const TAKEN_BASE: usize = 2_049;
+
+/// Word `TAKEN_HIGH_BASE + e` of a delivery record is the high half of the value of the message that
+/// event e received.
+pub const TAKEN_HIGH_BASE: usize = 4_098;
 
 /// How many bytes hold every report.
 pub const REPORT_BYTES: usize = 262_144;

@@ -15,6 +15,7 @@
 //! ```
 
 use crate::{Cause, Counts, Failure, Refusal, Replayed, Restart, AREA_WORDS};
+use crate::{TAKEN_BASE, TAKEN_HIGH_BASE};
 
 mod machine;
 mod reader;
@@ -29,10 +30,6 @@ use machine::Lowest;
 pub use machine::Machine;
 use recorded::{Recorded, Restarts};
 pub use report::report;
-
-/// Word e of a delivery record is the number of the message that event e received, word
-/// `RECORD_VALUE_BASE + e` its value.
-const RECORD_VALUE_BASE: usize = 2_049;
 
 /// Word `ROW_BASE + i` of a list of messages is sender, receiver and class of row i, from 1.
 const ROW_BASE: usize = 16;
@@ -123,7 +120,7 @@ fn begin_record(recorded: &Recorded, restarts: &Restarts, run: &mut [u32; AREA_W
 /// Records that event `receive` took the message that event `message` sent.
 fn record(recorded: &Recorded, run: &mut [u32; AREA_WORDS], receive: usize, message: usize) {
     run[receive] = recorded.number(message);
-    run[RECORD_VALUE_BASE + receive] = recorded.value(message);
+    [run[TAKEN_BASE + receive], run[TAKEN_HIGH_BASE + receive]] = recorded.halves(message);
 }
 
 /// Carries out an order from a line, and leaves the delivery record in the run area.

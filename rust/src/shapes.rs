@@ -38,6 +38,18 @@ impl Random {
     }
 }
 
+/// Values at the ends of their halves, several of which agree in one half.
+pub const LONG_VALUES: [u64; 8] = [
+    0,
+    1,
+    0xffff_ffff,
+    0x1_0000_0000,
+    0x1_0000_0001,
+    0x2_0000_0001,
+    0xffff_ffff_0000_0000,
+    u64::MAX,
+];
+
 /// What an event of a trace does.
 #[derive(Clone, Copy, Debug, PartialEq, Eq)]
 pub enum Event {
@@ -48,7 +60,7 @@ pub enum Event {
         /// The receiver.
         to: usize,
         /// The value.
-        val: u32,
+        val: u64,
     },
     /// Process `at` receives the oldest message from process `from`.
     Recv {
@@ -96,10 +108,26 @@ impl Trace {
         text.extend(format!("fail={} set={}\n", failure.step, failure.set).bytes());
         text
     }
+
+    /// Gives most sends another value, of up to 64 bits: of [`LONG_VALUES`], or one that has a half in
+    /// common with others of this trace.
+    pub fn lengthen_values(&mut self, random: &mut Random) {
+        let (low, high) = (random.bits() >> 32, random.bits() >> 32 << 32);
+        for event in &mut self.events {
+            if let Event::Send { val, .. } = event {
+                *val = match random.below(4) {
+                    0 => random.pick(&LONG_VALUES),
+                    1 => random.bits() << 32 | low,
+                    2 => random.bits() >> 32 | high,
+                    _ => *val,
+                };
+            }
+        }
+    }
 }
 
-/// Visits all traces of so many processes with at most so many events; a value is the place of its
-/// send.
+/// Visits all traces of so many processes with at most so many events; a value has the place of its
+/// send in one half, the high one where that place is odd, and 0 in the other.
 pub fn each_trace(procs: usize, events: usize, mut visit: impl FnMut(&Trace)) {
     let mut trace = Trace {
         procs,
@@ -121,7 +149,8 @@ fn each_longer(
     if more == 0 {
         return;
     }
-    let val = trace.events.len() as u32 + 1;
+    let place = trace.events.len() as u64 + 1;
+    let val = place << (32 * (place % 2));
     for at in 0..trace.procs {
         for peer in 0..trace.procs {
             let to_peer = at * trace.procs + peer;
@@ -302,7 +331,7 @@ impl Shape {
                 made.push(Event::Recv { at: to, from });
             } else {
                 let (at, to) = self.channel(procs, random);
-                let val = random.bits() as u32 >> random.pick(&[0, 16, 30]);
+                let val = u64::from(random.bits() as u32 >> random.pick(&[0, 16, 30]));
                 in_transit.push((at, to));
                 made.push(Event::Send { at, to, val });
             }

@@ -4,7 +4,7 @@
 //!
 //! `cargo test --test differential -- [rounds [first round]]`; or, without these, `HALLBACK_ROUNDS`
 //! says how many rounds. A round is made from its number alone, so that one that differs can be run again; before
-//! round 1 come texts at the limits and all small traces. Ends with how many calls were compared and
+//! round 1 come texts and areas at the limits and all small traces. Ends with how many calls were compared and
 //! how many differ, and fails if any does.
 
 #[cfg(not(hallback_archive))]
@@ -36,10 +36,11 @@ fn main() {
 
 #[cfg(hallback_archive)]
 mod compare {
-    use hallback::shapes::{each_trace, Event, Random, Shape, Trace};
-    use hallback::{raw, reference};
+    use hallback::shapes::{each_trace, Event, Random, Shape, Trace, LONG_VALUES};
+    use hallback::{raw, reference, set_value};
     use hallback::{Failure, Refusal, Replayed, Restart, STAY};
-    use hallback::{AREA_WORDS, MAX_EVENTS, MAX_PROCS, TEXT_BYTES};
+    use hallback::{AREA_WORDS, EVENT_BASE, HIGH_BASE, VALUE_BASE};
+    use hallback::{MAX_EVENTS, MAX_PROCS, TEXT_BYTES};
     use std::collections::BTreeMap;
     use std::fmt::Display;
     use std::ops::Range;
@@ -100,6 +101,8 @@ mod compare {
         let count = rounds.end - rounds.start;
         if rounds.start == 1 {
             comparison.fixed_texts();
+            comparison.bounds_of_keys();
+            comparison.halves();
             comparison.small_traces();
         }
         for round in rounds {
@@ -469,7 +472,7 @@ mod compare {
 
         /// Texts at the limits, which random ones seldom reach.
         fn fixed_texts(&mut self) {
-            let send = "ev=send at=0 to=1 val=4294967295\n";
+            let send = "ev=send at=0 to=1 val=18446744073709551615\n";
             let receive = "ev=recv at=1 from=0\n";
             let save = "ev=save at=1\n";
             let failures = [
@@ -490,7 +493,7 @@ mod compare {
                 "fail=1 set=1\nfail=1 set=1\n",
                 "x",
             ];
-            let longest = "ev=send at=63 to=62 val=4294967295\n".repeat(2_048);
+            let longest = "ev=send at=63 to=62 val=18446744073709551615\n".repeat(2_048);
             let counts = ["0", "1", "2", "64", "65", "02", "4294967295", "4294967296"];
             for procs in counts {
                 for failure in failures {
@@ -519,6 +522,93 @@ mod compare {
             reference::read(format!("procs=64\n{longest}").as_bytes(), &mut table)
                 .expect("the trace is fit");
             self.write(&table);
+        }
+
+        /// Each key with numbers at the bounds of 32 and 64 bits, and with some that are too large and
+        /// would be small or fit if they were cut to so many bits.
+        fn bounds_of_keys(&mut self) {
+            let numbers = [
+                "0",
+                "1",
+                "4294967295",
+                "4294967296",
+                "4294967297",
+                "18446744069414584320",
+                "18446744073709551615",
+                "18446744073709551616",
+                "18446744073709551617",
+                "36893488147419103233",
+                "99999999999999999999",
+                "100000000000000000000",
+                "184467440737095516160",
+                "340282366920938463463374607431768211456",
+            ];
+            for number in numbers {
+                for text in [
+                    format!("procs={number}\nfail=0 set=1\n"),
+                    format!("procs=2\nev=send at={number} to=1 val=1\nfail=0 set=1\n"),
+                    format!("procs=2\nev=send at=0 to={number} val=1\nfail=0 set=1\n"),
+                    format!("procs=2\nev=send at=0 to=1 val={number}\nfail=1 set=2\n"),
+                    format!("procs=2\nev=recv at={number} from=0\nfail=0 set=1\n"),
+                    format!("procs=2\nev=recv at=1 from={number}\nfail=0 set=1\n"),
+                    format!("procs=2\nev=save at={number}\nfail=0 set=1\n"),
+                    format!("procs=2\nev=save at=1\nfail={number} set=1\n"),
+                    format!("procs=2\nev=save at=1\nfail=1 set={number}\n"),
+                ] {
+                    self.text(text.as_bytes());
+                    let trace = text.split("fail").next();
+                    self.text(trace.unwrap_or_default().as_bytes());
+                }
+            }
+        }
+
+        /// A trace whose values agree in one half or the other, on one channel and on two, with all
+        /// kinds of lines; and its table area with bits changed in both planes of values, before,
+        /// between and after them.
+        fn halves(&mut self) {
+            let mut events = Vec::new();
+            for val in LONG_VALUES {
+                events.push(Event::Send { at: 0, to: 1, val });
+                events.push(Event::Send { at: 1, to: 0, val });
+            }
+            events.extend([(0, 1), (1, 0), (0, 1)].map(|(at, from)| Event::Recv { at, from }));
+            events.push(Event::Save { at: 0 });
+            events.extend([(1, 0), (0, 1), (1, 0)].map(|(at, from)| Event::Recv { at, from }));
+            let trace = Trace { procs: 2, events };
+            let count = trace.events.len();
+            let mut table = self.area();
+            reference::read(&trace.text(), &mut table).expect("the trace is fit");
+            for step in 0..=count as u64 {
+                for (set, line) in [
+                    (1, [1, STAY]),
+                    (2, [STAY, 1]),
+                    (3, [1, 1]),
+                    (3, [2, 1]),
+                    (1, [2, STAY]),
+                ] {
+                    self.line(&table, Failure { step, set }, &line);
+                }
+            }
+            let failure = Failure { step: 20, set: 3 };
+            let run = self.area();
+            let events = (1..=count + 1).chain([MAX_EVENTS - 1, MAX_EVENTS]);
+            let planes = events.flat_map(|event| [VALUE_BASE + event, HIGH_BASE + event]);
+            let past = HIGH_BASE + MAX_EVENTS + 1;
+            let gaps = [VALUE_BASE, HIGH_BASE, past, past + 1, AREA_WORDS - 1];
+            for word in planes.chain(gaps) {
+                for bit in [0, 31] {
+                    let mut changed = table.clone();
+                    changed[word] ^= 1 << bit;
+                    self.write(&changed);
+                    self.table(Input {
+                        table: &changed,
+                        failure,
+                        line: &[1, 1],
+                        order: &[1],
+                        run: &run,
+                    });
+                }
+            }
         }
 
         /// All traces of two processes with few events, each with all failures and all lines.
@@ -576,7 +666,10 @@ mod compare {
                 habits.receives = random.pick(&[10, 30, 49, 70]);
                 habits.in_transit = random.pick(&[1, procs, MAX_EVENTS]);
             }
-            let trace = shape.trace_with(habits, procs, events, random);
+            let mut trace = shape.trace_with(habits, procs, events, random);
+            if random.percent(70) {
+                trace.lengthen_values(random);
+            }
             let failure = shape.failure(&trace, random);
             self.texts(&trace, failure);
 
@@ -834,7 +927,7 @@ mod compare {
             let at = 10 + random.below(MAX_PROCS - 10);
             let to = 10 + (at - 9 + random.below(MAX_PROCS - 11)) % (MAX_PROCS - 10);
             sent.push((at, to));
-            let val = 1_000_000_000 + random.below(3_000_000_000) as u32;
+            let val = 1_000_000_000 + random.below(3_000_000_000) as u64;
             events.push(Event::Send { at, to, val });
         }
         let trace = Trace {
@@ -965,7 +1058,7 @@ mod compare {
                 let lines: [&[u8]; 8] = [
                     b"ev=save at=1\n",
                     b"ev=recv at=0 from=1\n",
-                    b"ev=send at=1 to=0 val=4294967295\n",
+                    b"ev=send at=1 to=0 val=18446744073709551615\n",
                     b"ev=send at=1 to=1 val=1\n",
                     b"fail=0 set=1\n",
                     b"procs=3\n",
@@ -984,7 +1077,7 @@ mod compare {
                 let digits = |i: usize| text.get(i).is_some_and(u8::is_ascii_digit);
                 if let Some(first) = (at..text.len()).find(|&i| digits(i)) {
                     let end = (first..).find(|&i| !digits(i)).expect("a text has an end");
-                    let numbers: [&[u8]; 13] = [
+                    let numbers: [&[u8]; 16] = [
                         b"0",
                         b"1",
                         b"2",
@@ -997,6 +1090,9 @@ mod compare {
                         b"4294967296",
                         b"18446744073709551615",
                         b"18446744073709551616",
+                        b"18446744073709551617",
+                        b"99999999999999999999",
+                        b"184467440737095516160",
                         b"99999999999999999999999999",
                     ];
                     text.splice(first..end, random.pick(&numbers).iter().copied());
@@ -1010,32 +1106,37 @@ mod compare {
         let procs = table[0] as usize;
         let events = table[1] as usize;
         let event = 1 + random.below(events.max(1));
-        let bits = random.bits() as u32;
-        let value = random.pick(&[bits, bits >> 16, bits >> 30, 0, 99_999_999, u32::MAX]);
+        let bits = random.bits();
+        let few = bits >> random.pick(&[16, 32, 48, 62]);
+        let long = random.pick(&LONG_VALUES);
+        let new = random.pick(&[bits, few, long, 99_999_999]);
         let at = random.below(procs);
         let to = (at + 1 + random.below(procs - 1)) % procs;
         let save = 0x3000 | at as u32;
         let send = 0x1000 | (to << 6 | at) as u32;
-        match random.below(7) {
-            // another value of a send, if it is one
-            0..=1 => {
-                if table[16 + event] >> 12 == 1 {
-                    table[2_065 + event] = value;
-                }
-            }
+        let put = |table: &mut [u32], event: usize, word: u32, value: u64| {
+            table[EVENT_BASE + event] = word;
+            set_value(table, event, value);
+        };
+        let is_send = table[EVENT_BASE + event] >> 12 == 1;
+        match random.below(8) {
+            // another value of a send, if it is one, or another half of it
+            0 if is_send => set_value(table, event, new),
+            1 if is_send => table[HIGH_BASE + event] = bits as u32,
+            2 if is_send => table[VALUE_BASE + event] = bits as u32,
             // another event in its place, which may leave a receive without its message
-            2 if events > 0 => (table[16 + event], table[2_065 + event]) = (save, 0),
-            3 if events > 0 => (table[16 + event], table[2_065 + event]) = (send, value),
+            3 if events > 0 => put(table, event, save, 0),
+            4 if events > 0 => put(table, event, send, new),
             // one event less at the end
-            4 if events > 0 => {
+            5 if events > 0 => {
                 table[1] -= 1;
-                (table[16 + events], table[2_065 + events]) = (0, 0);
+                put(table, events, 0, 0);
             }
             // one event more, or one process
-            5 if events < MAX_EVENTS => {
+            6 if events < MAX_EVENTS => {
                 table[1] += 1;
-                let (word, value) = random.pick(&[(save, 0), (send, value)]);
-                (table[17 + events], table[2_066 + events]) = (word, value);
+                let (word, value) = random.pick(&[(save, 0), (send, new)]);
+                put(table, events + 1, word, value);
             }
             _ => table[0] = MAX_PROCS.min(procs + 1) as u32,
         }
@@ -1045,23 +1146,30 @@ mod compare {
     fn damage(table: &mut [u32], random: &mut Random) {
         let events = table[1] as usize;
         let event = 1 + random.below(events.max(1));
+        let values = random.pick(&[VALUE_BASE, HIGH_BASE]);
         match random.below(12) {
             0 => table[0] = random.pick(&[0, 1, 2, 3, 63, 64, 65, u32::MAX]),
             1 => table[1] = random.pick(&[0, 1, 2_048, 2_049, events as u32 + 1, u32::MAX]),
             2 => table[1] = table[1].saturating_sub(1),
-            3 => table[16 + event] ^= 1 << random.below(32),
-            4 => table[16 + event] = random.bits() as u32 & 0x3fff,
-            5 => table[2_065 + event] ^= 1 << random.below(32),
-            6 => table.swap(16 + event, 16 + 1 + random.below(events.max(1))),
-            7 => table[16 + events + 1] = 0x3000 | random.below(2) as u32,
-            8 => table[random.pick(&[2, 3, 16, 2_065, 4_114, 16_383])] ^= 1 << random.below(32),
-            9 => table[2_065 + events + 1] ^= 1,
+            3 => table[EVENT_BASE + event] ^= 1 << random.below(32),
+            4 => table[EVENT_BASE + event] = random.bits() as u32 & 0x3fff,
+            5 => table[values + event] ^= 1 << random.below(32),
+            6 => {
+                let other = 1 + random.below(events.max(1));
+                table.swap(EVENT_BASE + event, EVENT_BASE + other);
+            }
+            7 => table[EVENT_BASE + events + 1] = 0x3000 | random.below(2) as u32,
+            8 => {
+                let gaps = [2, 3, EVENT_BASE, VALUE_BASE, HIGH_BASE, 6_163, 16_383];
+                table[random.pick(&gaps)] ^= 1 << random.below(32);
+            }
+            9 => table[values + events + 1] ^= 1,
             10 => table[random.below(AREA_WORDS)] = random.bits() as u32,
             _ => {
                 // one more event than there was, which may be fit
                 if events < MAX_EVENTS {
                     table[1] += 1;
-                    table[16 + events + 1] = random.bits() as u32 & 0x30c3;
+                    table[EVENT_BASE + events + 1] = random.bits() as u32 & 0x30c3;
                 }
             }
         }

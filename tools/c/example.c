@@ -1,7 +1,8 @@
 /* The library from C: reads the trace H of document 01, finds the restart line after its failure, carries out the
    lowest order from it, and compares the record with that of the line on which every process goes back to its start.
-   Then it changes the value of the first send and writes the trace back; and it writes back and reports the longest
-   text that there is. Prints what it finds; 1 if that is not as expected. */
+   Then it changes the value of the first send and writes the trace back, and finds that value in the record of another
+   replay; and it writes back and reports the longest text that there is. Prints what it finds; 1 if that is not as
+   expected. */
 #include <stdio.h>
 #include <string.h>
 
@@ -35,12 +36,22 @@ static uint32_t kind(size_t e) {
     return table[HALLBACK_EVENT_BASE + e] >> 12;
 }
 
-/* The longest text that there is: 64 processes, and 2,048 sends with values of ten digits. It is longer than what the
-   program hallback takes, but not too long to be reported. */
+/* The sum of the values that were received, by the words of a delivery record. */
+static uint64_t sum_received(const uint32_t *record, size_t events) {
+    uint64_t sum = 0;
+    for (size_t e = 1; e <= events; e++)
+        if (record[e] != 0) sum += hallback_taken_value(record, e);
+    return sum;
+}
+
+/* The longest text that there is: 64 processes, and 2,048 sends with values of twenty digits. It is longer than what
+   the program hallback takes, but not too long to be reported. */
 static int longest_fits(void) {
-    static char longest[80000];
+    enum { LONGEST = 92169 };
+    static char longest[LONGEST + 100];
     int n = sprintf(longest, "procs=64\n");
-    for (int e = 0; e < 2048; e++) n += sprintf(longest + n, "ev=send at=63 to=62 val=4294967295\n");
+    for (int e = 0; e < 2048; e++) n += sprintf(longest + n, "ev=send at=63 to=62 val=18446744073709551615\n");
+    if (n != LONGEST) return 0;
     if (hallback_read((const uint8_t *)longest, n, table, HALLBACK_WORDS, answer, 1) != 0 ||
         hallback_write(table, HALLBACK_WORDS, out, sizeof out, answer, 2) != 0 || answer[1] != (uint64_t)n)
         return 0;
@@ -80,14 +91,23 @@ int main(void) {
 
     /* Event 1 is a send; it gets another value. All else comes back as it was read. */
     if (kind(1) != HALLBACK_SEND || kind(2) != HALLBACK_RECV || kind(3) != HALLBACK_SAVE) return 1;
-    table[HALLBACK_VALUE_BASE + 1] = 6;
+    const uint64_t edited_value = 12345678901234567890u;
+    if (hallback_value(table, 1) != 5) return 1;
+    hallback_set_value(table, 1, edited_value);
     number = hallback_write(table, HALLBACK_WORDS, out, sizeof out, answer, 2);
     if (number != 0) return refused("write", number, answer[0]);
-    size_t traced = strstr(text, "fail=") - text;
-    uint8_t *value = (uint8_t *)strstr((char *)out, "val=") + 4;
-    int edited = *value == '6';
-    *value = '5';
-    int back = answer[1] == traced && memcmp(out, text, traced) == 0;
-    printf("the text %s back, edited: %llu bytes\n", edited && back ? "comes" : "does not come", (unsigned long long)answer[1]);
-    return !(edited && back && longest_fits());
+    static const char before[] = "val=5", after[] = "val=12345678901234567890";
+    size_t head = strstr(text, before) - text, tail = head + strlen(before), traced = strstr(text, "fail=") - text;
+    int back = answer[1] == traced + strlen(after) - strlen(before) && memcmp(out, text, head) == 0 &&
+               memcmp(out + head, after, strlen(after)) == 0 &&
+               memcmp(out + head + strlen(after), text + tail, traced - tail) == 0;
+    printf("the text %s back, edited: %llu bytes\n", back ? "comes" : "does not come", (unsigned long long)answer[1]);
+    if (!back) return 1;
+
+    /* The record has all that was received: by events 2, 5 and 8, and not the last message, which nobody receives. */
+    number = hallback_lowest(table, HALLBACK_WORDS, step, set, line, count, run, HALLBACK_WORDS, answer, 3);
+    if (number != 0) return refused("lowest", number, answer[0]);
+    uint64_t sum = sum_received(run, table[1]);
+    printf("the values received are %llu together\n", (unsigned long long)sum);
+    return !(hallback_taken_value(run, 2) == edited_value && sum == edited_value + 7 + 9 && longest_fits());
 }

@@ -18,7 +18,7 @@ static const char text[] =
     "ev=send at=1 to=2 val=7\n"
     "ev=recv at=2 from=1\n"
     "ev=save at=0\n"
-    "ev=send at=0 to=1 val=4294967295\n"
+    "ev=send at=0 to=1 val=18446744073709551615\n"
     "ev=send at=0 to=2 val=9\n"
     "ev=recv at=1 from=0\n"
     "ev=send at=1 to=2 val=4\n"

@@ -1,7 +1,9 @@
 //! The trace text, read in one pass.
 
 use super::{MAX_SAVES, RECEIVE, SAVE, SEND};
-use crate::{Cause, Failure, Refusal, AREA_WORDS, EVENT_BASE, MAX_EVENTS, MAX_PROCS, VALUE_BASE};
+use crate::values::halves;
+use crate::{Cause, Failure, Refusal};
+use crate::{AREA_WORDS, EVENT_BASE, HIGH_BASE, MAX_EVENTS, MAX_PROCS, VALUE_BASE};
 
 /// A place in a text.
 struct Cursor<'a> {
@@ -15,7 +17,7 @@ enum Line {
         kind: u8,
         at: u32,
         peer: u32,
-        value: u32,
+        value: u64,
     },
     Failure(Failure),
 }
@@ -69,8 +71,16 @@ impl Cursor<'_> {
     }
 
     /// A number of 64 bits.
-    fn set(&mut self) -> Option<u64> {
-        self.number(|number, digit| number.checked_mul(10)?.checked_add(digit))
+    #[inline]
+    fn two_words(&mut self) -> Option<u64> {
+        let tenth = u64::MAX / 10;
+        self.number(|number, digit| {
+            if number < tenth {
+                Some(10 * number + digit)
+            } else {
+                number.checked_mul(10)?.checked_add(digit)
+            }
+        })
     }
 
     fn process_count(&mut self) -> Option<u32> {
@@ -88,7 +98,7 @@ impl Cursor<'_> {
             self.bytes(b" to=")?;
             let peer = self.word()?;
             self.bytes(b" val=")?;
-            let value = self.word()?;
+            let value = self.two_words()?;
             self.bytes(b"\n")?;
             Some(Line::Event {
                 kind: SEND,
@@ -120,7 +130,7 @@ impl Cursor<'_> {
             self.bytes(b"fail=")?;
             let step = u64::from(self.word()?);
             self.bytes(b" set=")?;
-            let set = self.set()?;
+            let set = self.two_words()?;
             self.bytes(b"\n")?;
             Some(Line::Failure(Failure { step, set }))
         } else {
@@ -210,6 +220,6 @@ fn read_lines(
         }
         events += 1;
         table[EVENT_BASE + events] = at | peer << 6 | u32::from(kind) << 12;
-        table[VALUE_BASE + events] = value;
+        [table[VALUE_BASE + events], table[HIGH_BASE + events]] = halves(value);
     }
 }

@@ -1,16 +1,19 @@
 //! The words of a table area, and whether they hold a trace.
 
 use super::{MAX_SAVES, RECEIVE, SAVE, SEND};
-use crate::{AREA_WORDS, EVENT_BASE, MAX_EVENTS, MAX_PROCS, VALUE_BASE};
+use crate::values::from_halves;
+use crate::{AREA_WORDS, EVENT_BASE, HIGH_BASE, MAX_EVENTS, MAX_PROCS, VALUE_BASE};
 
 /// What a table area has beside zeros, if it holds a trace.
 pub(super) struct Words<'a> {
     /// How many processes.
     pub procs: usize,
     /// The word of each event.
-    pub events: &'a [u32],
-    /// The value of each event.
-    pub values: &'a [u32],
+    events: &'a [u32],
+    /// The low half of the value of each event.
+    lows: &'a [u32],
+    /// The high half of the value of each event.
+    highs: &'a [u32],
 }
 
 /// Whether all these words are 0. Without an early end, so that many are looked at at once.
@@ -48,12 +51,27 @@ impl<'a> Words<'a> {
         }
         let fit = all_zero(&table[2..=EVENT_BASE])
             && all_zero(&table[EVENT_BASE + 1 + count..=VALUE_BASE])
-            && all_zero(&table[VALUE_BASE + 1 + count..]);
+            && all_zero(&table[VALUE_BASE + 1 + count..=HIGH_BASE])
+            && all_zero(&table[HIGH_BASE + 1 + count..]);
         fit.then(|| Words {
             procs,
             events: &table[EVENT_BASE + 1..][..count],
-            values: &table[VALUE_BASE + 1..][..count],
+            lows: &table[VALUE_BASE + 1..][..count],
+            highs: &table[HIGH_BASE + 1..][..count],
         })
+    }
+
+    /// How many events.
+    pub fn count(&self) -> usize {
+        self.events.len()
+    }
+
+    /// The word and the value of each event.
+    #[inline]
+    pub fn events(&self) -> impl Iterator<Item = (u32, u64)> + 'a {
+        let values = self.lows.iter().zip(self.highs);
+        let events = self.events.iter().zip(values);
+        events.map(|(&word, (&low, &high))| (word, from_halves(low, high)))
     }
 
     /// Whether all events are fit, each after those before it.
@@ -68,7 +86,7 @@ impl<'a> Words<'a> {
         let channel = |from: usize, to: usize| to << 6 | from;
         let mut saves = [u16::from(MAX_SAVES); MAX_PROCS];
         let saves = &mut saves[..procs];
-        self.events.iter().zip(self.values).all(|(&word, &value)| {
+        self.events().all(|(word, value)| {
             let (kind, at, peer) = unpack(word);
             if kind == u32::from(SEND) {
                 let count = in_transit.get_mut(channel(at, peer));

@@ -1,8 +1,9 @@
 //! The runs of the requirements, and a slow implementation to compare with on small traces.
 
 use super::*;
-use crate::shapes::{each_trace, Event, Random, Shape, Trace};
-use crate::{EVENT_BASE, MAX_EVENTS, STAY, TEXT_BYTES};
+use crate::shapes::{each_trace, Event, Random, Shape, Trace, LONG_VALUES};
+use crate::{set_value, taken_value, value};
+use crate::{EVENT_BASE, HIGH_BASE, MAX_EVENTS, STAY, TEXT_BYTES, VALUE_BASE};
 use std::collections::{BTreeMap, VecDeque};
 
 const H: &str = "procs=3
@@ -221,7 +222,7 @@ fn limits() {
     );
     // a text may be longer than the program takes
     assert_eq!(report_of(&vec![b'x'; 65_537]), "refused=1 place=1\n");
-    let sends = "ev=send at=63 to=62 val=4294967295\n".repeat(2_048);
+    let sends = "ev=send at=63 to=62 val=18446744073709551615\n".repeat(2_048);
     let report = report_of(format!("procs=64\n{sends}fail=2048 set=1\n").as_bytes());
     assert!(report.ends_with("out=total back=1 orphans=0 kept=2048 steps=2048\n"));
 }
@@ -240,30 +241,16 @@ fn forms() {
         ("procs=2 \n", (1, 1), (1, 1)),
         ("procs=2\r\n", (1, 1), (1, 1)),
         ("procs=0\n", (2, 1), (2, 1)),
-        ("procs=4294967295\n", (2, 1), (2, 1)),
-        ("procs=4294967296\n", (1, 1), (1, 1)),
-        ("procs=99999999999999999999999\n", (1, 1), (1, 1)),
         ("fail=0 set=1\n", (1, 1), (1, 1)),
         ("ev=save at=0\n", (1, 1), (1, 1)),
         ("procs=2\nprocs=2\n", (1, 2), (1, 2)),
         ("procs=2\n\n", (1, 2), (1, 2)),
         ("procs=2\nev=save at=2\n", (3, 2), (3, 2)),
-        ("procs=2\nev=save at=4294967295\n", (3, 2), (3, 2)),
-        ("procs=2\nev=save at=4294967296\n", (1, 2), (1, 2)),
         ("procs=2\nev=save at=00\n", (1, 2), (1, 2)),
         ("procs=2\nev=save at=0", (1, 2), (1, 2)),
         ("procs=2\nev=send at=5 to=5 val=1\n", (3, 2), (3, 2)),
         ("procs=2\nev=send at=0 to=0 val=1\n", (4, 2), (4, 2)),
-        (
-            "procs=2\nev=send at=0 to=1 val=4294967296\n",
-            (1, 2),
-            (1, 2),
-        ),
-        (
-            "procs=2\nev=send at=0 to=1 val=4294967295\n",
-            (0, 0),
-            (1, 3),
-        ),
+        ("procs=2\nev=send at=0 to=1 val=01\n", (1, 2), (1, 2)),
         ("procs=2\nev=send to=1 at=0 val=1\n", (1, 2), (1, 2)),
         ("procs=2\nev=recv at=0 from=0\n", (4, 2), (4, 2)),
         ("procs=2\nev=recv at=0 from=2\n", (3, 2), (3, 2)),
@@ -273,10 +260,6 @@ fn forms() {
         ("procs=2\nfail=0 set=1\n\n", (1, 2), (1, 3)),
         ("procs=2\nfail=0 set=1\nx", (1, 2), (1, 3)),
         ("procs=2\nfail=0 set=1\nfail=0 set=1\n", (1, 2), (1, 3)),
-        ("procs=2\nfail=4294967296 set=1\n", (1, 2), (1, 2)),
-        ("procs=2\nfail=4294967295 set=1\n", (1, 2), (0, 0)),
-        ("procs=2\nfail=0 set=18446744073709551615\n", (1, 2), (0, 0)),
-        ("procs=2\nfail=0 set=18446744073709551616\n", (1, 2), (1, 2)),
         ("procs=2\nfail=0 set=01\n", (1, 2), (1, 2)),
     ];
     for &(text, without, with) in cases {
@@ -288,6 +271,113 @@ fn forms() {
         assert_eq!(answer(read_without.err()), without, "{text:?}");
         let read_with = read_failure(text.as_bytes(), &mut table);
         assert_eq!(answer(read_with.err()), with, "{text:?} with failure");
+    }
+}
+
+/// The largest number of each key has its place in a line, and the first too large one is no number.
+#[test]
+fn bounds_of_keys() {
+    const WORD: u64 = u32::MAX as u64;
+    // the text before and after the number; the largest; what that is refused with, 0 for not at all
+    let keys: &[(&str, &str, u64, u32)] = &[
+        ("procs=", "\nfail=0 set=1\n", WORD, 2),
+        (
+            "procs=2\nev=send at=",
+            " to=1 val=1\nfail=0 set=1\n",
+            WORD,
+            3,
+        ),
+        (
+            "procs=2\nev=send at=0 to=",
+            " val=1\nfail=0 set=1\n",
+            WORD,
+            3,
+        ),
+        (
+            "procs=2\nev=send at=0 to=1 val=",
+            "\nfail=0 set=1\n",
+            u64::MAX,
+            0,
+        ),
+        ("procs=2\nev=recv at=", " from=1\nfail=0 set=1\n", WORD, 3),
+        ("procs=2\nev=recv at=0 from=", "\nfail=0 set=1\n", WORD, 3),
+        ("procs=2\nev=save at=", "\nfail=0 set=1\n", WORD, 3),
+        ("procs=2\nfail=", " set=1\n", WORD, 0),
+        ("procs=2\nfail=0 set=", "\n", u64::MAX, 0),
+    ];
+    let mut table = vec![0; AREA_WORDS];
+    for &(before, after, largest, cause) in keys {
+        let place = before.lines().count() as u64;
+        let mut refused = |number: &str| {
+            let text = format!("{before}{number}{after}");
+            let refusal = read_failure(text.as_bytes(), &mut table).err();
+            refusal.map(|refusal| (refusal.cause.number(), refusal.place))
+        };
+        let accepted = (cause != 0).then_some((cause, place));
+        assert_eq!(refused(&largest.to_string()), accepted, "{before}");
+        let first = u128::from(largest) + 1;
+        let too_large = [first, first + 1, 99_999_999_999_999_999_999, 10 * first];
+        for number in too_large.map(|number| number.to_string()) {
+            assert_eq!(refused(&number), Some((1, place)), "{before}{number}");
+        }
+        assert_eq!(refused(&"9".repeat(60)), Some((1, place)), "{before}");
+    }
+}
+
+#[test]
+fn values_in_both_halves() {
+    let sends = LONG_VALUES.map(|val| format!("ev=send at=0 to=1 val={val}\n"));
+    let text = format!("procs=2\n{}ev=save at=1\n", sends.concat());
+    let mut table = table_of(&text);
+    for (event, wanted) in (1..).zip(LONG_VALUES) {
+        assert_eq!(value(&table, event), wanted);
+        assert_eq!(table[VALUE_BASE + event], wanted as u32);
+        assert_eq!(table[HIGH_BASE + event], (wanted >> 32) as u32);
+    }
+    assert_eq!(table[HIGH_BASE], 0);
+    let past = &table[HIGH_BASE + LONG_VALUES.len() + 1..AREA_WORDS];
+    assert!(past.iter().all(|&word| word == 0));
+    // a trace has one area: all that was set is set back
+    for event in 1..=LONG_VALUES.len() {
+        set_value(&mut table, event, u64::MAX - event as u64);
+        assert_eq!(value(&table, event), u64::MAX - event as u64);
+    }
+    for (event, value) in (1..).zip(LONG_VALUES) {
+        set_value(&mut table, event, value);
+    }
+    assert_eq!(table, table_of(&text));
+}
+
+#[test]
+#[should_panic(expected = "event 2049 is not 1 to 2048")]
+fn values_of_events_that_cannot_be() {
+    value(&[0; AREA_WORDS], MAX_EVENTS + 1);
+}
+
+/// Where no value can be, there is none of its halves.
+#[test]
+fn halves_where_no_value_is() {
+    let table = table_of(H); // 9 events, of which 2, 5 and 8 are receives, 3 and 6 saves
+    let past_values = HIGH_BASE + MAX_EVENTS + 1;
+    let gaps = [VALUE_BASE, HIGH_BASE, past_values, AREA_WORDS - 1];
+    let events = [2, 3, 5, 6, 8, 10, MAX_EVENTS];
+    let halves = events.map(|event| [VALUE_BASE + event, HIGH_BASE + event]);
+    for word in gaps.into_iter().chain(halves.concat()) {
+        for bit in [0, 31] {
+            let mut changed = table.clone();
+            changed[word] = 1 << bit;
+            let refusal = Refusal::new(Cause::Table, 0);
+            assert_eq!(restart(&changed, failure(9, 2)), Err(refusal), "{word}");
+            assert_eq!(written(&changed, 0).0, Err(refusal), "{word}");
+        }
+    }
+    for send in [1, 4, 7, 9] {
+        let mut changed = table.clone();
+        changed[HIGH_BASE + send] = 1;
+        let (answer, out) = written(&changed, TEXT_BYTES);
+        let val = (1 << 32) + value(&table, send);
+        assert!(out[..answer.unwrap()].contains(&format!(" val={val}\n")));
+        assert_eq!(restart(&changed, failure(9, 2)).unwrap().line(), [2, 2, 32]);
     }
 }
 
@@ -347,11 +437,11 @@ fn writes_what_was_read() {
 
 #[test]
 fn writes_all_numbers() {
-    let around = |number: u32| [number - 1, number, number + 1];
-    let values = (0..10).flat_map(|digits| around(10u32.pow(digits)));
-    let values: Vec<u32> = values.chain([u32::MAX - 1, u32::MAX]).collect();
+    let around = |number: u64| [number - 1, number, number + 1];
+    let values = (0..20).flat_map(|digits| around(10u64.pow(digits)));
+    let values: Vec<u64> = values.chain(around(1 << 32)).chain(LONG_VALUES).collect();
     assert_eq!(values[0], 0);
-    let send = |at: u32, to: u32, val: u32| format!("ev=send at={at} to={to} val={val}\n");
+    let send = |at: u64, to: u64, val: u64| format!("ev=send at={at} to={to} val={val}\n");
     let sends = values.iter().map(|&val| send(63, 9, val));
     let processes = (0..63).map(|z| send(z, z + 1, z) + &send(z + 1, z, 7));
     let others = (1..64).map(|z| format!("ev=recv at={z} from={}\nev=save at={z}\n", z - 1));
@@ -367,8 +457,9 @@ fn writes_all_numbers() {
         let text = format!("procs=12\n{}", send(10, 11, val));
         writes_back(&text, [text.len() - 1, text.len(), TEXT_BYTES]);
     }
-    let longest = format!("procs=64\n{}", send(63, 62, u32::MAX).repeat(MAX_EVENTS));
+    let longest = format!("procs=64\n{}", send(63, 62, u64::MAX).repeat(MAX_EVENTS));
     let length = longest.len();
+    assert_eq!(length, 92_169);
     assert!(length <= TEXT_BYTES);
     writes_back(&longest, [length - 1, length, TEXT_BYTES]);
 }
@@ -380,7 +471,9 @@ fn writes_random_traces() {
         let shape = Shape::ALL[round % Shape::ALL.len()];
         let procs = 2 + random.below(63);
         let events = random.below(200);
-        let text = shape.trace(procs, events, &mut random).text();
+        let mut trace = shape.trace(procs, events, &mut random);
+        trace.lengthen_values(&mut random);
+        let text = trace.text();
         let length = text.len();
         let rooms = [length - 1, length, length + random.below(99), TEXT_BYTES];
         writes_back(&String::from_utf8(text).unwrap(), rooms);
@@ -509,7 +602,33 @@ fn d9_records_by_number() {
         &mut run,
     );
     assert!(replayed.unwrap().complete);
-    assert_eq!((run[3], run[RECORD_VALUE_BASE + 3]), (2, 1));
+    assert_eq!((run[3], taken_value(&run, 3)), (2, 1));
+}
+
+/// Two messages that differ only above bit 31, from a line that loses the first: the records differ
+/// in the number and in the high half, and nowhere else.
+#[test]
+fn records_by_high_half() {
+    let table = table_of(
+        "procs=2
+ev=send at=0 to=1 val=7
+ev=send at=0 to=1 val=4294967303
+ev=recv at=1 from=0
+",
+    );
+    let record = |set: u64, line: &[u32]| {
+        let mut run = new_run();
+        lowest(&table, failure(3, set), line, &mut run).unwrap();
+        run
+    };
+    let lossless = record(3, &[1, 1]);
+    assert_eq!((lossless[3], taken_value(&lossless, 3)), (1, 7));
+    let lossy = record(2, &[32, 1]);
+    assert_eq!((lossy[3], taken_value(&lossy, 3)), (2, 4_294_967_303));
+    let differ: Vec<usize> = (0..AREA_WORDS)
+        .filter(|&word| lossless[word] != lossy[word])
+        .collect();
+    assert_eq!(differ, [3, TAKEN_HIGH_BASE + 3]);
 }
 
 /// A message of the recorded run, as the requirements speak of it.
@@ -518,7 +637,7 @@ struct Message {
     from: usize,
     to: usize,
     number: u32,
-    value: u32,
+    value: u64,
     sent: usize,
     received: Option<usize>,
     phase: u32,
@@ -727,7 +846,8 @@ impl<'a> SlowReplay<'a> {
 
     fn receive(&mut self, i: usize, message: &Message) {
         self.run[i] = message.number;
-        self.run[2049 + i] = message.value;
+        self.run[2049 + i] = message.value as u32;
+        self.run[4098 + i] = (message.value >> 32) as u32;
     }
 
     /// Moves on to the next event of a process.
@@ -919,7 +1039,8 @@ fn replays_of_small_traces() {
         let shape = Shape::ALL[round % Shape::ALL.len()];
         let procs = 2 + random.below(3);
         let events = random.below(24);
-        let trace = shape.trace(procs, events, &mut random);
+        let mut trace = shape.trace(procs, events, &mut random);
+        trace.lengthen_values(&mut random);
         let failure = shape.failure(&trace, &mut random);
         let lines: u32 = Slow::new(&trace, failure).states[failure.step as usize]
             .iter()

@@ -19,9 +19,9 @@ pub(super) fn write(table: &[u32; AREA_WORDS], out: &mut [u8]) -> Result<usize, 
 
 fn text(words: &Words) -> Vec<u8> {
     let mut text = Vec::with_capacity(TEXT_BYTES);
-    pair(&mut text, b"procs=", words.procs as u32);
+    pair(&mut text, b"procs=", words.procs as u64);
     text.push(b'\n');
-    for (&word, &value) in words.events.iter().zip(words.values) {
+    for (word, value) in words.events() {
         event(&mut text, word, value);
         text.push(b'\n');
     }
@@ -29,9 +29,9 @@ fn text(words: &Words) -> Vec<u8> {
 }
 
 /// The line of an event but its end.
-fn event(text: &mut Vec<u8>, word: u32, value: u32) {
+fn event(text: &mut Vec<u8>, word: u32, value: u64) {
     let (kind, at, peer) = unpack(word);
-    let (at, peer) = (at as u32, peer as u32);
+    let (at, peer) = (at as u64, peer as u64);
     if kind == u32::from(SEND) {
         pair(text, b"ev=send at=", at);
         pair(text, b" to=", peer);
@@ -46,15 +46,15 @@ fn event(text: &mut Vec<u8>, word: u32, value: u32) {
 
 /// A key with what stands before it, and its number.
 #[inline]
-fn pair(text: &mut Vec<u8>, key: &[u8], number: u32) {
+fn pair(text: &mut Vec<u8>, key: &[u8], number: u64) {
     text.extend_from_slice(key);
-    let digit = |number: u32| b'0' + (number % 10) as u8;
+    let digit = |number: u64| b'0' + (number % 10) as u8;
     if number < 10 {
         text.push(digit(number));
     } else if number < 100 {
         text.extend_from_slice(&[digit(number / 10), digit(number)]);
     } else {
-        let mut digits = [0; 10];
+        let mut digits = [0; 20];
         let mut first = digits.len();
         let mut rest = number;
         while rest > 0 {
