@@ -1,7 +1,8 @@
 // Sizes and refusals of the reader, run and printed: a line for each case, with the answer's number and place, how many
-// of the area's first 16,384 words are not 0, and how many later words changed; where a text is accepted, also its
-// trace written back and read again. The file `stdout` has what documents 01 and 02 ask of each. Proved safe and
-// ending; what is printed no contract can say. Assumes what `libc` assumes.
+// of the area's first 16,384 words are not 0, and how many later words changed, or else the words themselves; where a
+// text is accepted, also its trace written back and read again; of a text with a failure line its step and set. The
+// file `stdout` has what documents 01 and 02 ask of each. Proved safe and ending; what is printed no contract can say.
+// Assumes what `libc` assumes.
 ghost use Prim.Native.Nat.{_≤_};
 ghost use lib.ListN.{length};
 ghost use Rattle.io.specs.Counts.{Counts};
@@ -137,6 +138,8 @@ fn first_lines() {
         procs-65:procs=65\n;\
         procs-largest:procs=4294967295\n;\
         procs-over:procs=4294967296\n;\
+        procs-64-bits:procs=18446744073709551615\n;\
+        procs-wraps-to-0:procs=18446744073709551616\n;\
         procs-wraps-to-2:procs=18446744073709551618\n;\
         procs-leading-zero:procs=02\n;\
         procs-no-number:procs=\n;\
@@ -208,24 +211,95 @@ fn leading_zeros() {
     );
 }
 
-// The largest number of each key and the first too large one.
+// The largest number of each key of an event, and what is too large: the first, the largest that 64 bits can hold, and
+// those that are small where no more than 64 bits are kept. Of a value only what is too large: `values` has the others.
 fn largest_numbers() {
     rows(
         b"procs=2\n",
         b"send-at-largest:ev=send at=4294967295 to=1 val=5\n;\
         send-at-over:ev=send at=4294967296 to=1 val=5\n;\
+        send-at-64-bits:ev=send at=18446744073709551615 to=1 val=5\n;\
+        send-at-wraps-to-0:ev=send at=18446744073709551616 to=1 val=5\n;\
         send-to-largest:ev=send at=0 to=4294967295 val=5\n;\
         send-to-over:ev=send at=0 to=4294967296 val=5\n;\
-        send-val-largest:ev=send at=0 to=1 val=4294967295\n;\
-        send-val-over:ev=send at=0 to=1 val=4294967296\n;\
-        send-val-wraps-to-0:ev=send at=0 to=1 val=18446744073709551616\n;\
+        send-to-64-bits:ev=send at=0 to=18446744073709551615 val=5\n;\
+        send-to-wraps-to-0:ev=send at=0 to=18446744073709551616 val=5\n;\
+        send-val-over:ev=send at=0 to=1 val=18446744073709551616\n;\
+        send-val-over-by-its-tens:ev=send at=0 to=1 val=18446744073709551620\n;\
+        send-val-wraps-to-0:ev=send at=0 to=1 val=36893488147419103232\n;\
+        send-val-wraps-to-7:ev=send at=0 to=1 val=18446744073709551623\n;\
+        send-val-20-nines:ev=send at=0 to=1 val=99999999999999999999\n;\
+        send-val-21-digits:ev=send at=0 to=1 val=100000000000000000000\n;\
+        send-val-21-digits-wrap-to-0:ev=send at=0 to=1 val=184467440737095516160\n;\
+        send-val-39-digits-wrap-to-0:ev=send at=0 to=1 val=340282366920938463463374607431768211456\n;\
         recv-at-largest:ev=recv at=4294967295 from=0\n;\
         recv-at-over:ev=recv at=4294967296 from=0\n;\
+        recv-at-64-bits:ev=recv at=18446744073709551615 from=0\n;\
+        recv-at-wraps-to-0:ev=recv at=18446744073709551616 from=0\n;\
         recv-from-largest:ev=recv at=1 from=4294967295\n;\
         recv-from-over:ev=recv at=1 from=4294967296\n;\
+        recv-from-64-bits:ev=recv at=1 from=18446744073709551615\n;\
+        recv-from-wraps-to-0:ev=recv at=1 from=18446744073709551616\n;\
         save-at-largest:ev=save at=4294967295\n;\
         save-at-over:ev=save at=4294967296\n;\
+        save-at-64-bits:ev=save at=18446744073709551615\n;\
         save-at-wraps-to-0:ev=save at=18446744073709551616\n;",
+    );
+}
+
+// Reads a send whose value has these digits, and prints its words from those of the values on: the low half is word
+// 2066, the high half word 4115.
+fn halves(name: &[u8], digits: &[u8]) {
+    let mut text = [0u8; 128];
+    let at = repeat(&mut text, 0, b"procs=2\nev=send at=0 to=1 val=", 1);
+    let end = repeat(&mut text, at, digits, 1);
+    let n = repeat(&mut text, end, b"\n", 1);
+    table(name, &text[..n], 2065);
+}
+
+// Values up to the largest: where another bit or another digit is first needed, and halves that differ.
+fn values() {
+    halves(b"send-val-32-bits", b"4294967295");
+    halves(b"send-val-33-bits", b"4294967296");
+    halves(b"send-val-7-in-the-low-half", b"4294967303");
+    halves(b"send-val-7-in-the-high-half", b"30064771072");
+    halves(b"send-val-63-bits", b"9223372036854775807");
+    halves(b"send-val-64-bits", b"9223372036854775808");
+    halves(b"send-val-19-digits", b"9999999999999999999");
+    halves(b"send-val-20-digits", b"10000000000000000000");
+    halves(b"send-val-halves-differ", b"12345678901234567890");
+    halves(b"send-val-high-half-only", b"18446744069414584320");
+    halves(b"send-val-largest-but-one", b"18446744073709551614");
+    halves(b"send-val-largest", b"18446744073709551615");
+}
+
+// Reads a text that ends with this failure line, and prints the step and the set that are answered.
+fn failure(name: &[u8], line: &[u8]) {
+    let mut text = [0u8; 128];
+    let at = repeat(&mut text, 0, b"procs=2\nev=save at=0\n", 1);
+    let n = repeat(&mut text, at, line, 1);
+    let mut area = [BEFORE; AREA_WORDS];
+    let a = reader::read_failure(&text[..n], &mut area);
+    io::write_all(1, name);
+    checks::print(
+        b" # # step=# set=#\n",
+        &[a.number as u64, a.place as u64, a.step, a.set],
+    );
+}
+
+// The numbers of a failure line: a step goes as far as a process, a set as far as a value.
+fn failures() {
+    failure(b"fail-largest", b"fail=4294967295 set=1\n");
+    failure(b"fail-over", b"fail=4294967296 set=1\n");
+    failure(b"fail-64-bits", b"fail=18446744073709551615 set=1\n");
+    failure(b"fail-wraps-to-0", b"fail=18446744073709551616 set=1\n");
+    failure(b"set-33-bits", b"fail=1 set=4294967296\n");
+    failure(b"set-largest", b"fail=1 set=18446744073709551615\n");
+    failure(b"set-over", b"fail=1 set=18446744073709551616\n");
+    failure(b"set-wraps-to-1", b"fail=1 set=18446744073709551617\n");
+    failure(
+        b"set-21-digits-wrap-to-0",
+        b"fail=1 set=184467440737095516160\n",
     );
 }
 
@@ -279,7 +353,7 @@ fn events() {
     let mut text = [0u8; 65536];
     let at = repeat(&mut text, 0, b"procs=2\n", 1);
     let m = repeat(&mut text, at, b"ev=send at=0 to=1 val=0\n", 2047);
-    let n = repeat(&mut text, m, b"ev=send at=1 to=0 val=9\n", 1);
+    let n = repeat(&mut text, m, b"ev=send at=1 to=0 val=4294967305\n", 1);
     table(b"events-2048", &text[..n], 2060);
     rows(
         &text[..n],
@@ -293,9 +367,14 @@ fn events() {
 
 // The largest text that there is.
 fn largest_text() {
-    let mut text = [0u8; 71689];
+    let mut text = [0u8; 92169];
     let at = repeat(&mut text, 0, b"procs=64\n", 1);
-    let n = repeat(&mut text, at, b"ev=send at=63 to=62 val=4294967295\n", 2048);
+    let n = repeat(
+        &mut text,
+        at,
+        b"ev=send at=63 to=62 val=18446744073709551615\n",
+        2048,
+    );
     case(b"largest-text", &text[..n]);
 }
 
@@ -318,6 +397,8 @@ fn main() {
     malformed_lines();
     leading_zeros();
     largest_numbers();
+    values();
+    failures();
     faults();
     first_receive();
     saves();
