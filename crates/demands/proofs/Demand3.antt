@@ -24,7 +24,7 @@ use Rattle.theory.proofs.Orders.{run-reaches, order-progress, order-done, order
 use Rattle.recovery_line.specs.declared.Line.{Line}
 use Rattle.orders.specs.Record.{faultlessAt, listIn}
 use Rattle.orders.proofs.Told.{faultless-told}
-use Rattle.protocol.proofs.Passes.{held-few}
+use Rattle.protocol.proofs.Passes.{held-few, held-narrow}
 use Rattle.preparing.specs.Faults.{runOf}
 use Rattle.recovery.specs.Answers.{replayAnswer, replayArea, Equal, SameLists}
 use Rattle.demands.proofs.Replays.{promised, Carried, accepted, carried-laws, two-told}
@@ -49,7 +49,7 @@ module _ (a area : List ℕ) (step set : ℕ) (l : Line) (order : List ℕ) wher
   -- "In the run without failure these are its receives in the whole trace, those after the cut too.": so `Equal`'s
   -- words are words of these lists
   pub faultless-lists : holdsTrace a ≡ true → (p q : ℕ) → listIn (held a) (wordsFrom (faultlessAt (held a)) 0 areaWords) p q ≡ faultless R p q
-  faultless-lists h = faultless-told R (held-few a h)
+  faultless-lists h = faultless-told R (held-few a h) (held-narrow a h)
 
   -- "an order with one not allowed is refused and has no record": the area is zeros
   pub no-record : replayAnswer a area step set l order .number ≡ 11 → take areaWords after ≡ replicate areaWords 0

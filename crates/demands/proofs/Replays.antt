@@ -22,7 +22,7 @@ use Rattle.theory.specs.Inner.Laws.{Laws}
 use Rattle.theory.specs.Inner.Refusals.{FitLine}
 use Rattle.theory.proofs.Epochs.{laws}
 use Rattle.theory.proofs.Orders.{run-steps, complete-iff}
-use Rattle.protocol.proofs.Passes.{held-valid, held-few}
+use Rattle.protocol.proofs.Passes.{held-valid, held-few, held-narrow}
 use Rattle.recovery_line.specs.declared.Line.{Line}
 use Rattle.recovery_line.specs.Given.{lineIn}
 use Rattle.orders.specs.declared.Replayed.{Replayed}
@@ -252,7 +252,7 @@ module _ (a : List ℕ) (area other : List ℕ) (step other-step set other-set :
       let (s, C) = accepted a area step set l order ok in
       let (u, D) = accepted a other other-step other-set m other-order other-ok in
       let h = left-iff a .1 (C .areas .0) in
-      let T = record-told (held a) (held-valid a h) (held-few a h) step other-step (C .fit .failure .step-most) (D .fit .failure .step-most) (lineIn l) (lineIn m) order other-order s u (C .carries) (D .carries) in (
+      let T = record-told (held a) (held-valid a h) (held-few a h) (held-narrow a h) step other-step (C .fit .failure .step-most) (D .fit .failure .step-most) (lineIn l) (lineIn m) order other-order s u (C .carries) (D .carries) in (
         λ e p q. C .lists p q ∙ T .0 (sym (C .words) ∙ e ∙ D .words) p q ∙ sym (D .lists p q),
         λ e. C .words ∙ T .1 (λ p q. sym (C .lists p q) ∙ e p q ∙ D .lists p q) ∙ sym (D .words),
       )

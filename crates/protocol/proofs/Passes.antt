@@ -15,12 +15,13 @@ use Rattle.trace.specs.Table.{tableWord}
 use Rattle.table.specs.Held.{heldEvent, heldEvents, held, holdsTrace}
 use Rattle.table.proofs.Places.{length-held}
 use Rattle.table.proofs.Holding.{held-self, words-of}
-use Rattle.theory.specs.Events.{size, eventAt}
+use Rattle.theory.specs.Events.{size, eventAt, value}
 use Rattle.theory.proofs.WellFormed.{Valid, valid}
 use Rattle.theory.specs.Epochs.{loggedBy, ruleOf}
 use Rattle.columns.specs.Inner.Columns.{fullWords, Columns, Flagged, Others}
 use Rattle.columns.specs.Inner.Filling.{noteFull, noteWork, Notable, Storable, Filled, Working}
 use Rattle.columns.proofs.Bounds.{well-few}
+use Rattle.columns.proofs.Full.{message-most}
 use Rattle.columns.proofs.Others.{begin-others}
 use Rattle.columns.proofs.Passes.{begin-filled, notable, next-filled, next-others, next-working, filled-columns}
 
@@ -51,6 +52,9 @@ module _ (a : List ℕ) (h : holdsTrace a ≡ true) where
 
   pub held-few : size (held a) ≤ 2048
   held-few = well-few (held a) (facts .1)
+
+  pub held-narrow : (p q k : ℕ) → value (held a) p q k ≤ 18446744073709551615
+  held-narrow = message-most (held a) (facts .1)
 
   pub held-word : (k : ℕ) → k < 16384 → getD a k 0 ≡ tableWord (held a) k
   held-word k l =

@@ -28,7 +28,7 @@ module _ (R : Run) where
   past-record : (o : Outcome) (k : ℕ) → recordEnd ≤ k → k < areaWords → getD (wordsOf R o) k 0 ≡ 0
   unfolding wordsOf recordAt
   past-record (carriedOut s) k a b =
-      getD-words (recordAt R s) 0 16384 k b ∙ ap (recordAt R s) (let q : 0 + k ≡ k = omega arith in q) ∙ rw (le-ltb k 2049 (omega arith), le-ltb k 4098 a)
+      getD-words (recordAt R s) 0 16384 k b ∙ ap (recordAt R s) (let q : 0 + k ≡ k = omega arith in q) ∙ rw (le-ltb k 2049 (omega arith), le-ltb k 4098 (omega arith), le-ltb k 6147 a)
   past-record (refused i) k a b = getD-replicate {A = ℕ} 16384 k 0 0 b
 
   length-record : (o : Outcome) → length (wordsOf R o) ≡ areaWords
@@ -40,5 +40,5 @@ module _ (R : Run) where
   pub record-cleared : (o : Outcome) (w z : List ℕ) → w ≡ wordsOf R o → z ≡ replicate (length (take recordEnd w)) 0 → z ++ drop recordEnd w ≡ replicate areaWords 0
   record-cleared o w z e q =
       let l : length w ≡ 16384 = ap length e ∙ length-record o in
-      let n : length (take 4098 w) ≡ 4098 = length-take-le 4098 w (omega arith) in
-      rw (q, n) (clear-rest 4098 16384 w (omega arith) l (λ k a b. ap (λ (x : List ℕ). getD x k 0) e ∙ past-record o k a b))
+      let n : length (take 6147 w) ≡ 6147 = length-take-le 6147 w (omega arith) in
+      rw (q, n) (clear-rest 6147 16384 w (omega arith) l (λ k a b. ap (λ (x : List ℕ). getD x k 0) e ∙ past-record o k a b))

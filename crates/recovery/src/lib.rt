@@ -103,7 +103,7 @@ fn not_recovered(number: u32) -> Recovered
 }
 
 // How many words of the run area a replay's record takes up; those after it are 0.
-const RECORD_WORDS: usize = 4098;
+const RECORD_WORDS: usize = 6147;
 
 // The answers for a failure that is not refused, from the full table. The list of the messages takes the place of the
 // replay's record.

@@ -17,9 +17,8 @@ use Rattle.theory.specs.Replay.{process, State}
 use Rattle.theory.proofs.Flow.{Did, did-other, did-send, did-recv, view}
 use Rattle.theory.specs.Inner.Flow.{Inv}
 use Rattle.theory.proofs.Orders.{choice-process, choose-of}
-use Rattle.machine.specs.Taken.{takenBase}
 use Rattle.machine.specs.Inner.Words.{currentBase, orphanBase, takeBase, putBase, lowPlace, noPhase, curW, orpW, takeW, putW, lowW, sendOk, eventOk, processOk, handOk, allowedW, lowOf, lesser, movedW, dropW, putInW, takeOutW, eventStepW, processW, applyW, Bounded, keptPhase}
-use Rattle.columns.specs.Inner.Full.{kindW, peerW, valueW, numberW, phaseW}
+use Rattle.columns.specs.Inner.Full.{kindW, peerW, phaseW}
 use Rattle.theory.specs.Inner.Lists.{head0}
 use Rattle.machine.specs.Inner.Related.{Rel, Started}
 use Rattle.machine.specs.Inner.Shapes.{Readable, Movable, Begun}
@@ -27,6 +26,7 @@ use Rattle.machine.proofs.Facts.{left-none, left-some}
 use Rattle.machine.proofs.Moves.{at-next}
 use Rattle.sets.specs.Inner.Sets.{everyone, firstIn, restOf, withIn, Outside}
 use Rattle.search.specs.Inner.Lowest.{Idle, Shut, NoneTo, Under, Keeps, SendersKnown, ToHand, ToRun, ToKeep, NoneBefore, unlessNew, LowestDone}
+use Rattle.machine.proofs.Noted.{noted-other}
 use Rattle.machine.proofs.Steps.{process-none, allowed-process, allowed-hand}
 use Rattle.moves.proofs.Steps.{apply-process, apply-hand}
 use Rattle.orders.proofs.Ordering.{readable, movable}
@@ -50,9 +50,7 @@ module _ (t l a : List ℕ) where
   unfolding takeOutW
   take-other c e k lt j h =
       let b = set a (takeBase + c) (getD l (4 * takeW a c + 1) 0) in
-      let d = set b e (numberW t (takeW a c)) in
-      getD-set-other d (takenBase + e) k (valueW t (takeW a c)) 0 (λ q. omega arith) ∙ getD-set-other b e k (numberW t (takeW a c)) 0 (λ q. omega arith)
-      ∙ getD-set-other a (takeBase + c) k (getD l (4 * takeW a c + 1) 0) 0 h
+      noted-other t b e (takeW a c) k (λ q. omega arith) (λ d m q. omega arith) ∙ getD-set-other a (takeBase + c) k (getD l (4 * takeW a c + 1) 0) 0 h
 
   -- a word after the record that is no pointer of process z or of its peer's channels, nor the least phase
   event-other : (z e k : ℕ) → e < 2049 → currentBase ≤ k → k ≢ orphanBase + z → k ≢ lowPlace → (kindW t e ≡ 1 → k ≢ putBase + (64 * z + peerW t e))
