@@ -23,7 +23,8 @@ use Rattle.theory.proofs.Loss.{inv}
 use Rattle.theory.proofs.Orders.{run-reaches, order-progress, order-done, order-differs}
 use Rattle.recovery_line.specs.declared.Line.{Line}
 use Rattle.orders.specs.Record.{faultlessAt, listIn}
-use Rattle.orders.proofs.Told.{faultless-told}
+use Rattle.orders.specs.Inner.Alike.{Alike}
+use Rattle.orders.proofs.Told.{faultless-told, alike-self}
 use Rattle.protocol.proofs.Passes.{held-few, held-narrow}
 use Rattle.preparing.specs.Faults.{runOf}
 use Rattle.recovery.specs.Answers.{replayAnswer, replayArea, Equal, SameLists}
@@ -92,4 +93,13 @@ pub records-told : (a area other : List ℕ) (step other-step set other-set : �
     → replayAnswer a area step set l order .number ≡ 0 → replayAnswer a other other-step other-set m other-order .number ≡ 0
     → let one = replayArea a area step set l order in let two = replayArea a other other-step other-set m other-order in
     (take areaWords one ≡ take areaWords two) ↔ ((p q : ℕ) → listIn (held a) one p q ≡ listIn (held a) two p q)
-records-told = two-told
+records-told a = two-told a a (alike-self (held a))
+
+-- "Records and equality of records use the wide value" (document 02, item 4): the same of two table areas whose traces
+-- differ in what is sent only. Two traces in which one message has another value, even if only above bit 32, leave
+-- different words wherever it is received: without the high half the words would be the same, and the lists not.
+pub values-told : (a b : List ℕ) → Alike (held a) (held b) → (area other : List ℕ) (step other-step set other-set : ℕ) (l m : Line) (order other-order : List ℕ)
+    → replayAnswer a area step set l order .number ≡ 0 → replayAnswer b other other-step other-set m other-order .number ≡ 0
+    → let one = replayArea a area step set l order in let two = replayArea b other other-step other-set m other-order in
+    (take areaWords one ≡ take areaWords two) ↔ ((p q : ℕ) → listIn (held a) one p q ≡ listIn (held b) two p q)
+values-told = two-told

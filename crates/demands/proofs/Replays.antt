@@ -28,6 +28,7 @@ use Rattle.recovery_line.specs.Given.{lineIn}
 use Rattle.orders.specs.declared.Replayed.{Replayed}
 use Rattle.orders.specs.Record.{recordAt, listIn}
 use Rattle.orders.specs.Answer.{answerOf, wordsOf}
+use Rattle.orders.specs.Inner.Alike.{Alike}
 use Rattle.orders.proofs.Told.{record-told}
 use Rattle.preparing.specs.Faults.{runOf, lineFaultOf}
 use Rattle.recovery.specs.Answers.{refusal, replayAnswer, replayArea}
@@ -237,7 +238,7 @@ module _ (a area : List ℕ) (step set : ℕ) (l : Line) (order : List ℕ) wher
   pub carried-laws : (s : State) → Carried s → Laws R
   carried-laws s C = laws (held a) (ruleOf (held a)) (held-valid a (left-iff a .1 (C .areas .0))) step (lineIn l) (C .fit .failure .step-most)
 
--- ---- Two calls with one table area
+-- ---- Two calls with one table area, or with two whose traces are alike
 
 module _ (a : List ℕ) (area other : List ℕ) (step other-step set other-set : ℕ) (l m : Line) (order other-order : List ℕ)
     (ok : replayAnswer a area step set l order .number ≡ 0) (other-ok : replayAnswer a other other-step other-set m other-order .number ≡ 0) where

@@ -1,5 +1,6 @@
 -- The words of a record tell its lists: read from a run area they are those of the order's state, whatever the line,
--- complete or not; so two orders of one trace leave the same words exactly if they leave the same lists.
+-- complete or not; so two orders of one trace, or of two that differ in what is sent only, leave the same words exactly
+-- if they leave the same lists.
 use mathlib.Core.Path.{_≡_, refl, sym, ap, _∙_}
 use mathlib.Core.Logic.{_↔_, inl, inr}
 use mathlib.Core.Bool.{true, false, _&&_, cond}
@@ -14,7 +15,7 @@ use Rattle.words.specs.Halves.{half}
 use Rattle.words.proofs.Halves.{halves-back}
 use Rattle.words.proofs.Area.{words-at}
 use Rattle.trace.specs.Trace.{Trace}
-use Rattle.theory.specs.Lists.{iv, keep}
+use Rattle.theory.specs.Lists.{iv, keep, cnt}
 use Rattle.theory.specs.Inner.Lists.{has}
 use Rattle.theory.specs.Events.{Kind, send, recv, other, size, at, kind, recvs, rcvd, value}
 use Rattle.theory.specs.Epochs.{ruleOf}
@@ -24,16 +25,17 @@ use Rattle.theory.specs.Record.{entry, delivered, faultless}
 use Rattle.theory.specs.Order.{carriedOut, run}
 use Rattle.theory.specs.Inner.Laws.{Laws}
 use Rattle.theory.specs.Inner.Flow.{rBefore, sBefore, keptb, ahead, flow, Inv}
-use Rattle.theory.proofs.Base.{by, on, le?, both, clash, false-or, or-right, eqb-self, keep-keep, length-iv, has-append, has-keep, has-keep-is, has-iv-not}
+use Rattle.theory.proofs.Base.{by, on, le?, both, clash, false-or, or-right, eqb-self, keep-keep, keep-iv-cong, length-iv, has-append, has-keep, has-keep-is, has-iv-not}
 use Rattle.theory.proofs.WellFormed.{Valid}
 use Rattle.theory.proofs.Epochs.{laws}
 use Rattle.theory.proofs.Classes.{restart-n, kept-list}
-use Rattle.theory.proofs.Events.{recvs-is, rcvd-le, rcvd-lt}
-use Rattle.theory.proofs.Loss.{taken-iv, ahead-listed, inv, same-numbers}
+use Rattle.theory.proofs.Events.{recvs-is, recvs-of, rcvd-le, rcvd-lt}
+use Rattle.theory.proofs.Loss.{taken-iv, ahead-listed, inv}
 use Rattle.theory.proofs.Orders.{run-reaches}
 use Rattle.machine.specs.Taken.{takenBase, recordEnd, tookNumber, tookValue, takenNumber, takenValue}
 use Rattle.orders.specs.Record.{recordAt, receivedNumber, receivedValue, faultlessAt, entryIn, listIn}
 use Rattle.links.proofs.Matches.{getD-iv, getD-map}
+use Rattle.orders.specs.Inner.Alike.{Alike}
 use Rattle.orders.proofs.Records.{words-cong}
 
 -- ---- No message has the number 0
@@ -123,15 +125,15 @@ module _ (R : Run) where
   -- an area in which the receives of a channel have taken the messages gs, one after another, has this list
   list-is : (w : List ℕ) (p q : ℕ) (gs : List ℕ)
       → ((e : ℕ) → 0 < e → e ≤ n → recvs t p q e ≡ true
-      → (getD w e 0 ≡ getD gs (rcvd t p q e - 1) 0) × (entryIn t w e .1 ≡ getD (map (value t p q) gs) (rcvd t p q e - 1) 0))
+      → (getD w e 0 ≡ getD gs (rcvd t p q e - 1) 0) × (entryIn w e .1 ≡ getD (map (value t p q) gs) (rcvd t p q e - 1) 0))
       → length gs ≤ rcvd t p q n → has 0 gs ≡ false → listIn t w p q ≡ map (entry R p q) gs
   unfolding listIn
   list-is w p q gs h most z =
       let count = receives-count p q in
-      let takes : Takes (λ e. getD w e 0) (λ e. entryIn t w e .1) (rcvd t p q) (value t p q) (receives p q) 0 gs = λ e l.
+      let takes : Takes (λ e. getD w e 0) (λ e. entryIn w e .1) (rcvd t p q) (value t p q) (receives p q) 0 gs = λ e l.
       let r = receive-at p q e l in h e (r .0) (r .1) (r .2) in
-      ap (map (entryIn t w)) (sym (keep-keep (λ e. ltb 0 (getD w e 0)) (recvs t p q) (iv 0 n)))
-      ∙ taken-list (λ e. getD w e 0) (λ e. entryIn t w e .1) (rcvd t p q) (value t p q) (receives p q) gs 0
+      ap (map (entryIn w)) (sym (keep-keep (λ e. ltb 0 (getD w e 0)) (recvs t p q) (iv 0 n)))
+      ∙ taken-list (λ e. getD w e 0) (λ e. entryIn w e .1) (rcvd t p q) (value t p q) (receives p q) gs 0
       (receives-are p q ∙ ap (iv 0) (sym count)) takes (omega arith) z
 
 -- no value of a list is larger than the largest
@@ -167,7 +169,7 @@ module _ (R : Run) (few : size (R .trace) ≤ 2048) (narrow : Narrow (R .trace))
     event = rw (lt-ltb 0 e h, le-leb e (size (R .trace)) k)
 
   -- words that are the halves of a message's value say it
-  whole-value : (w : List ℕ) (e v : ℕ) → ((b : ℕ) → b < 2 → getD w (takenBase b + e) 0 ≡ half b v) → v ≤ 18446744073709551615 → entryIn (t R) w e .1 ≡ v
+  whole-value : (w : List ℕ) (e v : ℕ) → ((b : ℕ) → b < 2 → getD w (takenBase b + e) 0 ≡ half b v) → v ≤ 18446744073709551615 → entryIn w e .1 ≡ v
   whole-value w e v h most = rw (h 0 (omega arith), h 1 (omega arith)) (halves-back v most)
 
   module _ (L : Laws R) (s : State) (i : Inv R s) where
@@ -234,45 +236,101 @@ module _ (R : Run) (few : size (R .trace) ≤ 2048) (narrow : Narrow (R .trace))
       (omega (arith, length-iv 0 m)) (has-iv-not 0 0 m (inl (omega arith)))
       ∙ ap (map (entry R p q)) (sym (taken-iv R p q (n R)))
 
--- ---- Two orders of one trace, from any cuts and lines, complete or not
+-- ---- Two orders of traces that are alike, or of one, from any cuts and lines, complete or not
 
-module _ (t : Trace) (A : Valid t) (few : size t ≤ 2048) (narrow : Narrow t) (cut other-cut : ℕ) (cl : cut ≤ size t) (ocl : other-cut ≤ size t) (line other-line : ℕ → ℕ)
-    (order other-order : List ℕ) (s u : State) (h : run (runAt t cut line) order ≡ carriedOut s) (k : run (runAt t other-cut other-line) other-order ≡ carriedOut u) where
+module _ (f : ℕ → ℕ) where
+  entry-numbers : (ks : List ℕ) → map (λ (r : ℕ × ℕ). r .0) (map {B = ℕ × ℕ} (λ k. (k, f k)) ks) ≡ ks
+  entry-numbers [] = refl
+  entry-numbers (k ∷ ks) = ap (λ (l : List ℕ). k ∷ l) (entry-numbers ks)
+
+  entry-values : (ks : List ℕ) → map (λ (r : ℕ × ℕ). r .1) (map {B = ℕ × ℕ} (λ k. (k, f k)) ks) ≡ map f ks
+  entry-values [] = refl
+  entry-values (k ∷ ks) = ap (λ (l : List ℕ). f k ∷ l) (entry-values ks)
+
+pub alike-self : (t : Trace) → Alike t t
+alike-self t = record { size-same = refl; receives-same = λ p q e. refl }
+
+module _ (t u : Trace) (A : Alike t u) where
+  alike-rcvd : (p q x : ℕ) → rcvd t p q x ≡ rcvd u p q x
+  unfolding rcvd cnt
+  alike-rcvd p q zero = refl
+  alike-rcvd p q (suc x) = rw (A .receives-same p q (suc x), alike-rcvd p q x)
+
+  alike-list : (w : List ℕ) (p q : ℕ) → listIn t w p q ≡ listIn u w p q
+  unfolding listIn
+  alike-list w p q = rw (A .size-same) (ap (map (entryIn w)) (keep-iv-cong _ _ 0 (size u) (λ e h k. rw (A .receives-same p q e))))
+
+  -- a receive of one is a receive of the other
+  alike-recv : (p e : ℕ) → kind t e ≡ recv p → (at u e ≡ at t e) × (kind u e ≡ recv p)
+  alike-recv p e k = recvs-is u p (at t e) e (sym (A .receives-same p (at t e) e) ∙ recvs-of t p (at t e) e refl k)
+
+alike-back : (t u : Trace) → Alike t u → Alike u t
+alike-back t u A = record { size-same = sym (A .size-same); receives-same = λ p q e. sym (A .receives-same p q e) }
+
+module _ (t u : Trace) (A : Alike t u) (valid : Valid t) (other-valid : Valid u) (few : size t ≤ 2048) (narrow : Narrow t) (other-narrow : Narrow u)
+    (cut other-cut : ℕ) (cl : cut ≤ size t) (ocl : other-cut ≤ size u) (line other-line : ℕ → ℕ) (order other-order : List ℕ) (s v : State)
+    (h : run (runAt t cut line) order ≡ carriedOut s) (k : run (runAt u other-cut other-line) other-order ≡ carriedOut v) where
   abbrev F : Run
   F = runAt t cut line
 
   abbrev G : Run
-  G = runAt t other-cut other-line
+  G = runAt u other-cut other-line
 
   LF : Laws F
-  LF = laws t (ruleOf t) A cut line cl
+  LF = laws t (ruleOf t) valid cut line cl
 
   LG : Laws G
-  LG = laws t (ruleOf t) A other-cut other-line ocl
+  LG = laws u (ruleOf u) other-valid other-cut other-line ocl
+
+  other-few : size u ≤ 2048
+  other-few = omega (arith, few, A .size-same)
 
   abbrev Same : Type 0
-  Same = (p q : ℕ) → delivered F s p q ≡ delivered G u p q
+  Same = (p q : ℕ) → delivered F s p q ≡ delivered G v p q
 
-  same-got : Same → (p q : ℕ) → s .got p q ≡ u .got p q
-  unfolding delivered
-  same-got d p q = same-numbers F LF p q (s .got p q) (u .got p q) (d p q)
+  module _ (d : Same) where
+    same-got : (p q : ℕ) → s .got p q ≡ v .got p q
+    unfolding delivered
+    same-got p q =
+        sym (entry-numbers (value t p q) (s .got p q)) ∙ ap (map (λ (r : ℕ × ℕ). r .0)) (d p q) ∙ entry-numbers (value u p q) (v .got p q)
 
-  same-took : Same → (e : ℕ) (c : Kind) → (tookNumber F (s .got) e c ≡ tookNumber G (u .got) e c) × (tookValue F (s .got) e c ≡ tookValue G (u .got) e c)
-  same-took d e (send q) = (refl, refl)
-  same-took d e (recv p) = rw (same-got d p (at t e)) (refl, refl)
-  same-took d e other = (refl, refl)
+    same-values : (p q : ℕ) → map (value t p q) (s .got p q) ≡ map (value u p q) (v .got p q)
+    unfolding delivered
+    same-values p q =
+        sym (entry-values (value t p q) (s .got p q)) ∙ ap (map (λ (r : ℕ × ℕ). r .1)) (d p q) ∙ entry-values (value u p q) (v .got p q)
 
-  same-word : Same → (x : ℕ) → recordAt F s x ≡ recordAt G u x
-  unfolding recordAt takenNumber takenValue
-  same-word d x =
-      rw (same-took d x (kind t x) .0, same-took d (x - takenBase 0) (kind t (x - takenBase 0)) .1, same-took d (x - takenBase 1) (kind t (x - takenBase 1)) .1)
+    same-took : (e : ℕ) (c b : Kind) → kind t e ≡ c → kind u e ≡ b
+        → (tookNumber F (s .got) e c ≡ tookNumber G (v .got) e b) × (tookValue F (s .got) e c ≡ tookValue G (v .got) e b)
+    same-took e (recv p) b i j =
+        let (x, y) = alike-recv t u A p e i in
+        let z : b ≡ recv p = sym j ∙ y in
+        rw (z, x, alike-rcvd t u A p (at t e) e, same-values p (at t e), same-got p (at t e)) (refl, refl)
+    same-took e (send q) (recv p) i j =
+        let z : send q ≡ recv p = sym i ∙ alike-recv u t (alike-back t u A) p e j .1 in
+        let o : _≡_ {A = ℕ} 0 1 = cc in absurd (let y : ⊥ = omega arith in y)
+    same-took e other (recv p) i j =
+        let z : other ≡ recv p = sym i ∙ alike-recv u t (alike-back t u A) p e j .1 in
+        let o : _≡_ {A = ℕ} 0 1 = cc in absurd (let y : ⊥ = omega arith in y)
+    same-took e (send q) (send p) i j = (refl, refl)
+    same-took e (send q) other i j = (refl, refl)
+    same-took e other (send p) i j = (refl, refl)
+    same-took e other other i j = (refl, refl)
 
-  -- the same words exactly if the same list on every channel
-  pub record-told : (wordsFrom (recordAt F s) 0 16384 ≡ wordsFrom (recordAt G u) 0 16384) ↔ Same
+    same-taken : (e : ℕ) → (takenNumber F s e ≡ takenNumber G v e) × (takenValue F s e ≡ takenValue G v e)
+    unfolding takenNumber takenValue
+    same-taken e = let x = same-took e (kind t e) (kind u e) refl refl in rw (A .size-same, x .0, x .1) (refl, refl)
+
+    same-word : (x : ℕ) → recordAt F s x ≡ recordAt G v x
+    unfolding recordAt
+    same-word x = rw (same-taken x .0, same-taken (x - takenBase 0) .1, same-taken (x - takenBase 1) .1)
+
+  -- the same words exactly if the same list of numbers and values on every channel
+  pub record-told : (wordsFrom (recordAt F s) 0 16384 ≡ wordsFrom (recordAt G v) 0 16384) ↔ Same
   record-told = (
     λ w p q.
         sym (told-words F few narrow LF s (inv F LF s (length order) (run-reaches F order s h)) p q)
         ∙ ap (λ (x : List ℕ). listIn t x p q) w
-        ∙ told-words G few narrow LG u (inv G LG u (length other-order) (run-reaches G other-order u k)) p q,
-    λ d. words-cong (recordAt F s) (recordAt G u) 16384 (λ x l. same-word d x),
+        ∙ alike-list t u A (wordsFrom (recordAt G v) 0 16384) p q
+        ∙ told-words G other-few other-narrow LG v (inv G LG v (length other-order) (run-reaches G other-order v k)) p q,
+    λ d. words-cong (recordAt F s) (recordAt G v) 16384 (λ x l. same-word d x),
   )

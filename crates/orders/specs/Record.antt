@@ -21,6 +21,11 @@ module _ (R : Run) where
       (cond (ltb k (takenBase 1)) (half 0 (takenValue R s (k - takenBase 0)))
       (cond (ltb k recordEnd) (half 1 (takenValue R s (k - takenBase 1))) 0))
 
+-- what the words of a run area say of receive e: number and value. Document 02, item 4: "Records and equality of records
+-- use the wide value".
+abbrev pub entryIn : List ℕ → ℕ → ℕ × ℕ
+entryIn w e = (getD w e 0, fromHalves (getD w (takenBase 0 + e) 0) (getD w (takenBase 1 + e) 0))
+
 module _ (t : Trace) where
   -- the record of the run without failure: each receive of the trace took the oldest message in transit
   abbrev pub receivedNumber : ℕ → Kind → ℕ
@@ -41,9 +46,6 @@ module _ (t : Trace) where
 
   -- "The delivery record has one list for each channel: number and value of each message its receiver received there,
   -- in that order.": the list of a channel, read from the words of a run area. A receive that took no message has
-  -- number 0. Document 02, item 4: "Records and equality of records use the wide value".
-  abbrev pub entryIn : List ℕ → ℕ → ℕ × ℕ
-  entryIn w e = (getD w e 0, fromHalves (getD w (takenBase 0 + e) 0) (getD w (takenBase 1 + e) 0))
-
+  -- number 0.
   unfoldable pub listIn : List ℕ → ℕ → ℕ → List (ℕ × ℕ)
   listIn w p q = map (entryIn w) (keep (λ e. recvs t p q e && ltb 0 (getD w e 0)) (iv 0 (size t)))
