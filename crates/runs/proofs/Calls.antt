@@ -415,10 +415,9 @@ module _ (text a : List ℕ) (step set : ℕ) (holds : holdsTrace a ≡ true) (e
           let at : (k : ℕ) → k < 16384 → getD v k 0 ≡ g k = λ k j.
           ap (λ (x : List ℕ). getD x k 0) w ∙ List·getD-append (wordsFrom g 0 16384) (drop 16384 run₀) 0 k (rw (length-words g 0 16384) j)
           ∙ words-at g 16384 k j in
-          ap₂ (λ (ns vs : List ℕ). record { numbers = ns; values = vs })
-          (words-same (λ k. getD v k 0) g 1 (size t) (λ k j. at k (omega arith)))
-          (words-same (λ k. getD v k 0) g 2050 (size t) (λ k j. at k (omega arith)))
-          ∙ p
+          let plane : (i : ℕ) → i ≤ 4099 → wordsFrom (λ k. getD v k 0) i (size t) ≡ wordsFrom g i (size t) = λ i b.
+          words-same (λ k. getD v k 0) g i (size t) (λ k j. at k (omega arith)) in
+          rw (plane 1 (omega arith), plane 2050 (omega arith), plane 4099 (omega arith)) p
       left-by ws (Outcome.refused i) q z h = absurd (not-given 11 i ws h)
 
       left : (ws : TakenWords) → takenWords text l order ≡ given ws → takenWordsIn t (λ k. getD v k 0) ≡ ws

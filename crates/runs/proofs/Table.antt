@@ -8,6 +8,7 @@ use Prim.Native.String.{String}
 use native.Mathlib.Omega.{arith}
 use lib.Count.{ones}
 use Rattle.words.specs.Area.{wordsFrom}
+use Rattle.words.specs.Halves.{half}
 use Rattle.text.specs.Key.{startsWith, fieldAt}
 use Rattle.text.specs.Number.{isDigit, pushed, digitsFrom, numberAt, lastDigits}
 use Rattle.trace.specs.declared.Event.the-variants.{Send, Recv, Save}
@@ -27,7 +28,7 @@ use Rattle.theory.proofs.Claims.{none-listed, reached-usable, greatest-line, gr
 use Rattle.recovery_line.specs.Given.{backOf}
 use Rattle.restart.specs.Restart.{engineLineOf, restartOf}
 use Rattle.printing.specs.Inner.Texts.{linesOf}
-use Rattle.runs.specs.Texts.{linesH, linesL, linesS, linesT, linesFirst, failing, textH}
+use Rattle.runs.specs.Texts.{linesH, linesL, linesS, linesT, linesFirst, failing, textH, textWide}
 use Rattle.report.specs.Report.{Answer, refused, given, Failure, failureOf, Recovery, recoveryOf, recovery, messageLines, printedOf, reported}
 use Rattle.program.specs.Program.{answerTo, printed, statusOf}
 use Rattle.printing.specs.Lines.{processLine, messageLine, totalLine, refusalLine}
@@ -37,7 +38,7 @@ use Rattle.runs.specs.Answers.{recoveryIn, losses, Replayed, replay, cha
 
 -- all that a row computes with, beside what the theory's rows do: `opens`
 unfoldable pub reads : ℕ
-unfolding linesOf failing startsWith fieldAt isDigit pushed digitsFrom numberAt lastDigits procsSaid sendSaid recvSaid saveSaid failSaid lineIn pieces faultHere judgeEvent judge linesFrom scanPieces scan verdict lastFailure failureFault permits lineFault failureOf losses replay channelRecord takenWords recordAt takenNumber takenValue exactStepsOf wordsFrom ones backOf engineLineOf restartOf recoveryOf recovery processLine messageLine messageLines totalLine refusalLine printedOf reported answerTo printed statusOf
+unfolding linesOf failing startsWith fieldAt isDigit pushed digitsFrom numberAt lastDigits procsSaid sendSaid recvSaid saveSaid failSaid lineIn pieces faultHere judgeEvent judge linesFrom scanPieces scan verdict lastFailure failureFault permits lineFault failureOf losses replay channelRecord takenWords recordAt takenNumber takenValue half exactStepsOf wordsFrom ones backOf engineLineOf restartOf recoveryOf recovery processLine messageLine messageLines totalLine refusalLine printedOf reported answerTo printed statusOf
 reads = 0
 
 -- a message as the report lists it: from, to, number, phase
@@ -273,34 +274,59 @@ table = (r1, r2, r3, r4, r5, r6, r7, r8, r9, r10, r11, r12)
 
 -- ---- Not among them, but of the same texts: delivery records, number and value
 
--- the record of H that an order leaves: what 1 received from 0, what 2 received from 1; no other channel has a message
-abbrev pub DeliveredH : List ℕ → List ℕ → List (ℕ × ℕ) → List (ℕ × ℕ) → Type 0
-DeliveredH l order to1 to2 =
-    (channelRecord textH l order 0 1 ≡ given to1) × (channelRecord textH l order 1 2 ≡ given to2)
+-- the record that an order leaves of H, or of H with other values: what 1 received from 0, what 2 received from 1; no
+-- other channel has a message
+abbrev pub Delivered : List ℕ → List ℕ → List ℕ → List (ℕ × ℕ) → List (ℕ × ℕ) → Type 0
+Delivered text l order to1 to2 =
+    (channelRecord text l order 0 1 ≡ given to1) × (channelRecord text l order 1 2 ≡ given to2)
 
 -- a word for each event of H, of which 2, 5 and 8 are receives
 abbrev pub receivesH : ℕ → ℕ → ℕ → List ℕ
 receivesH i j k = 0 ∷ i ∷ 0 ∷ 0 ∷ j ∷ 0 ∷ 0 ∷ k ∷ 0 ∷ []
 
-abbrev pub takenH : List ℕ → List ℕ → TakenWords
-takenH ns vs = record { numbers = ns; values = vs }
+abbrev pub takenH : List ℕ → List ℕ → List ℕ → TakenWords
+takenH ns vs hs = record { numbers = ns; lows = vs; highs = hs }
+
+-- no value above bit 32
+abbrev pub narrowH : List ℕ
+narrowH = receivesH 0 0 0
 
 -- The run without failure, which the order of R1 leaves. That order without its last two choices is carried out and not
 -- complete: 1 has not received message 2. From the line of R2, order 1 is complete, and 1 never receives message 2.
 abbrev pub RecordsH : Type 0
 RecordsH =
-    DeliveredH (2 ∷ 2 ∷ 32 ∷ []) (0 ∷ 1 ∷ 1 ∷ 1 ∷ []) ((1, 5) ∷ (2, 9) ∷ []) ((1, 7) ∷ [])
-    × (takenWords textH (2 ∷ 2 ∷ 32 ∷ []) (0 ∷ 1 ∷ 1 ∷ 1 ∷ []) ≡ given (takenH (receivesH 1 1 2) (receivesH 5 7 9)))
+    Delivered textH (2 ∷ 2 ∷ 32 ∷ []) (0 ∷ 1 ∷ 1 ∷ 1 ∷ []) ((1, 5) ∷ (2, 9) ∷ []) ((1, 7) ∷ [])
+    × (takenWords textH (2 ∷ 2 ∷ 32 ∷ []) (0 ∷ 1 ∷ 1 ∷ 1 ∷ []) ≡ given (takenH (receivesH 1 1 2) (receivesH 5 7 9) narrowH))
     × (replay textH (2 ∷ 2 ∷ 32 ∷ []) (0 ∷ 1 ∷ 1 ∷ 1 ∷ []) ≡ completed 4)
-    × DeliveredH (2 ∷ 2 ∷ 32 ∷ []) (0 ∷ 1 ∷ []) ((1, 5) ∷ []) ((1, 7) ∷ [])
-    × (takenWords textH (2 ∷ 2 ∷ 32 ∷ []) (0 ∷ 1 ∷ []) ≡ given (takenH (receivesH 1 1 0) (receivesH 5 7 0)))
+    × Delivered textH (2 ∷ 2 ∷ 32 ∷ []) (0 ∷ 1 ∷ []) ((1, 5) ∷ []) ((1, 7) ∷ [])
+    × (takenWords textH (2 ∷ 2 ∷ 32 ∷ []) (0 ∷ 1 ∷ []) ≡ given (takenH (receivesH 1 1 0) (receivesH 5 7 0) narrowH))
     × (replay textH (2 ∷ 2 ∷ 32 ∷ []) (0 ∷ 1 ∷ []) ≡ given (record { complete = false; equal = false; steps = 2 }))
-    × DeliveredH (32 ∷ 2 ∷ 32 ∷ []) (1 ∷ []) ((1, 5) ∷ []) ((1, 7) ∷ [])
-    × (takenWords textH (32 ∷ 2 ∷ 32 ∷ []) (1 ∷ []) ≡ given (takenH (receivesH 1 1 0) (receivesH 5 7 0)))
+    × Delivered textH (32 ∷ 2 ∷ 32 ∷ []) (1 ∷ []) ((1, 5) ∷ []) ((1, 7) ∷ [])
+    × (takenWords textH (32 ∷ 2 ∷ 32 ∷ []) (1 ∷ []) ≡ given (takenH (receivesH 1 1 0) (receivesH 5 7 0) narrowH))
 
 pub records-h : RecordsH
 unfolding opens reads
 records-h = ((refl, refl), refl, refl, (refl, refl), refl, refl, (refl, refl), refl)
+
+abbrev pub traceWide : Trace
+traceWide =
+    withEvents (started 3)
+    (Send 0 1 7 ∷ Recv 1 0 ∷ Save 1 ∷ Send 1 2 18446744073709551615 ∷ Recv 2 1 ∷ Save 0 ∷ Send 0 1 4294967303 ∷ Recv 1 0 ∷ Send 1 2 4 ∷ [])
+
+-- Document 02, item 4: the two messages from 0 to 1 differ only above bit 32. The line of R1 loses none of them, and
+-- the record tells them apart; that of R2 loses the second, and the records differ.
+abbrev pub RecordsWide : Type 0
+RecordsWide =
+    Delivered textWide (2 ∷ 2 ∷ 32 ∷ []) (0 ∷ 1 ∷ 1 ∷ 1 ∷ []) ((1, 7) ∷ (2, 4294967303) ∷ []) ((1, 18446744073709551615) ∷ [])
+    × (takenWords textWide (2 ∷ 2 ∷ 32 ∷ []) (0 ∷ 1 ∷ 1 ∷ 1 ∷ []) ≡ given (takenH (receivesH 1 1 2) (receivesH 7 4294967295 7) (receivesH 0 4294967295 1)))
+    × (replay textWide (2 ∷ 2 ∷ 32 ∷ []) (0 ∷ 1 ∷ 1 ∷ 1 ∷ []) ≡ completed 4)
+    × Delivered textWide (32 ∷ 2 ∷ 32 ∷ []) (1 ∷ []) ((1, 7) ∷ []) ((1, 18446744073709551615) ∷ [])
+    × (takenWords textWide (32 ∷ 2 ∷ 32 ∷ []) (1 ∷ []) ≡ given (takenH (receivesH 1 1 0) (receivesH 7 4294967295 0) (receivesH 0 4294967295 0)))
+    × (replay textWide (32 ∷ 2 ∷ 32 ∷ []) (1 ∷ []) ≡ given (record { complete = true; equal = false; steps = 1 }))
+
+pub records-wide : RecordsWide
+unfolding opens reads
+records-wide = ((refl, refl), refl, refl, (refl, refl), refl, refl)
 
 -- ---- Not among them, but of the same texts: the numbers 1, 8 and 10, and which comes first
 

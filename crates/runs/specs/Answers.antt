@@ -95,14 +95,15 @@ unfoldable pub channelRecord : List ℕ → List ℕ → List ℕ → ℕ → �
 channelRecord text l order p q =
     then (failureOf text) (λ f. unless (fault f l) (deliveredOf (runWith f l) p q (run (runWith f l) order)))
 
--- as the run area has it (docs/LAYOUT.md): of each event the number and the value of the message that it took, 0 and 0
--- where it took none
+-- as the run area has it (docs/LAYOUT.md): of each event the number of the message that it took, and the low and the
+-- high half of its value; 0, 0 and 0 where it took none
 pub record TakenWords : Type 0 where
   pub numbers : List ℕ
-  pub values : List ℕ
+  pub lows : List ℕ
+  pub highs : List ℕ
 
 abbrev pub takenWordsIn : Trace → (ℕ → ℕ) → TakenWords
-takenWordsIn t word = record { numbers = wordsFrom word 1 (size t); values = wordsFrom word 2050 (size t) }
+takenWordsIn t word = record { numbers = wordsFrom word 1 (size t); lows = wordsFrom word 2050 (size t); highs = wordsFrom word 4099 (size t) }
 
 abbrev pub takenWordsOf : Run → Outcome → Answer TakenWords
 takenWordsOf R (carriedOut s) = given (takenWordsIn (R .trace) (recordAt R s))

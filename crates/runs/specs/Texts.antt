@@ -28,6 +28,24 @@ linesH =
 abbrev pub textH : List ℕ
 textH = failing linesH "fail=9 set=2"
 
+-- H with other values: the two messages from 0 to 1 differ only above bit 32 (document 02, item 4)
+abbrev pub linesWide : List String
+linesWide =
+    "procs=3"
+    ∷ "ev=send at=0 to=1 val=7"
+    ∷ "ev=recv at=1 from=0"
+    ∷ "ev=save at=1"
+    ∷ "ev=send at=1 to=2 val=18446744073709551615"
+    ∷ "ev=recv at=2 from=1"
+    ∷ "ev=save at=0"
+    ∷ "ev=send at=0 to=1 val=4294967303"
+    ∷ "ev=recv at=1 from=0"
+    ∷ "ev=send at=1 to=2 val=4"
+    ∷ []
+
+abbrev pub textWide : List ℕ
+textWide = failing linesWide "fail=9 set=2"
+
 -- "Trace L: two zones; send 0 to 1, save 1, receive."
 abbrev pub linesL : List String
 linesL = "procs=2" ∷ "ev=send at=0 to=1 val=6" ∷ "ev=save at=1" ∷ "ev=recv at=1 from=0" ∷ []
