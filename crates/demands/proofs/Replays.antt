@@ -240,20 +240,22 @@ module _ (a area : List ℕ) (step set : ℕ) (l : Line) (order : List ℕ) wher
 
 -- ---- Two calls with one table area, or with two whose traces are alike
 
-module _ (a : List ℕ) (area other : List ℕ) (step other-step set other-set : ℕ) (l m : Line) (order other-order : List ℕ)
-    (ok : replayAnswer a area step set l order .number ≡ 0) (other-ok : replayAnswer a other other-step other-set m other-order .number ≡ 0) where
+module _ (a b : List ℕ) (alike : Alike (held a) (held b)) (area other : List ℕ) (step other-step set other-set : ℕ) (l m : Line) (order other-order : List ℕ)
+    (ok : replayAnswer a area step set l order .number ≡ 0) (other-ok : replayAnswer b other other-step other-set m other-order .number ≡ 0) where
   abbrev one : List ℕ
   one = replayArea a area step set l order
 
   abbrev two : List ℕ
-  two = replayArea a other other-step other-set m other-order
+  two = replayArea b other other-step other-set m other-order
 
-  pub two-told : (take areaWords one ≡ take areaWords two) ↔ ((p q : ℕ) → listIn (held a) one p q ≡ listIn (held a) two p q)
+  pub two-told : (take areaWords one ≡ take areaWords two) ↔ ((p q : ℕ) → listIn (held a) one p q ≡ listIn (held b) two p q)
   two-told =
       let (s, C) = accepted a area step set l order ok in
-      let (u, D) = accepted a other other-step other-set m other-order other-ok in
+      let (u, D) = accepted b other other-step other-set m other-order other-ok in
       let h = left-iff a .1 (C .areas .0) in
-      let T = record-told (held a) (held-valid a h) (held-few a h) (held-narrow a h) step other-step (C .fit .failure .step-most) (D .fit .failure .step-most) (lineIn l) (lineIn m) order other-order s u (C .carries) (D .carries) in (
+      let k = left-iff b .1 (D .areas .0) in
+      let T = record-told (held a) (held b) alike (held-valid a h) (held-valid b k) (held-few a h) (held-narrow a h) (held-narrow b k) step other-step
+      (C .fit .failure .step-most) (D .fit .failure .step-most) (lineIn l) (lineIn m) order other-order s u (C .carries) (D .carries) in (
         λ e p q. C .lists p q ∙ T .0 (sym (C .words) ∙ e ∙ D .words) p q ∙ sym (D .lists p q),
         λ e. C .words ∙ T .1 (λ p q. sym (C .lists p q) ∙ e p q ∙ D .lists p q) ∙ sym (D .words),
       )
