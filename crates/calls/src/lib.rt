@@ -11,14 +11,17 @@ use words::AREA_WORDS;
 // What every run area holds before a call: words that the call leaves as they were are seen in what is printed.
 const BEFORE: u32 = 7;
 
-// The words before row 1 of each plane of a list of messages, and before the values of a record (docs/LAYOUT.md).
+// The words before row 1 of each plane of a list of messages, and before the low and the high halves of the values of a
+// record (docs/LAYOUT.md).
 const ROW_BASE: usize = 16;
 
 const ROW_NUMBER_BASE: usize = 2065;
 
 const ROW_PHASE_BASE: usize = 4114;
 
-const VALUES: usize = 2049;
+const LOW_VALUES: usize = 2049;
+
+const HIGH_VALUES: usize = 4098;
 
 // Where the failure of a call is, and the line that it goes back to.
 struct Call {
@@ -39,12 +42,9 @@ fn faultless(table: &[u32; AREA_WORDS], c: Call, run: &[u32; AREA_WORDS]) -> boo
     checks::same_words(run, &whole)
 }
 
-fn print_received(e: usize, number: u32, value: u32) {
+fn print_received(e: usize, number: u32, value: u64) {
     if number != 0 {
-        checks::print(
-            b" ev=# no=# val=#",
-            &[e as u64, number as u64, value as u64],
-        );
+        checks::print(b" ev=# no=# val=#", &[e as u64, number as u64, value]);
     }
 }
 
@@ -52,7 +52,8 @@ fn print_received(e: usize, number: u32, value: u32) {
 fn print_record(run: &[u32; AREA_WORDS]) {
     let mut e: usize = 1;
     while e <= 2048 {
-        print_received(e, run[e], run[VALUES + e]);
+        let value = words::from_halves(run[LOW_VALUES + e], run[HIGH_VALUES + e]);
+        print_received(e, run[e], value);
         e += 1;
     }
 }

@@ -2,13 +2,14 @@
 // traces with their failure lines, each ended by a byte `-`, which no fit text has. For each, the report, which is what
 // the program prints, and a line `-`. They are, in this order: trace H of document 01 (R1) and its other runs that have
 // a failure line (R4, R5, R7 to R10, R11 with both sets, R12); the run D1 of the proof plan, whose orphan has its
-// sender's phase and not its receiver's; D2, D3, D4 and D6 to D9, of which each tells one plausible mistake; two
-// processes and 64, 30 checkpoints and 31 (6); then the refusals 1, 2, 3, 4, 5, 8 and 9, wherever each can come. 7
-// takes 2,049 events: checks_reader has it. After them the program's own limit, with its status, and that the report
-// has none. The second has the runs that have a line or an order of choices, through the library: a trace, and a row
-// for each call (crate `calls`). Every trace of the first part is also written back and read again (crate `roundtrip`);
-// those of the second are among them. The file `stdout` was worked out from documents 01 and 02 by a model that has
-// nothing of the engine. Proved safe and ending; what is printed no contract can say. Assumes what `libc` assumes.
+// sender's phase and not its receiver's; D2, D3, D4 and D6 to D9, of which each tells one plausible mistake; V1 to V3,
+// whose values take more than 32 bits; two processes and 64, 30 checkpoints and 31 (6); then the refusals 1, 2, 3, 4,
+// 5, 8 and 9, wherever each can come. 7 takes 2,049 events: checks_reader has it. After them the program's own limit,
+// with its status, and that the report has none. The second has the runs that have a line or an order of choices,
+// through the library: a trace, and a row for each call (crate `calls`). Every trace of the first part is also written
+// back and read again (crate `roundtrip`); those of the second are among them. The file `stdout` was worked out from
+// documents 01 and 02 by a model that has nothing of the engine. Proved safe and ending; what is printed no contract
+// can say. Assumes what `libc` assumes.
 use words::AREA_WORDS;
 
 // The trace of a text written back, which is all of the text but its failure line; where the text is refused, the zeros
