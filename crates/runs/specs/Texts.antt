@@ -3,6 +3,7 @@
 use mathlib.Core.List.{List, [], _∷_, _++_}
 use Prim.Native.Nat.{ℕ}
 use Prim.Native.String.{String}
+use lib.ListN.{take, drop}
 use Rattle.printing.specs.Inner.Texts.{linesOf}
 
 -- "The library's reader takes the text without a failure line. The program wants one more line, the last": the text
@@ -28,20 +29,17 @@ linesH =
 abbrev pub textH : List ℕ
 textH = failing linesH "fail=9 set=2"
 
--- H with other values: the two messages from 0 to 1 differ only above bit 32 (document 02, item 4)
+-- H with other values in three of its sends: the two messages from 0 to 1 differ only above bit 32 (document 02, item
+-- 4), and the first from 1 to 2 has the largest value
 abbrev pub linesWide : List String
 linesWide =
     "procs=3"
     ∷ "ev=send at=0 to=1 val=7"
-    ∷ "ev=recv at=1 from=0"
-    ∷ "ev=save at=1"
-    ∷ "ev=send at=1 to=2 val=18446744073709551615"
-    ∷ "ev=recv at=2 from=1"
-    ∷ "ev=save at=0"
-    ∷ "ev=send at=0 to=1 val=4294967303"
-    ∷ "ev=recv at=1 from=0"
-    ∷ "ev=send at=1 to=2 val=4"
-    ∷ []
+    ∷ take 2 (drop 2 linesH)
+    ++ "ev=send at=1 to=2 val=18446744073709551615"
+    ∷ take 2 (drop 5 linesH)
+    ++ "ev=send at=0 to=1 val=4294967303"
+    ∷ drop 8 linesH
 
 abbrev pub textWide : List ℕ
 textWide = failing linesWide "fail=9 set=2"
