@@ -156,7 +156,7 @@ half-word (suc zero) e number value l h =
 half-word (suc (suc b)) e number value l h = absurd (let z : ⊥ = omega arith in z)
 
 -- values of 64 bits: those of every well-formed trace (`message-most` of crate columns)
-abbrev pub Narrow : Trace → Type 0
+abbrev Narrow : Trace → Type 0
 Narrow t = (p q k : ℕ) → value t p q k ≤ 18446744073709551615
 
 module _ (R : Run) (few : size (R .trace) ≤ 2048) (narrow : Narrow (R .trace)) where

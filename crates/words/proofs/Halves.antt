@@ -1,6 +1,6 @@
 -- Halves tell the number, and the number its halves.
 use Prim.Native.Nat.{ℕ, zero, suc, _<_, _≤_}
-use mathlib.Core.Path.{_≡_, refl, sym, ap, _∙_}
+use mathlib.Core.Path.{_≡_, refl}
 use native.Mathlib.Omega.{arith}
 use Rattle.words.specs.Halves.{half, fromHalves}
 
@@ -33,8 +33,3 @@ module _ (low high : ℕ) (l : low < 4294967296) (h : high < 4294967296) where
   pub half-high : half 1 (fromHalves low high) ≡ high
   unfolding half
   half-high = omega arith
-
--- a number of 64 bits is told by its halves
-pub halves-same : (v w : ℕ) → v ≤ 18446744073709551615 → w ≤ 18446744073709551615 → ((b : ℕ) → b < 2 → half b v ≡ half b w) → v ≡ w
-halves-same v w hv hw e =
-    sym (halves-back v hv) ∙ ap (λ (x : ℕ). fromHalves x (half 1 v)) (e 0 (omega arith)) ∙ ap (fromHalves (half 0 w)) (e 1 (omega arith)) ∙ halves-back w hw
