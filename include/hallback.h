@@ -1,5 +1,5 @@
 /* Recovery of a recorded parallel run: reading, writing back, restart line, messages, replay. Link
-   target/staticlib/libcapi.a (rt staticlib capi).
+   target/staticlib/libcapi.a (rt staticlib capi). For C99 or later, and C++.
 
    Every function may be called with any numbers and any slices. It returns the number of the refusal, or 0 if the call
    was accepted (README.md has a table of the numbers), and writes the rest of its answer as numbers into `answer`, one
@@ -13,7 +13,9 @@
    length is 0. No two slices of a call may overlap, except two that are only read.
 
    Values, the `val` of a send, have 64 bits, and an area has each as two words, its low and its high half:
-   hallback_value, hallback_set_value and hallback_taken_value take and give them whole.
+   hallback_value, hallback_set_value and hallback_taken_value take and give them whole. A program from before that
+   looks at the low word alone has the value modulo 2^32, and nothing refuses it; one that sets the low word alone
+   leaves the high half that was there.
 
    Threads: the library keeps nothing from one call to the next and has no memory of its own. Calls may run at the same
    time in any number of threads, as long as no slice that one of them writes is a slice of another; several may read

@@ -81,7 +81,7 @@ pub fn read_failure(text: &[u8], table: &mut [u32]) -> Result<Failure, Refusal> 
 /// let edited = b"procs=2\nev=send at=0 to=1 val=18446744073709551615\nev=recv at=1 from=0\n";
 /// assert_eq!(hallback::write(&table, &mut out)?, edited);
 ///
-/// let one_short = &mut out[..text.len() - 1];
+/// let one_short = &mut out[..edited.len() - 1];
 /// let refusal = hallback::write(&table, one_short).unwrap_err();
 /// assert_eq!(refusal.cause, Cause::Buffer);
 /// # Ok::<(), hallback::Refusal>(())

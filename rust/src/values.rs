@@ -1,4 +1,5 @@
 //! Values in lent areas, as the numbers of 64 bits that they are: an area has each as two words.
+//! (The examples here read by [`reference`](crate::reference), so that they run without the archive.)
 
 use crate::{HIGH_BASE, MAX_EVENTS, TAKEN_BASE, TAKEN_HIGH_BASE, VALUE_BASE};
 
@@ -66,7 +67,10 @@ pub fn value(table: &[u32], event: usize) -> u64 {
 /// If `event` is not 1 to [`MAX_EVENTS`], or the area ends before its words.
 pub fn set_value(table: &mut [u32], event: usize, value: u64) {
     let event = checked(event);
-    [table[VALUE_BASE + event], table[HIGH_BASE + event]] = halves(value);
+    let [low, high] = halves(value);
+    // the high half first: an area that ends before it is left as it was
+    table[HIGH_BASE + event] = high;
+    table[VALUE_BASE + event] = low;
 }
 
 /// The value of the message that an event received, in the delivery record that a replay left in a
