@@ -25,7 +25,7 @@ use Rattle.machine.specs.Taken.{takenBase, recordEnd, takenValue}
 use Rattle.machine.specs.Inner.Words.{currentBase, orphanBase, takeBase, putBase, lowPlace, takeW, putW, allowedW, applyW, Bounded, noneFrom}
 use Rattle.theory.specs.Inner.Lists.{head0}
 use Rattle.machine.specs.Inner.Related.{evs, orph, Cols, Chan, Rel}
-use Rattle.orders.specs.Record.{recordAt}
+use Rattle.orders.specs.Record.{recordWord, recordAt}
 use Rattle.orders.specs.Inner.Left.{Live}
 use Rattle.machine.proofs.Told.{told}
 use Rattle.machine.proofs.Facts.{evs-head, in-list}
@@ -141,7 +141,7 @@ module _ (R : Run) (L : Laws R) (t l g : List ℕ) (K : Cols R t l g) where
   pub record-left : (a b : List ℕ) (s : State) → Rel R a s → length b ≡ 16384
       → ((k : ℕ) → (currentBase ≤ k → lowPlace < k) → getD b k 0 ≡ getD a k 0) → ((k : ℕ) → currentBase ≤ k → k ≤ lowPlace → getD b k 0 ≡ 0)
       → b ≡ wordsFrom (recordAt R s) 0 16384
-  unfolding recordAt
+  unfolding recordAt recordWord
   record-left a b s r h others zeros = words-ext (recordAt R s) 16384 b h at
     where
       low : (k : ℕ) → k < currentBase → getD b k 0 ≡ getD a k 0

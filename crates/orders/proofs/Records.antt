@@ -28,7 +28,7 @@ use Rattle.theory.specs.Inner.Flow.{Inv}
 use Rattle.theory.proofs.Loss.{taken-iv, inv, same-numbers}
 use Rattle.theory.proofs.Orders.{run-reaches, complete-iff, order-iff}
 use Rattle.machine.specs.Taken.{takenBase, tookNumber, tookValue, takenNumber, takenValue}
-use Rattle.orders.specs.Record.{recordAt, receivedNumber, receivedValue, faultlessAt}
+use Rattle.orders.specs.Record.{recordWord, recordAt, receivedNumber, receivedValue, faultlessAt}
 use Rattle.links.proofs.Matches.{getD-iv, getD-map, getD-past}
 
 -- ---- Words by a rule
@@ -100,13 +100,13 @@ module _ (R : Run) (L : Laws R) (s : State) where
       (λ b. rw (b, no-event t e b) (refl, refl))
 
   all-record : All → (k : ℕ) → recordAt R s k ≡ faultlessAt t k
-  unfolding recordAt faultlessAt
+  unfolding recordAt faultlessAt recordWord
   all-record h k = rw ((all-words h k) .0, (all-words h (k - takenBase 0)) .1, (all-words h (k - takenBase 1)) .1)
 
   -- the other way: the words tell how many messages were received, and which
   module _ (few : n ≤ 2048) (i : Inv R s) (w : (k : ℕ) → k < takenBase 0 → recordAt R s k ≡ faultlessAt t k) where
     told-number : (e : ℕ) → 0 < e → e ≤ n → tookNumber R (s .got) e (kind t e) ≡ receivedNumber t e (kind t e)
-    unfolding recordAt faultlessAt takenNumber
+    unfolding recordAt faultlessAt recordWord takenNumber
     told-number e h k =
         let a : ltb e (takenBase 0) ≡ true = lt-ltb e (takenBase 0) (omega (arith, few)) in
         let b : (ltb 0 e && leb e n) ≡ true = rw (lt-ltb 0 e h, le-leb e n k) in

@@ -33,7 +33,7 @@ use Rattle.theory.proofs.Events.{recvs-is, recvs-of, rcvd-le, rcvd-lt}
 use Rattle.theory.proofs.Loss.{taken-iv, ahead-listed, inv}
 use Rattle.theory.proofs.Orders.{run-reaches}
 use Rattle.machine.specs.Taken.{takenBase, recordEnd, tookNumber, tookValue, takenNumber, takenValue}
-use Rattle.orders.specs.Record.{recordAt, receivedNumber, receivedValue, faultlessAt, entryIn, listIn}
+use Rattle.orders.specs.Record.{recordWord, recordAt, receivedNumber, receivedValue, faultlessAt, entryIn, listIn}
 use Rattle.links.proofs.Matches.{getD-iv, getD-map}
 use Rattle.orders.specs.Inner.Alike.{Alike}
 use Rattle.orders.proofs.Records.{words-cong}
@@ -142,11 +142,9 @@ mapped-most f most h [] i = omega arith
 mapped-most f most h (k ∷ ks) zero = h k
 mapped-most f most h (k ∷ ks) (suc i) = mapped-most f most h ks i
 
--- the word of half b of a value in an area that is laid out as a record
-half-word : (b e : ℕ) (number value : ℕ → ℕ) → b < 2 → e ≤ 2048
-    → cond (ltb (takenBase b + e) (takenBase 0)) (number (takenBase b + e))
-    (cond (ltb (takenBase b + e) (takenBase 1)) (half 0 (value (takenBase b + e - takenBase 0)))
-    (cond (ltb (takenBase b + e) recordEnd) (half 1 (value (takenBase b + e - takenBase 1))) 0)) ≡ half b (value e)
+-- the words of a value in a record
+half-word : (b e : ℕ) (number value : ℕ → ℕ) → b < 2 → e ≤ 2048 → recordWord number value (takenBase b + e) ≡ half b (value e)
+unfolding recordWord
 half-word zero e number value l h =
     let q : 2049 + e - 2049 ≡ e = omega arith in
     rw (le-ltb (2049 + e) 2049 (omega arith), lt-ltb (2049 + e) 4098 (omega arith), q)
@@ -177,7 +175,7 @@ module _ (R : Run) (few : size (R .trace) ≤ 2048) (narrow : Narrow (R .trace))
     words-of : (p q e : ℕ) → 0 < e → e ≤ n R → recvs (t R) p q e ≡ true
         → (recordAt R s e ≡ getD (s .got p q) (rcvd (t R) p q e - 1) 0)
         × (takenValue R s e ≡ getD (map (value (t R) p q) (s .got p q)) (rcvd (t R) p q e - 1) 0)
-    unfolding recordAt takenNumber takenValue
+    unfolding recordAt recordWord takenNumber takenValue
     words-of p q e h k r =
         let (u, v) = recvs-is (t R) p q e r in
         (rw (low e h k, event e h k, v, u), rw (event e h k, v, u))
@@ -205,7 +203,7 @@ module _ (R : Run) (few : size (R .trace) ≤ 2048) (narrow : Narrow (R .trace))
   -- the words of the run without failure have its lists
   faultless-of : (p q e : ℕ) → 0 < e → e ≤ n R → recvs (t R) p q e ≡ true
       → (faultlessAt (t R) e ≡ rcvd (t R) p q e) × (receivedValue (t R) e (kind (t R) e) ≡ value (t R) p q (rcvd (t R) p q e))
-  unfolding faultlessAt value
+  unfolding faultlessAt recordWord value
   faultless-of p q e h k r =
       let (u, v) = recvs-is (t R) p q e r in
       (rw (low e h k, v, u), rw (v, u))
@@ -321,7 +319,7 @@ module _ (t u : Trace) (A : Alike t u) (valid : Valid t) (other-valid : Valid u)
     same-taken e = let x = same-took e (kind t e) (kind u e) refl refl in rw (A .size-same, x .0, x .1) (refl, refl)
 
     same-word : (x : ℕ) → recordAt F s x ≡ recordAt G v x
-    unfolding recordAt
+    unfolding recordAt recordWord
     same-word x = rw (same-taken x .0, same-taken (x - takenBase 0) .1, same-taken (x - takenBase 1) .1)
 
   -- the same words exactly if the same list of numbers and values on every channel

@@ -13,13 +13,17 @@ use Rattle.theory.specs.Line.{Run}
 use Rattle.theory.specs.Replay.{State}
 use Rattle.machine.specs.Taken.{takenBase, recordEnd, takenNumber, takenValue}
 
+-- word k of a record, by what each receive took: its number and its value
+unfoldable pub recordWord : (ℕ → ℕ) → (ℕ → ℕ) → ℕ → ℕ
+recordWord number value k =
+    cond (ltb k (takenBase 0)) (number k)
+    (cond (ltb k (takenBase 1)) (half 0 (value (k - takenBase 0)))
+    (cond (ltb k recordEnd) (half 1 (value (k - takenBase 1))) 0))
+
 module _ (R : Run) where
   -- word k of the record of a state
   unfoldable pub recordAt : State → ℕ → ℕ
-  recordAt s k =
-      cond (ltb k (takenBase 0)) (takenNumber R s k)
-      (cond (ltb k (takenBase 1)) (half 0 (takenValue R s (k - takenBase 0)))
-      (cond (ltb k recordEnd) (half 1 (takenValue R s (k - takenBase 1))) 0))
+  recordAt s = recordWord (takenNumber R s) (takenValue R s)
 
 -- what the words of a run area say of receive e: number and value. Document 02, item 4: "Records and equality of records
 -- use the wide value".
@@ -39,10 +43,7 @@ module _ (t : Trace) where
   receivedValue e other = 0
 
   unfoldable pub faultlessAt : ℕ → ℕ
-  faultlessAt k =
-      cond (ltb k (takenBase 0)) (receivedNumber k (kind t k))
-      (cond (ltb k (takenBase 1)) (half 0 (receivedValue (k - takenBase 0) (kind t (k - takenBase 0))))
-      (cond (ltb k recordEnd) (half 1 (receivedValue (k - takenBase 1) (kind t (k - takenBase 1)))) 0))
+  faultlessAt = recordWord (λ e. receivedNumber e (kind t e)) (λ e. receivedValue e (kind t e))
 
   -- "The delivery record has one list for each channel: number and value of each message its receiver received there,
   -- in that order.": the list of a channel, read from the words of a run area. A receive that took no message has

@@ -11,7 +11,7 @@ use Rattle.words.proofs.Area.{length-words, getD-words}
 use Rattle.theory.specs.Line.{Run}
 use Rattle.theory.specs.Order.{Outcome, carriedOut, refused}
 use Rattle.machine.specs.Taken.{recordEnd}
-use Rattle.orders.specs.Record.{recordAt}
+use Rattle.orders.specs.Record.{recordWord, recordAt}
 use Rattle.orders.specs.Answer.{wordsOf}
 
 -- the first n words cleared, in a list that is 0 after them
@@ -26,7 +26,7 @@ clear-rest n m w b e h =
 
 module _ (R : Run) where
   past-record : (o : Outcome) (k : ℕ) → recordEnd ≤ k → k < areaWords → getD (wordsOf R o) k 0 ≡ 0
-  unfolding wordsOf recordAt
+  unfolding wordsOf recordAt recordWord
   past-record (carriedOut s) k a b =
       getD-words (recordAt R s) 0 16384 k b ∙ ap (recordAt R s) (let q : 0 + k ≡ k = omega arith in q) ∙ rw (le-ltb k 2049 (omega arith), le-ltb k 4098 (omega arith), le-ltb k 6147 a)
   past-record (refused i) k a b = getD-replicate {A = ℕ} 16384 k 0 0 b

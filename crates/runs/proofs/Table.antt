@@ -33,12 +33,12 @@ use Rattle.report.specs.Report.{Answer, refused, given, Failure, failureOf, Rec
 use Rattle.program.specs.Program.{answerTo, printed, statusOf}
 use Rattle.printing.specs.Lines.{processLine, messageLine, totalLine, refusalLine}
 use Rattle.machine.specs.Taken.{takenNumber, takenValue}
-use Rattle.orders.specs.Record.{recordAt}
+use Rattle.orders.specs.Record.{recordWord, recordAt}
 use Rattle.runs.specs.Answers.{recoveryIn, losses, Replayed, replay, channelRecord, TakenWords, takenWords, exactStepsOf, atEqual}
 
 -- all that a row computes with, beside what the theory's rows do: `opens`
 unfoldable pub reads : ℕ
-unfolding linesOf failing startsWith fieldAt isDigit pushed digitsFrom numberAt lastDigits procsSaid sendSaid recvSaid saveSaid failSaid lineIn pieces faultHere judgeEvent judge linesFrom scanPieces scan verdict lastFailure failureFault permits lineFault failureOf losses replay channelRecord takenWords recordAt takenNumber takenValue half exactStepsOf wordsFrom ones backOf engineLineOf restartOf recoveryOf recovery processLine messageLine messageLines totalLine refusalLine printedOf reported answerTo printed statusOf
+unfolding linesOf failing startsWith fieldAt isDigit pushed digitsFrom numberAt lastDigits procsSaid sendSaid recvSaid saveSaid failSaid lineIn pieces faultHere judgeEvent judge linesFrom scanPieces scan verdict lastFailure failureFault permits lineFault failureOf losses replay channelRecord takenWords recordAt recordWord takenNumber takenValue half exactStepsOf wordsFrom ones backOf engineLineOf restartOf recoveryOf recovery processLine messageLine messageLines totalLine refusalLine printedOf reported answerTo printed statusOf
 reads = 0
 
 -- a message as the report lists it: from, to, number, phase
