@@ -15,7 +15,8 @@ use Rattle.words.specs.Area.{areaWords, wordsFrom}
 use Rattle.table.specs.Held.{held, holdsTrace}
 use Rattle.theory.specs.Line.{Run, lost, orphan, orphanPhase, LossFree}
 use Rattle.theory.specs.Replay.{State, ready}
-use Rattle.theory.specs.Record.{faultless}
+use Rattle.theory.specs.Record.{delivered, faultless}
+use Rattle.theory.specs.Order.{carriedOut, run}
 use Rattle.theory.specs.Inner.Orders.{Allowed}
 use Rattle.theory.specs.Inner.Record.{sentAgain}
 use Rattle.theory.proofs.Answers.{ready-iff}
@@ -23,12 +24,12 @@ use Rattle.theory.proofs.Loss.{inv}
 use Rattle.theory.proofs.Orders.{run-reaches, order-progress, order-done, order-differs}
 use Rattle.recovery_line.specs.declared.Line.{Line}
 use Rattle.orders.specs.Record.{faultlessAt, listIn}
-use Rattle.orders.specs.Inner.Alike.{Alike}
+use Rattle.orders.specs.Alike.{Alike}
 use Rattle.orders.proofs.Told.{faultless-told, alike-self}
-use Rattle.protocol.proofs.Passes.{held-few, held-narrow}
+use Rattle.protocol.proofs.Passes.{held-few, held-64}
 use Rattle.preparing.specs.Faults.{runOf}
 use Rattle.recovery.specs.Answers.{replayAnswer, replayArea, Equal, SameLists}
-use Rattle.demands.proofs.Replays.{promised, Carried, accepted, carried-laws, two-told}
+use Rattle.demands.proofs.Replays.{promised, Carried, accepted, carried-laws, two-told, two-recorded}
 use Rattle.demands.proofs.Fits.{eleven-area}
 
 module _ (a area : List ℕ) (step set : ℕ) (l : Line) (order : List ℕ) where
@@ -50,7 +51,7 @@ module _ (a area : List ℕ) (step set : ℕ) (l : Line) (order : List ℕ) wher
   -- "In the run without failure these are its receives in the whole trace, those after the cut too.": so `Equal`'s
   -- words are words of these lists
   pub faultless-lists : holdsTrace a ≡ true → (p q : ℕ) → listIn (held a) (wordsFrom (faultlessAt (held a)) 0 areaWords) p q ≡ faultless R p q
-  faultless-lists h = faultless-told R (held-few a h) (held-narrow a h)
+  faultless-lists h = faultless-told R (held-few a h) (held-64 a h)
 
   -- "an order with one not allowed is refused and has no record": the area is zeros
   pub no-record : replayAnswer a area step set l order .number ≡ 11 → take areaWords after ≡ replicate areaWords 0
@@ -95,11 +96,13 @@ pub records-told : (a area other : List ℕ) (step other-step set other-set : �
     (take areaWords one ≡ take areaWords two) ↔ ((p q : ℕ) → listIn (held a) one p q ≡ listIn (held a) two p q)
 records-told a = two-told a a (alike-self (held a))
 
--- "Records and equality of records use the wide value" (document 02, item 4): the same of two table areas whose traces
--- differ in what is sent only. Two traces in which one message has another value, even if only above bit 32, leave
--- different words wherever it is received: without the high half the words would be the same, and the lists not.
+-- "Records and equality of records use the wide value" (document 02, item 4): of two table areas whose traces receive
+-- alike, two accepted calls leave the same words exactly if the delivery records of the states that their orders come to
+-- are the same, numbers and values (`entry`: the `val` of each send, whole). Where one message that is received has
+-- another value, if only above bit 32, the words differ; without the high half they would not.
 pub values-told : (a b : List ℕ) → Alike (held a) (held b) → (area other : List ℕ) (step other-step set other-set : ℕ) (l m : Line) (order other-order : List ℕ)
     → replayAnswer a area step set l order .number ≡ 0 → replayAnswer b other other-step other-set m other-order .number ≡ 0
+    → (s u : State) → run (runOf a step l) order ≡ carriedOut s → run (runOf b other-step m) other-order ≡ carriedOut u
     → let one = replayArea a area step set l order in let two = replayArea b other other-step other-set m other-order in
-    (take areaWords one ≡ take areaWords two) ↔ ((p q : ℕ) → listIn (held a) one p q ≡ listIn (held b) two p q)
-values-told = two-told
+    (take areaWords one ≡ take areaWords two) ↔ ((p q : ℕ) → delivered (runOf a step l) s p q ≡ delivered (runOf b other-step m) u p q)
+values-told = two-recorded

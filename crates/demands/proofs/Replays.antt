@@ -22,13 +22,13 @@ use Rattle.theory.specs.Inner.Laws.{Laws}
 use Rattle.theory.specs.Inner.Refusals.{FitLine}
 use Rattle.theory.proofs.Epochs.{laws}
 use Rattle.theory.proofs.Orders.{run-steps, complete-iff}
-use Rattle.protocol.proofs.Passes.{held-valid, held-few, held-narrow}
+use Rattle.protocol.proofs.Passes.{held-valid, held-few, held-64}
 use Rattle.recovery_line.specs.declared.Line.{Line}
 use Rattle.recovery_line.specs.Given.{lineIn}
 use Rattle.orders.specs.declared.Replayed.{Replayed}
 use Rattle.orders.specs.Record.{recordAt, listIn}
 use Rattle.orders.specs.Answer.{answerOf, wordsOf}
-use Rattle.orders.specs.Inner.Alike.{Alike}
+use Rattle.orders.specs.Alike.{Alike}
 use Rattle.orders.proofs.Told.{record-told}
 use Rattle.preparing.specs.Faults.{runOf, lineFaultOf}
 use Rattle.recovery.specs.Answers.{refusal, replayAnswer, replayArea}
@@ -238,7 +238,7 @@ module _ (a area : List ℕ) (step set : ℕ) (l : Line) (order : List ℕ) wher
   pub carried-laws : (s : State) → Carried s → Laws R
   carried-laws s C = laws (held a) (ruleOf (held a)) (held-valid a (left-iff a .1 (C .areas .0))) step (lineIn l) (C .fit .failure .step-most)
 
--- ---- Two calls with one table area, or with two whose traces are alike
+-- ---- Two calls with one table area, or with two whose traces receive alike
 
 module _ (a b : List ℕ) (alike : Alike (held a) (held b)) (area other : List ℕ) (step other-step set other-set : ℕ) (l m : Line) (order other-order : List ℕ)
     (ok : replayAnswer a area step set l order .number ≡ 0) (other-ok : replayAnswer b other other-step other-set m other-order .number ≡ 0) where
@@ -254,8 +254,18 @@ module _ (a b : List ℕ) (alike : Alike (held a) (held b)) (area other : List �
       let (u, D) = accepted b other other-step other-set m other-order other-ok in
       let h = left-iff a .1 (C .areas .0) in
       let k = left-iff b .1 (D .areas .0) in
-      let T = record-told (held a) (held b) alike (held-valid a h) (held-valid b k) (held-few a h) (held-narrow a h) (held-narrow b k) step other-step
+      let T = record-told (held a) (held b) alike (held-valid a h) (held-valid b k) (held-few a h) (held-64 a h) (held-64 b k) step other-step
       (C .fit .failure .step-most) (D .fit .failure .step-most) (lineIn l) (lineIn m) order other-order s u (C .carries) (D .carries) in (
         λ e p q. C .lists p q ∙ T .0 (sym (C .words) ∙ e ∙ D .words) p q ∙ sym (D .lists p q),
         λ e. C .words ∙ T .1 (λ p q. sym (C .lists p q) ∙ e p q ∙ D .lists p q) ∙ sym (D .words),
+      )
+
+  -- the same of the delivery records of the states that the two orders come to
+  pub two-recorded : (s u : State) → run (runOf a step l) order ≡ carriedOut s → run (runOf b other-step m) other-order ≡ carriedOut u
+      → (take areaWords one ≡ take areaWords two) ↔ ((p q : ℕ) → delivered (runOf a step l) s p q ≡ delivered (runOf b other-step m) u p q)
+  two-recorded s u e f =
+      let C = lists-done a area step set l order s ok e in
+      let D = lists-done b other other-step other-set m other-order u other-ok f in (
+        λ w p q. sym (C p q) ∙ two-told .0 w p q ∙ D p q,
+        λ d. two-told .1 (λ p q. C p q ∙ d p q ∙ sym (D p q)),
       )

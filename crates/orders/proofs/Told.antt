@@ -1,6 +1,6 @@
 -- The words of a record tell its lists: read from a run area they are those of the order's state, whatever the line,
--- complete or not; so two orders of one trace, or of two that differ in what is sent only, leave the same words exactly
--- if they leave the same lists.
+-- complete or not; so two orders of one trace, or of two that receive alike, leave the same words exactly if they leave
+-- the same lists.
 use mathlib.Core.Path.{_≡_, refl, sym, ap, _∙_}
 use mathlib.Core.Logic.{_↔_, inl, inr}
 use mathlib.Core.Bool.{true, false, _&&_, cond}
@@ -35,7 +35,7 @@ use Rattle.theory.proofs.Orders.{run-reaches}
 use Rattle.machine.specs.Taken.{takenBase, recordEnd, tookNumber, tookValue, takenNumber, takenValue}
 use Rattle.orders.specs.Record.{recordWord, recordAt, receivedNumber, receivedValue, faultlessAt, entryIn, listIn}
 use Rattle.links.proofs.Matches.{getD-iv, getD-map}
-use Rattle.orders.specs.Inner.Alike.{Alike}
+use Rattle.orders.specs.Alike.{Alike}
 use Rattle.orders.proofs.Records.{words-cong}
 
 -- ---- No message has the number 0
@@ -154,10 +154,10 @@ half-word (suc zero) e number value l h =
 half-word (suc (suc b)) e number value l h = absurd (let z : ⊥ = omega arith in z)
 
 -- values of 64 bits: those of every well-formed trace (`message-most` of crate columns)
-abbrev Narrow : Trace → Type 0
-Narrow t = (p q k : ℕ) → value t p q k ≤ 18446744073709551615
+abbrev Values64 : Trace → Type 0
+Values64 t = (p q k : ℕ) → value t p q k ≤ 18446744073709551615
 
-module _ (R : Run) (few : size (R .trace) ≤ 2048) (narrow : Narrow (R .trace)) where
+module _ (R : Run) (few : size (R .trace) ≤ 2048) (bits : Values64 (R .trace)) where
   -- the words of a receive are among those of the record
   module _ (e : ℕ) (h : 0 < e) (k : e ≤ size (R .trace)) where
     low : ltb e (takenBase 0) ≡ true
@@ -168,7 +168,10 @@ module _ (R : Run) (few : size (R .trace) ≤ 2048) (narrow : Narrow (R .trace))
 
   -- words that are the halves of a message's value say it
   whole-value : (w : List ℕ) (e v : ℕ) → ((b : ℕ) → b < 2 → getD w (takenBase b + e) 0 ≡ half b v) → v ≤ 18446744073709551615 → entryIn w e .1 ≡ v
-  whole-value w e v h most = rw (h 0 (omega arith), h 1 (omega arith)) (halves-back v most)
+  whole-value w e v h most =
+      let low = h 0 (omega arith) in
+      let high = h 1 (omega arith) in
+      omega (arith, low, high, halves-back v most)
 
   module _ (L : Laws R) (s : State) (i : Inv R s) where
     -- what the state has at the place of a receive
@@ -191,7 +194,7 @@ module _ (R : Run) (few : size (R .trace) ≤ 2048) (narrow : Narrow (R .trace))
         list-is R w p q (s .got p q)
         (λ e a b r.
         let x = words-of p q e a b r in
-        let most = mapped-most (value (t R) p q) 18446744073709551615 (narrow p q) (s .got p q) (rcvd (t R) p q e - 1) in (
+        let most = mapped-most (value (t R) p q) 18446744073709551615 (bits p q) (s .got p q) (rcvd (t R) p q e - 1) in (
           h e (omega (arith, few)) ∙ x .0,
           whole-value w e (takenValue R s e) (λ c l. h (takenBase c + e) (omega (arith, few)) ∙ halves-of c e l b) (omega (arith, x .1, most)) ∙ x .1,
         ))
@@ -228,13 +231,13 @@ module _ (R : Run) (few : size (R .trace) ≤ 2048) (narrow : Narrow (R .trace))
         words-at (faultlessAt (t R)) 16384 e (omega (arith, few)) ∙ x .0 ∙ sym g,
         whole-value w e (receivedValue (t R) e (kind (t R) e))
             (λ c l. words-at (faultlessAt (t R)) 16384 (takenBase c + e) (omega (arith, few)) ∙ faultless-halves c e l b)
-            (omega (arith, x .1, narrow p q j))
+            (omega (arith, x .1, bits p q j))
             ∙ x .1 ∙ sym (getD-map (value (t R) p q) (iv 0 m) (j - 1) (omega (arith, length-iv 0 m)) ∙ ap (value (t R) p q) g),
       ))
       (omega (arith, length-iv 0 m)) (has-iv-not 0 0 m (inl (omega arith)))
       ∙ ap (map (entry R p q)) (sym (taken-iv R p q (n R)))
 
--- ---- Two orders of traces that are alike, or of one, from any cuts and lines, complete or not
+-- ---- Two orders of traces that receive alike, or of one, from any cuts and lines, complete or not
 
 module _ (f : ℕ → ℕ) where
   entry-numbers : (ks : List ℕ) → map (λ (r : ℕ × ℕ). r .0) (map {B = ℕ × ℕ} (λ k. (k, f k)) ks) ≡ ks
@@ -265,7 +268,7 @@ module _ (t u : Trace) (A : Alike t u) where
 alike-back : (t u : Trace) → Alike t u → Alike u t
 alike-back t u A = record { size-same = sym (A .size-same); receives-same = λ p q e. sym (A .receives-same p q e) }
 
-module _ (t u : Trace) (A : Alike t u) (valid : Valid t) (other-valid : Valid u) (few : size t ≤ 2048) (narrow : Narrow t) (other-narrow : Narrow u)
+module _ (t u : Trace) (A : Alike t u) (valid : Valid t) (other-valid : Valid u) (few : size t ≤ 2048) (bits : Values64 t) (other-64 : Values64 u)
     (cut other-cut : ℕ) (cl : cut ≤ size t) (ocl : other-cut ≤ size u) (line other-line : ℕ → ℕ) (order other-order : List ℕ) (s v : State)
     (h : run (runAt t cut line) order ≡ carriedOut s) (k : run (runAt u other-cut other-line) other-order ≡ carriedOut v) where
   abbrev F : Run
@@ -326,9 +329,9 @@ module _ (t u : Trace) (A : Alike t u) (valid : Valid t) (other-valid : Valid u)
   pub record-told : (wordsFrom (recordAt F s) 0 16384 ≡ wordsFrom (recordAt G v) 0 16384) ↔ Same
   record-told = (
     λ w p q.
-        sym (told-words F few narrow LF s (inv F LF s (length order) (run-reaches F order s h)) p q)
+        sym (told-words F few bits LF s (inv F LF s (length order) (run-reaches F order s h)) p q)
         ∙ ap (λ (x : List ℕ). listIn t x p q) w
         ∙ alike-list t u A (wordsFrom (recordAt G v) 0 16384) p q
-        ∙ told-words G other-few other-narrow LG v (inv G LG v (length other-order) (run-reaches G other-order v k)) p q,
+        ∙ told-words G other-few other-64 LG v (inv G LG v (length other-order) (run-reaches G other-order v k)) p q,
     λ d. words-cong (recordAt F s) (recordAt G v) 16384 (λ x l. same-word d x),
   )

@@ -53,8 +53,8 @@ module _ (a : List ℕ) (h : holdsTrace a ≡ true) where
   pub held-few : size (held a) ≤ 2048
   held-few = well-few (held a) (facts .1)
 
-  pub held-narrow : (p q k : ℕ) → value (held a) p q k ≤ 18446744073709551615
-  held-narrow = message-most (held a) (facts .1)
+  pub held-64 : (p q k : ℕ) → value (held a) p q k ≤ 18446744073709551615
+  held-64 = message-most (held a) (facts .1)
 
   pub held-word : (k : ℕ) → k < 16384 → getD a k 0 ≡ tableWord (held a) k
   held-word k l =

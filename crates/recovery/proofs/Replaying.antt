@@ -23,7 +23,7 @@ use Rattle.theory.proofs.Loss.{inv}
 use Rattle.theory.proofs.Orders.{run-reaches, complete-iff, order-iff, order-bound}
 use Rattle.theory.proofs.Exact.{steps-within, exact-steps}
 use Rattle.theory.proofs.Lowest.{lowest-order}
-use Rattle.protocol.proofs.Passes.{held-valid, held-few, held-narrow}
+use Rattle.protocol.proofs.Passes.{held-valid, held-few, held-64}
 use Rattle.recovery_line.specs.declared.Line.{Line}
 use Rattle.recovery_line.specs.Given.{lineIn}
 use Rattle.orders.specs.Record.{recordAt, listIn}
@@ -75,7 +75,7 @@ module _ (a area : List ℕ) (step set : ℕ) (l : Line) (order : List ℕ) wher
     lists-told : (s : State) → run R order ≡ carriedOut s → (w : List ℕ) → w ≡ wordsFrom (recordAt R s) 0 areaWords
         → (p q : ℕ) → listIn (held a) (w ++ drop areaWords area) p q ≡ delivered R s p q
     lists-told s e w q =
-        told R (held-few a holds) (held-narrow a holds) L s (inv R L s (length order) (run-reaches R order s e)) (w ++ drop 16384 area)
+        told R (held-few a holds) (held-64 a holds) L s (inv R L s (length order) (run-reaches R order s e)) (w ++ drop 16384 area)
         (λ k h. sym (getD-take 16384 (w ++ drop 16384 area) k 0 (omega arith)) ∙ ap (λ (x : List ℕ). getD x k 0) (front s w q) ∙ words-at (recordAt R s) 16384 k (omega arith))
 
     recorded : (o : Outcome) → run R order ≡ o → (w : List ℕ) → w ≡ wordsOf R o → Recorded a step l order (answerOf R o (length order) .number) (w ++ drop areaWords area)

@@ -20,8 +20,8 @@ use Rattle.writer.specs.Buffer.{room, written}
 use Rattle.printing.specs.Inner.Texts.{linesOf}
 use Rattle.report.specs.Report.{reported}
 use Rattle.program.specs.Program.{ReadFrom, printed, statusOf}
-use Rattle.runs.specs.Texts.{linesH, linesL, linesS, linesT, linesFirst, failing, textH, textWide}
-use Rattle.runs.proofs.Table.{reads, message, traceH, traceWide, traceL, traceS, traceT, Said, printed1, recovery1, recovery4, recovery5, recovery7, recovery8, recovery9, recovery10, table, receivesH, takenH, narrowH, records-h, records-wide}
+use Rattle.runs.specs.Texts.{linesH, linesL, linesS, linesT, linesFirst, failing, textH, linesWide, textWide}
+use Rattle.runs.proofs.Table.{reads, message, traceH, traceWide, traceL, traceS, traceT, Said, printed1, recovery1, recovery4, recovery5, recovery7, recovery8, recovery9, recovery10, table, receivesH, takenH, noHighH, records-h, words-wide, records-wide}
 use Rattle.runs.proofs.Calls.{cleared, Accepts, Reads, OnTable, Recovers, AllRefuse, Loses, AllHaveSteps, Finishes, Completes, Leaves, Stops, accepts, read-refused, failure-refused, recovers, all-refuse, loses, all-have-steps, finishes, completes, leaves, stops, reads as reads-failure}
 
 -- `report` writes these lines: into a buffer `out`, which it leaves as `after`, and it answers n
@@ -313,27 +313,29 @@ code-table = (c1, c2, c3, c4, c5, c6, c7, c8, c9, c10, c11, c12)
 
 abbrev pub LeftH : Type 0
 LeftH =
-    OnTable traceH (Leaves 9 2 (2 ∷ 2 ∷ 32 ∷ []) (0 ∷ 1 ∷ 1 ∷ 1 ∷ []) 4 true (takenH (receivesH 1 1 2) (receivesH 5 7 9) narrowH))
-    × OnTable traceH (Leaves 9 2 (2 ∷ 2 ∷ 32 ∷ []) (0 ∷ 1 ∷ []) 2 false (takenH (receivesH 1 1 0) (receivesH 5 7 0) narrowH))
-    × OnTable traceH (Leaves 9 2 (32 ∷ 2 ∷ 32 ∷ []) (1 ∷ []) 1 true (takenH (receivesH 1 1 0) (receivesH 5 7 0) narrowH))
+    OnTable traceH (Leaves 9 2 (2 ∷ 2 ∷ 32 ∷ []) (0 ∷ 1 ∷ 1 ∷ 1 ∷ []) 4 true (takenH (receivesH 1 1 2) (receivesH 5 7 9) noHighH))
+    × OnTable traceH (Leaves 9 2 (2 ∷ 2 ∷ 32 ∷ []) (0 ∷ 1 ∷ []) 2 false (takenH (receivesH 1 1 0) (receivesH 5 7 0) noHighH))
+    × OnTable traceH (Leaves 9 2 (32 ∷ 2 ∷ 32 ∷ []) (1 ∷ []) 1 true (takenH (receivesH 1 1 0) (receivesH 5 7 0) noHighH))
 
 pub left-h : LeftH
 left-h =
     let (_, all, done, _, some, more, _, lossy) = records-h in (
-      leaves textH traceH 9 2 fails1 (2 ∷ 2 ∷ 32 ∷ []) (0 ∷ 1 ∷ 1 ∷ 1 ∷ []) 4 true true (takenH (receivesH 1 1 2) (receivesH 5 7 9) narrowH) done all,
-      leaves textH traceH 9 2 fails1 (2 ∷ 2 ∷ 32 ∷ []) (0 ∷ 1 ∷ []) 2 false false (takenH (receivesH 1 1 0) (receivesH 5 7 0) narrowH) more some,
-      leaves textH traceH 9 2 fails1 (32 ∷ 2 ∷ 32 ∷ []) (1 ∷ []) 1 true false (takenH (receivesH 1 1 0) (receivesH 5 7 0) narrowH) (table .1 .2) lossy,
+      leaves textH traceH 9 2 fails1 (2 ∷ 2 ∷ 32 ∷ []) (0 ∷ 1 ∷ 1 ∷ 1 ∷ []) 4 true true (takenH (receivesH 1 1 2) (receivesH 5 7 9) noHighH) done all,
+      leaves textH traceH 9 2 fails1 (2 ∷ 2 ∷ 32 ∷ []) (0 ∷ 1 ∷ []) 2 false false (takenH (receivesH 1 1 0) (receivesH 5 7 0) noHighH) more some,
+      leaves textH traceH 9 2 fails1 (32 ∷ 2 ∷ 32 ∷ []) (1 ∷ []) 1 true false (takenH (receivesH 1 1 0) (receivesH 5 7 0) noHighH) (table .1 .2) lossy,
     )
 
 -- and those of `RecordsWide`: messages that differ only above bit 32
 abbrev pub LeftWide : Type 0
 LeftWide =
-    OnTable traceWide (Leaves 9 2 (2 ∷ 2 ∷ 32 ∷ []) (0 ∷ 1 ∷ 1 ∷ 1 ∷ []) 4 true (takenH (receivesH 1 1 2) (receivesH 7 4294967295 7) (receivesH 0 4294967295 1)))
+    Accepts (linesOf linesWide) traceWide
+    × OnTable traceWide (Leaves 9 2 (2 ∷ 2 ∷ 32 ∷ []) (0 ∷ 1 ∷ 1 ∷ 1 ∷ []) 4 true (takenH (receivesH 1 1 2) (receivesH 7 4294967295 7) (receivesH 0 4294967295 1)))
     × OnTable traceWide (Leaves 9 2 (32 ∷ 2 ∷ 32 ∷ []) (1 ∷ []) 1 true (takenH (receivesH 1 1 0) (receivesH 7 4294967295 0) (receivesH 0 4294967295 0)))
 
 pub left-wide : LeftWide
 left-wide =
     let (_, all, done, _, lossy, some) = records-wide in (
+      accepts (linesOf linesWide) traceWide (words-wide .0),
       leaves textWide traceWide 9 2 failsWide (2 ∷ 2 ∷ 32 ∷ []) (0 ∷ 1 ∷ 1 ∷ 1 ∷ []) 4 true true
           (takenH (receivesH 1 1 2) (receivesH 7 4294967295 7) (receivesH 0 4294967295 1)) done all,
       leaves textWide traceWide 9 2 failsWide (32 ∷ 2 ∷ 32 ∷ []) (1 ∷ []) 1 true false

@@ -14,6 +14,7 @@ use Rattle.text.specs.Number.{isDigit, pushed, digitsFrom, numberAt, lastDigits
 use Rattle.trace.specs.declared.Event.the-variants.{Send, Recv, Save}
 use Rattle.trace.specs.Trace.{Trace, started, withEvents}
 use Rattle.trace.specs.Fit.{wellFormed}
+use Rattle.trace.specs.Table.{tableWord}
 use Rattle.lines.specs.Line.{procsSaid, sendSaid, recvSaid, saveSaid, failSaid, lineSaid as lineIn}
 use Rattle.reader.specs.Failure.{lastFailure}
 use Rattle.reader.specs.Verdict.{pieces, faultHere, judgeEvent, judge, linesFrom, scanPieces, scan, Verdict, accepted, verdict}
@@ -28,7 +29,7 @@ use Rattle.theory.proofs.Claims.{none-listed, reached-usable, greatest-line, gr
 use Rattle.recovery_line.specs.Given.{backOf}
 use Rattle.restart.specs.Restart.{engineLineOf, restartOf}
 use Rattle.printing.specs.Inner.Texts.{linesOf}
-use Rattle.runs.specs.Texts.{linesH, linesL, linesS, linesT, linesFirst, failing, textH, textWide}
+use Rattle.runs.specs.Texts.{linesH, linesL, linesS, linesT, linesFirst, failing, textH, linesWide, textWide}
 use Rattle.report.specs.Report.{Answer, refused, given, Failure, failureOf, Recovery, recoveryOf, recovery, messageLines, printedOf, reported}
 use Rattle.program.specs.Program.{answerTo, printed, statusOf}
 use Rattle.printing.specs.Lines.{processLine, messageLine, totalLine, refusalLine}
@@ -287,22 +288,22 @@ receivesH i j k = 0 ∷ i ∷ 0 ∷ 0 ∷ j ∷ 0 ∷ 0 ∷ k ∷ 0 ∷ []
 abbrev pub takenH : List ℕ → List ℕ → List ℕ → TakenWords
 takenH ns vs hs = record { numbers = ns; lows = vs; highs = hs }
 
--- no value above bit 32
-abbrev pub narrowH : List ℕ
-narrowH = receivesH 0 0 0
+-- no high half
+abbrev pub noHighH : List ℕ
+noHighH = receivesH 0 0 0
 
 -- The run without failure, which the order of R1 leaves. That order without its last two choices is carried out and not
 -- complete: 1 has not received message 2. From the line of R2, order 1 is complete, and 1 never receives message 2.
 abbrev pub RecordsH : Type 0
 RecordsH =
     Delivered textH (2 ∷ 2 ∷ 32 ∷ []) (0 ∷ 1 ∷ 1 ∷ 1 ∷ []) ((1, 5) ∷ (2, 9) ∷ []) ((1, 7) ∷ [])
-    × (takenWords textH (2 ∷ 2 ∷ 32 ∷ []) (0 ∷ 1 ∷ 1 ∷ 1 ∷ []) ≡ given (takenH (receivesH 1 1 2) (receivesH 5 7 9) narrowH))
+    × (takenWords textH (2 ∷ 2 ∷ 32 ∷ []) (0 ∷ 1 ∷ 1 ∷ 1 ∷ []) ≡ given (takenH (receivesH 1 1 2) (receivesH 5 7 9) noHighH))
     × (replay textH (2 ∷ 2 ∷ 32 ∷ []) (0 ∷ 1 ∷ 1 ∷ 1 ∷ []) ≡ completed 4)
     × Delivered textH (2 ∷ 2 ∷ 32 ∷ []) (0 ∷ 1 ∷ []) ((1, 5) ∷ []) ((1, 7) ∷ [])
-    × (takenWords textH (2 ∷ 2 ∷ 32 ∷ []) (0 ∷ 1 ∷ []) ≡ given (takenH (receivesH 1 1 0) (receivesH 5 7 0) narrowH))
+    × (takenWords textH (2 ∷ 2 ∷ 32 ∷ []) (0 ∷ 1 ∷ []) ≡ given (takenH (receivesH 1 1 0) (receivesH 5 7 0) noHighH))
     × (replay textH (2 ∷ 2 ∷ 32 ∷ []) (0 ∷ 1 ∷ []) ≡ given (record { complete = false; equal = false; steps = 2 }))
     × Delivered textH (32 ∷ 2 ∷ 32 ∷ []) (1 ∷ []) ((1, 5) ∷ []) ((1, 7) ∷ [])
-    × (takenWords textH (32 ∷ 2 ∷ 32 ∷ []) (1 ∷ []) ≡ given (takenH (receivesH 1 1 0) (receivesH 5 7 0) narrowH))
+    × (takenWords textH (32 ∷ 2 ∷ 32 ∷ []) (1 ∷ []) ≡ given (takenH (receivesH 1 1 0) (receivesH 5 7 0) noHighH))
 
 pub records-h : RecordsH
 unfolding opens reads
@@ -312,6 +313,17 @@ abbrev pub traceWide : Trace
 traceWide =
     withEvents (started 3)
     (Send 0 1 7 ∷ Recv 1 0 ∷ Save 1 ∷ Send 1 2 18446744073709551615 ∷ Recv 2 1 ∷ Save 0 ∷ Send 0 1 4294967303 ∷ Recv 1 0 ∷ Send 1 2 4 ∷ [])
+
+-- where the table area has these values: the low halves from word 2066 on, the high halves from word 4115 on
+abbrev pub WordsWide : Type 0
+WordsWide =
+    (verdict (linesOf linesWide) ≡ accepted traceWide)
+    × (wordsFrom (tableWord traceWide) 2065 11 ≡ 0 ∷ 7 ∷ 0 ∷ 0 ∷ 4294967295 ∷ 0 ∷ 0 ∷ 7 ∷ 0 ∷ 4 ∷ 0 ∷ [])
+    × (wordsFrom (tableWord traceWide) 4114 11 ≡ 0 ∷ 0 ∷ 0 ∷ 0 ∷ 4294967295 ∷ 0 ∷ 0 ∷ 1 ∷ 0 ∷ 0 ∷ 0 ∷ [])
+
+pub words-wide : WordsWide
+unfolding opens reads tableWord
+words-wide = (refl, refl, refl)
 
 -- Document 02, item 4: the two messages from 0 to 1 differ only above bit 32. The line of R1 loses none of them, and
 -- the record tells them apart; that of R2 loses the second, and the records differ.
@@ -342,6 +354,36 @@ NoFailure =
 no-failure : NoFailure
 unfolding opens reads
 no-failure = (refl, refl, refl, refl)
+
+-- Document 02, item 4: "a zone, step or count above 4294967295 is still 1", where 4294967295 is 3, 8 or 2; a value and a
+-- set go to 18446744073709551615 (the set names processes that are not there, 9), and above it they are 1
+abbrev pub At : String → ℕ → ℕ → Type 0
+At line n k = verdict (linesOf ("procs=2" ∷ line ∷ [])) ≡ Verdict.refused n k
+
+abbrev pub Ranges : Type 0
+Ranges =
+    (verdict (linesOf ("procs=4294967295" ∷ [])) ≡ Verdict.refused 2 1)
+    × (verdict (linesOf ("procs=4294967296" ∷ [])) ≡ Verdict.refused 1 1)
+    × At "ev=send at=4294967295 to=1 val=6" 3 2
+    × At "ev=send at=4294967296 to=1 val=6" 1 2
+    × At "ev=send at=0 to=4294967295 val=6" 3 2
+    × At "ev=send at=0 to=4294967296 val=6" 1 2
+    × At "ev=recv at=4294967295 from=0" 3 2
+    × At "ev=recv at=4294967296 from=0" 1 2
+    × At "ev=recv at=1 from=4294967295" 3 2
+    × At "ev=recv at=1 from=4294967296" 1 2
+    × At "ev=save at=4294967295" 3 2
+    × At "ev=save at=4294967296" 1 2
+    × (verdict (linesOf ("procs=2" ∷ "ev=send at=0 to=1 val=18446744073709551615" ∷ [])) ≡ accepted (withEvents (started 2) (Send 0 1 18446744073709551615 ∷ [])))
+    × At "ev=send at=0 to=1 val=18446744073709551616" 1 2
+    × (recovery (failing linesT "fail=4294967295 set=1") ≡ refused 8 0)
+    × (recovery (failing linesT "fail=4294967296 set=1") ≡ refused 1 4)
+    × (recovery (failing linesT "fail=1 set=18446744073709551615") ≡ refused 9 0)
+    × (recovery (failing linesT "fail=1 set=18446744073709551616") ≡ refused 1 4)
+
+pub ranges : Ranges
+unfolding opens reads
+ranges = (refl, refl, refl, refl, refl, refl, refl, refl, refl, refl, refl, refl, refl, refl, refl, refl, refl, refl)
 
 -- a line of two or of four numbers; a number 0; an epoch that process 2 has not reached; a failed process that stays; 9
 -- comes before 10

@@ -51,7 +51,7 @@ fn eight(text: &[u8], at: usize) -> u64
     requires { ⌜ at + 8 ≤ length (now text) ⌝ }
     ensures { λ r. ⌜ r ≡ packed 8 (drop at (now (text .entry))) ⌝ }
 {
-    four(text, at) as u64 + 4294967296 * (four(text, at + 4) as u64)
+    words::from_halves(four(text, at), four(text, at + 4))
 }
 
 // LF in each of eight bytes.

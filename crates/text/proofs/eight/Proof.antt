@@ -1,4 +1,4 @@
--- `text::eight` meets its contract: the two halves have room, each in its own place.
+-- `text::eight` meets its contract: two fours are its halves.
 use native.Mathlib.Omega.{arith}
 use borrow.Author.Needs.{needs}
 use denote.Ref.{now}
@@ -10,14 +10,15 @@ use Rattle.text.proofs.eight.Tie as tie
 
 returns : tie.Need-returns
 returns c =
-    let four = c .before .four in
-    let four2 = c .four2 in
-    let args = c .before .before .before .args in
+    let args = c .before .before .before .before .args in
+    let from-halves = c .from-halves in
+    let four = c .before .before .four in
+    let four2 = c .before .four2 in
     let text = now (args .text) in
     let halves = two-fours (drop (args .at) text) in
-    omega (arith, four .ensures, four2 .ensures, rw (drop-drop 4 (args .at) text) at halves)
+    omega (arith, (from-halves .ensures .0), (four .ensures), (four2 .ensures), rw (drop-drop 4 (args .at) text) at halves)
 
 pub eight-spec : {M : Type 1} → statement M
 eight-spec =
     tie.close
-    (tie.spec (λ c κs. search needs) (λ c. search needs) (λ c. search needs) (λ c κs. search needs) (λ c. search needs) (λ c. search needs) (λ c. search needs) returns)
+    (tie.spec (λ c κs. search needs) (λ c. search needs) (λ c κs. search needs) (λ c κs. search needs) returns)

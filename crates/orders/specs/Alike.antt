@@ -1,4 +1,4 @@
--- Traces that differ in what is sent only.
+-- Traces that receive alike, whatever they send.
 use Prim.Native.Nat.{ℕ}
 use mathlib.Core.Path.{_≡_}
 use Rattle.trace.specs.Trace.{Trace}
