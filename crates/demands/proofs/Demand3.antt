@@ -24,7 +24,7 @@ use Rattle.theory.proofs.Loss.{inv}
 use Rattle.theory.proofs.Orders.{run-reaches, order-progress, order-done, order-differs}
 use Rattle.recovery_line.specs.declared.Line.{Line}
 use Rattle.orders.specs.Record.{faultlessAt, listIn}
-use Rattle.orders.specs.Alike.{Alike}
+use Rattle.orders.specs.Inner.Alike.{Alike}
 use Rattle.orders.proofs.Told.{faultless-told, alike-self}
 use Rattle.protocol.proofs.Passes.{held-few, held-64}
 use Rattle.preparing.specs.Faults.{runOf}

@@ -28,7 +28,7 @@ use Rattle.recovery_line.specs.Given.{lineIn}
 use Rattle.orders.specs.declared.Replayed.{Replayed}
 use Rattle.orders.specs.Record.{recordAt, listIn}
 use Rattle.orders.specs.Answer.{answerOf, wordsOf}
-use Rattle.orders.specs.Alike.{Alike}
+use Rattle.orders.specs.Inner.Alike.{Alike}
 use Rattle.orders.proofs.Told.{record-told}
 use Rattle.preparing.specs.Faults.{runOf, lineFaultOf}
 use Rattle.recovery.specs.Answers.{refusal, replayAnswer, replayArea}

@@ -35,7 +35,7 @@ use Rattle.theory.proofs.Orders.{run-reaches}
 use Rattle.machine.specs.Taken.{takenBase, recordEnd, tookNumber, tookValue, takenNumber, takenValue}
 use Rattle.orders.specs.Record.{recordWord, recordAt, receivedNumber, receivedValue, faultlessAt, entryIn, listIn}
 use Rattle.links.proofs.Matches.{getD-iv, getD-map}
-use Rattle.orders.specs.Alike.{Alike}
+use Rattle.orders.specs.Inner.Alike.{Alike}
 use Rattle.orders.proofs.Records.{words-cong}
 
 -- ---- No message has the number 0
