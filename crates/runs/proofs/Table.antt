@@ -355,8 +355,8 @@ no-failure : NoFailure
 unfolding opens reads
 no-failure = (refl, refl, refl, refl)
 
--- Document 02, item 4: "a zone, step or count above 4294967295 is still 1", where 4294967295 is 3, 8 or 2; a value and a
--- set go to 18446744073709551615 (the set names processes that are not there, 9), and above it they are 1
+-- Document 02, item 4: "a zone, step or count above 4294967295 is still 1", where 4294967295 is 3, 8 or 2; a value and
+-- a set go to 18446744073709551615 (the set names processes that are not there, 9), and above it they are 1
 abbrev pub At : String → ℕ → ℕ → Type 0
 At line n k = verdict (linesOf ("procs=2" ∷ line ∷ [])) ≡ Verdict.refused n k
 
