@@ -98,8 +98,8 @@ records-told a = two-told a a (alike-self (held a))
 
 -- "Records and equality of records use the wide value" (document 02, item 4): of two table areas whose traces receive
 -- alike, two accepted calls leave the same words exactly if the delivery records of the states that their orders come
--- to are the same, numbers and values (`entry`: the `val` of each send, whole). Where one message that is received has
--- another value, if only above bit 32, the words differ; without the high half they would not.
+-- to are the same, numbers and values (`entry`: the `val` of each send, whole). Where a message that both records have
+-- has another value, if only in its high half, the words differ; a record without the high half would leave the same.
 pub values-told : (a b : List ℕ) → Alike (held a) (held b) → (area other : List ℕ) (step other-step set other-set : ℕ) (l m : Line) (order other-order : List ℕ)
     → replayAnswer a area step set l order .number ≡ 0 → replayAnswer b other other-step other-set m other-order .number ≡ 0
     → (s u : State) → run (runOf a step l) order ≡ carriedOut s → run (runOf b other-step m) other-order ≡ carriedOut u

@@ -325,7 +325,7 @@ left-h =
       leaves textH traceH 9 2 fails1 (32 ∷ 2 ∷ 32 ∷ []) (1 ∷ []) 1 true false (takenH (receivesH 1 1 0) (receivesH 5 7 0) noHighH) (table .1 .2) lossy,
     )
 
--- and those of `RecordsWide`: messages that differ only above bit 32
+-- and those of `RecordsWide`: messages that differ only in the high halves of their values
 abbrev pub LeftWide : Type 0
 LeftWide =
     Accepts (linesOf linesWide) traceWide

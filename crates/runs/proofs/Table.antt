@@ -286,7 +286,7 @@ abbrev pub receivesH : ℕ → ℕ → ℕ → List ℕ
 receivesH i j k = 0 ∷ i ∷ 0 ∷ 0 ∷ j ∷ 0 ∷ 0 ∷ k ∷ 0 ∷ []
 
 abbrev pub takenH : List ℕ → List ℕ → List ℕ → TakenWords
-takenH ns vs hs = record { numbers = ns; lows = vs; highs = hs }
+takenH ns ls hs = record { numbers = ns; lows = ls; highs = hs }
 
 -- no high half
 abbrev pub noHighH : List ℕ
@@ -325,8 +325,8 @@ pub words-wide : WordsWide
 unfolding opens reads tableWord
 words-wide = (refl, refl, refl)
 
--- Document 02, item 4: the two messages from 0 to 1 differ only above bit 32. The line of R1 loses none of them, and
--- the record tells them apart; that of R2 loses the second, and the records differ.
+-- Document 02, item 4: the two messages from 0 to 1 differ only in the high halves of their values. The line of R1
+-- loses none of them, and the record tells them apart; that of R2 loses the second, and the records differ.
 abbrev pub RecordsWide : Type 0
 RecordsWide =
     Delivered textWide (2 ∷ 2 ∷ 32 ∷ []) (0 ∷ 1 ∷ 1 ∷ 1 ∷ []) ((1, 7) ∷ (2, 4294967303) ∷ []) ((1, 18446744073709551615) ∷ [])
@@ -355,11 +355,12 @@ no-failure : NoFailure
 unfolding opens reads
 no-failure = (refl, refl, refl, refl)
 
--- Document 02, item 4: "a zone, step or count above 4294967295 is still 1", where 4294967295 is 3, 8 or 2; a value and
--- a set go to 18446744073709551615 (the set names processes that are not there, 9), and above it they are 1
+-- a text of two processes and this event line is refused with n at line k
 abbrev pub At : String → ℕ → ℕ → Type 0
 At line n k = verdict (linesOf ("procs=2" ∷ line ∷ [])) ≡ Verdict.refused n k
 
+-- Document 02, item 4: "a zone, step or count above 4294967295 is still 1", where 4294967295 is 3, 8 or 2; a value and
+-- a set go to 18446744073709551615 (the set names processes that are not there, 9), and above it they are 1
 abbrev pub Ranges : Type 0
 Ranges =
     (verdict (linesOf ("procs=4294967295" ∷ [])) ≡ Verdict.refused 2 1)

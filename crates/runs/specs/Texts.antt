@@ -29,8 +29,8 @@ linesH =
 abbrev pub textH : List ℕ
 textH = failing linesH "fail=9 set=2"
 
--- H with other values in three of its sends: the two messages from 0 to 1 differ only above bit 32 (document 02, item
--- 4), and the first from 1 to 2 has the largest value
+-- H with other values in three of its sends: those of the two messages from 0 to 1 differ only in their high halves
+-- (document 02, item 4), and the first message from 1 to 2 has the largest
 abbrev pub linesWide : List String
 linesWide =
     "procs=3"
