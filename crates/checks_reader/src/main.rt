@@ -1,8 +1,7 @@
 // Sizes and refusals of the reader, run and printed: a line for each case, with the answer's number and place, how many
 // of the area's first 16,384 words are not 0, and how many later words changed, or else the words themselves; where a
-// text is accepted, also its trace written back and read again; of a text with a failure line its step and set. The
-// file `stdout` has what documents 01 and 02 ask of each. Proved safe and ending; what is printed no contract can say.
-// Assumes what `libc` assumes.
+// text is accepted, also its trace written back and read again. The file `stdout` has what documents 01 and 02 ask of
+// each. Proved safe and ending; what is printed no contract can say. Assumes what `libc` assumes.
 ghost use Prim.Native.Nat.{_≤_};
 ghost use lib.ListN.{length};
 ghost use Rattle.io.specs.Counts.{Counts};
@@ -262,45 +261,11 @@ fn values() {
     halves(b"send-val-32-bits", b"4294967295");
     halves(b"send-val-33-bits", b"4294967296");
     halves(b"send-val-7-in-the-low-half", b"4294967303");
-    halves(b"send-val-7-in-the-high-half", b"30064771072");
-    halves(b"send-val-63-bits", b"9223372036854775807");
     halves(b"send-val-64-bits", b"9223372036854775808");
-    halves(b"send-val-19-digits", b"9999999999999999999");
     halves(b"send-val-20-digits", b"10000000000000000000");
     halves(b"send-val-halves-differ", b"12345678901234567890");
     halves(b"send-val-high-half-only", b"18446744069414584320");
-    halves(b"send-val-largest-but-one", b"18446744073709551614");
     halves(b"send-val-largest", b"18446744073709551615");
-}
-
-// Reads a text that ends with this failure line, and prints the step and the set that are answered.
-fn failure(name: &[u8], line: &[u8]) {
-    let mut text = [0u8; 128];
-    let at = repeat(&mut text, 0, b"procs=2\nev=save at=0\n", 1);
-    let n = repeat(&mut text, at, line, 1);
-    let mut area = [BEFORE; AREA_WORDS];
-    let a = reader::read_failure(&text[..n], &mut area);
-    io::write_all(1, name);
-    checks::print(
-        b" # # step=# set=#\n",
-        &[a.number as u64, a.place as u64, a.step, a.set],
-    );
-}
-
-// The numbers of a failure line: a step goes as far as a process, a set as far as a value.
-fn failures() {
-    failure(b"fail-largest", b"fail=4294967295 set=1\n");
-    failure(b"fail-over", b"fail=4294967296 set=1\n");
-    failure(b"fail-64-bits", b"fail=18446744073709551615 set=1\n");
-    failure(b"fail-wraps-to-0", b"fail=18446744073709551616 set=1\n");
-    failure(b"set-33-bits", b"fail=1 set=4294967296\n");
-    failure(b"set-largest", b"fail=1 set=18446744073709551615\n");
-    failure(b"set-over", b"fail=1 set=18446744073709551616\n");
-    failure(b"set-wraps-to-1", b"fail=1 set=18446744073709551617\n");
-    failure(
-        b"set-21-digits-wrap-to-0",
-        b"fail=1 set=184467440737095516160\n",
-    );
 }
 
 // 3, 4, 5, which comes first, and that the first faulty line decides.
@@ -398,7 +363,6 @@ fn main() {
     leading_zeros();
     largest_numbers();
     values();
-    failures();
     faults();
     first_receive();
     saves();
