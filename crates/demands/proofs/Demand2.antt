@@ -2,7 +2,8 @@
 -- as document 01 fixes it, each counted if and only if its definition holds. A replay does the one step of each choice
 -- and no other; its record, steps and completeness are those of the order it was given, whatever the line. The line
 -- given is the greatest that loses no message: in no other such line does any zone keep more of its work."
--- Of what `restart`, `messages` and `replay` answer and leave, by their definitions, for every input that isn't refused.
+-- Of what `restart`, `messages` and `replay` answer and leave, by their definitions, for every input that is not
+-- refused.
 -- What the definitions of epochs, phases and classes mean by events: crates/theory/proofs/Claims.
 use Prim.Native.Nat.{ℕ, suc, _≤_, _<_}
 use mathlib.Core.Path.{_≡_}

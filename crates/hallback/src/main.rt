@@ -1,6 +1,6 @@
 // The program: reads a trace text and its failure line from standard input and prints the recovery. `program::respond`
-// says every byte of it, whatever the input. Here are the system calls, of which no contract can speak: tools/program runs
-// them. Assumes what `libc` and `os` assume.
+// says every byte of it, whatever the input. Here are the system calls, of which no contract can speak: tools/program
+// runs them. Assumes what `libc` and `os` assume.
 ghost use Prim.Native.Nat.{_≤_};
 ghost use lib.ListN.{length};
 
