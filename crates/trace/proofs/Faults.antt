@@ -9,8 +9,8 @@ use lib.Dec.{leb, eqb}
 use lib.ListN.{getD}
 use borrow.Author.Tests.{leb-false, eqb-false, le-leb, lt-leb, eq-eqb, ne-eqb}
 use Rattle.trace.specs.declared.Event.{Event}
-use Rattle.trace.specs.declared.Event.the-variants.{Send, Recv, Save}
-use Rattle.trace.specs.Trace.{sendsIn, recvsIn, savesIn}
+use Rattle.trace.specs.declared.Event.the-variants.{Send, Recv, Save, Done}
+use Rattle.trace.specs.Trace.{sendsIn, recvsIn, savesIn, donesIn}
 use Rattle.trace.specs.Fit.{eventFault}
 use Rattle.trace.specs.Inner.Tally.{Tally, faultBy}
 use Rattle.words.proofs.Cases.{by-lt, by-eq}
@@ -46,6 +46,13 @@ module _ (n : ℕ) (es : List Event) (a : ℕ) where
       let x = or-zero (leb n a) 3 (cond (leb 30 (savesIn a es)) 6 0) (omega arith) e in
       let y = or-zero (leb 30 (savesIn a es)) 6 0 (omega arith) (x .1) in
       (leb-false n a (x .0), leb-false 30 (savesIn a es) (y .0))
+
+  pub done-fit : eventFault n es (Done a) ≡ 0 → (a < n) × (donesIn a es < savesIn a es)
+  unfolding eventFault
+  done-fit e =
+      let x = or-zero (leb n a) 3 (cond (leb (savesIn a es) (donesIn a es)) 15 0) (omega arith) e in
+      let y = or-zero (leb (savesIn a es) (donesIn a es)) 15 0 (omega arith) (x .1) in
+      (leb-false n a (x .0), leb-false (savesIn a es) (donesIn a es) (y .0))
 
 -- ---- The ways out of the functions that judge an event by counters
 
@@ -95,8 +102,8 @@ module _ (n : ℕ) (counts : List ℕ) (a b : ℕ) where
     unfolding faultBy
     recv-3 z = let p = pair-fit f in rw (lt-leb n a (p .0), lt-leb n b (p .1), ne-eqb a b (p .2), ne-eqb (getD counts (64 * b + a) 0) 0 z)
 
--- `save_fault`
 module _ (n : ℕ) (counts : List ℕ) (a : ℕ) where
+  -- `save_fault`
   pub save-1 : n ≤ a → 3 ≡ faultBy n counts (Save a)
   unfolding faultBy
   save-1 h = rw (le-leb n a h)
@@ -108,6 +115,19 @@ module _ (n : ℕ) (counts : List ℕ) (a : ℕ) where
   pub save-3 : a < n → getD counts (4096 + a) 0 < 30 → 0 ≡ faultBy n counts (Save a)
   unfolding faultBy
   save-3 l h = rw (lt-leb n a l, lt-leb 30 (getD counts (4096 + a) 0) h)
+
+  -- `done_fault`
+  pub done-1 : n ≤ a → 3 ≡ faultBy n counts (Done a)
+  unfolding faultBy
+  done-1 h = rw (le-leb n a h)
+
+  pub done-2 : a < n → getD counts (4096 + a) 0 ≤ getD counts (4160 + a) 0 → 15 ≡ faultBy n counts (Done a)
+  unfolding faultBy
+  done-2 l h = rw (lt-leb n a l, le-leb (getD counts (4096 + a) 0) (getD counts (4160 + a) 0) h)
+
+  pub done-3 : a < n → getD counts (4160 + a) 0 < getD counts (4096 + a) 0 → 0 ≡ faultBy n counts (Done a)
+  unfolding faultBy
+  done-3 l h = rw (lt-leb n a l, lt-leb (getD counts (4096 + a) 0) (getD counts (4160 + a) 0) h)
 
 -- ---- What the counters say is what the events that were counted say
 
@@ -124,3 +144,4 @@ module _ (n : ℕ) (small : n ≤ 64) (counts : List ℕ) (es : List Event) (t :
       (λ m. rw (le-leb n b m)))
       (λ l. rw (le-leb n a l))
   fault-counted (Save a) = by-lt a n (λ l. rw (t .saved a (omega arith))) (λ l. rw (le-leb n a l))
+  fault-counted (Done a) = by-lt a n (λ l. rw (t .saved a (omega arith), t .finished a (omega arith))) (λ l. rw (le-leb n a l))

@@ -6,15 +6,16 @@ use lib.ListN.{length, getD}
 use lib.Dec.{leb, eqb}
 use Rattle.words.specs.Halves.{half}
 use Rattle.trace.specs.declared.Event.{Event}
-use Rattle.trace.specs.declared.Event.the-variants.{Send, Recv, Save}
+use Rattle.trace.specs.declared.Event.the-variants.{Send, Recv, Save, Done}
 use Rattle.trace.specs.Trace.{Trace, valueOf}
 
--- An event's word: its process, its peer and its kind (1 send, 2 receive, 3 save). Processes of a well-formed trace are
+-- An event's word: its process, its peer and its kind (1 send, 2 receive, 3 save, 0 done). Processes of a well-formed trace are
 -- below 64, so that `% 64` changes nothing there; with it every event has a word below 16,384.
 abbrev pub wordOf : Event → ℕ
 wordOf (Send at to val) = at % 64 + 64 * (to % 64) + 4096
 wordOf (Recv at from) = at % 64 + 64 * (from % 64) + 8192
 wordOf (Save at) = at % 64 + 12288
+wordOf (Done at) = at % 64
 
 -- The same read back: the process at which it happens; the other process, the receiver of a send or the sender of a
 -- receive; and all that stands above them. Of an event's word that is its kind. Check 13, to which any word can come,
@@ -28,8 +29,8 @@ peerIn w = w / 64 % 64
 abbrev pub topIn : ℕ → ℕ
 topIn w = w / 4096
 
--- the kind of an event's word, two bits (1 a send, 2 a receive, 3 a checkpoint), where the area is known to hold a
--- trace
+-- the kind of an event's word, two bits (1 a send, 2 a receive, 3 a checkpoint, 0 the end of one), where the area is
+-- known to hold a trace
 abbrev pub kindIn : ℕ → ℕ
 kindIn w = topIn w % 4
 

@@ -4,17 +4,18 @@
 ghost use mathlib.Core.List.{List};
 ghost use Prim.Native.Nat.{ℕ, _+_, _-_, _*_, _/_, _%_, _≤_, _<_};
 ghost use lib.ListN.{length, getD, set};
-ghost use Rattle.trace.specs.declared.Event.the-variants.{Send, Recv, Save};
-ghost use Rattle.trace.specs.Inner.Tally.{faultBy, tallied, Next};
+ghost use Rattle.trace.specs.declared.Event.the-variants.{Send, Recv, Save, Done};
+ghost use Rattle.trace.specs.Inner.Tally.{countWords, faultBy, tallied, Next};
 ghost use mathlib.Core.Path.{_≡_};
 ghost use Rattle.trace.specs.Trace.{valueOf};
 ghost use Rattle.trace.specs.Table.{wordOf, topIn, kindIn, processIn, peerIn};
 
-// An event of a trace: `ev=send at=A to=B val=V`, `ev=recv at=A from=B`, `ev=save at=A`.
+// An event of a trace: `ev=send at=A to=B val=V`, `ev=recv at=A from=B`, `ev=save at=A`, `ev=done at=A`.
 pub enum Event {
     Send { at: u64, to: u64, val: u64 },
     Recv { at: u64, from: u64 },
     Save { at: u64 },
+    Done { at: u64 },
 }
 
 // Where the planes of the table area begin: the word of event e, from 1, is at EVENT_BASE + e, the low half of its
@@ -25,8 +26,9 @@ pub const VALUE_BASE: usize = 2065;
 
 pub const HIGH_BASE: usize = 4114;
 
-// The kinds of events: that of an event's word is kind(w). Any other is a checkpoint's, 3 in a word that check 13
-// passes.
+// The kinds of events: that of an event's word is kind(w). Any other is a checkpoint's, 3.
+pub const DONE: u32 = 0;
+
 pub const SEND: u32 = 1;
 
 pub const RECEIVE: u32 = 2;
@@ -39,6 +41,7 @@ pub fn word(e: Event) -> u32
         Event::Send { at, to, val: _ } => (at % 64 + 64 * (to % 64) + 4096) as u32,
         Event::Recv { at, from } => (at % 64 + 64 * (from % 64) + 8192) as u32,
         Event::Save { at } => (at % 64 + 12288) as u32,
+        Event::Done { at } => (at % 64) as u32,
     }
 }
 
@@ -50,6 +53,7 @@ pub fn value(e: Event) -> u64
         Event::Send { at: _, to: _, val } => val,
         Event::Recv { at: _, from: _ } => 0,
         Event::Save { at: _ } => 0,
+        Event::Done { at: _ } => 0,
     }
 }
 
@@ -61,7 +65,7 @@ pub fn top(w: u32) -> u32
     w / 4096
 }
 
-// The kind that an event's word in the table area has: 1 send, 2 receive, 3 checkpoint.
+// The kind that an event's word in the table area has: 1 send, 2 receive, 3 checkpoint, 0 the end of one.
 pub fn kind(w: u32) -> u32
     ensures { λ r. ⌜ r ≡ kindIn w ⌝ }
 {
@@ -89,11 +93,13 @@ pub fn peer(w: u32) -> usize
     (above(w) % 64) as usize
 }
 
-// How many counters there are: messages in transit, a word for each channel, then checkpoints, a word for each process.
-// Counters have 16 bits, so that they take less to clear.
-pub const COUNTS: usize = 4160;
+// How many counters there are: messages in transit, a word for each channel, then checkpoints, a word for each process,
+// then those of them that are finished, likewise. Counters have 16 bits, so that they take less to clear.
+pub const COUNTS: usize = 4224;
 
 const SAVES_BASE: usize = 4096;
+
+const DONES_BASE: usize = 4160;
 
 // The counter of a channel.
 fn channel(from: u64, to: u64) -> usize
@@ -121,7 +127,7 @@ fn pair_fault(procs: u64, at: u64, peer: u64) -> u32
 
 // What is wrong with a receive: 5 where nothing is in transit.
 fn recv_fault(counts: &[u16], procs: u64, at: u64, from: u64) -> u32
-    requires { ⌜ (procs ≤ 64) × (length (now counts) ≡ 4160) ⌝ }
+    requires { ⌜ (procs ≤ 64) × (length (now counts) ≡ countWords) ⌝ }
     ensures { λ r. ⌜ r ≡ faultBy procs (now (counts .entry)) (Recv at from) ⌝ }
 {
     let f = pair_fault(procs, at, from);
@@ -136,7 +142,7 @@ fn recv_fault(counts: &[u16], procs: u64, at: u64, from: u64) -> u32
 
 // What is wrong with a checkpoint: 6 where it is the process's 31st.
 fn save_fault(counts: &[u16], procs: u64, at: u64) -> u32
-    requires { ⌜ (procs ≤ 64) × (length (now counts) ≡ 4160) ⌝ }
+    requires { ⌜ (procs ≤ 64) × (length (now counts) ≡ countWords) ⌝ }
     ensures { λ r. ⌜ r ≡ faultBy procs (now (counts .entry)) (Save at) ⌝ }
 {
     if at >= procs {
@@ -148,15 +154,30 @@ fn save_fault(counts: &[u16], procs: u64, at: u64) -> u32
     0
 }
 
-// What is wrong with an event after those that were counted: 3, 4, 5 or 6, or 0 (proofs/Faults: `fault-counted`).
+// What is wrong with the end of a checkpoint: 15 where the process has no unfinished one.
+fn done_fault(counts: &[u16], procs: u64, at: u64) -> u32
+    requires { ⌜ (procs ≤ 64) × (length (now counts) ≡ countWords) ⌝ }
+    ensures { λ r. ⌜ r ≡ faultBy procs (now (counts .entry)) (Done at) ⌝ }
+{
+    if at >= procs {
+        return 3;
+    }
+    if counts[DONES_BASE + at as usize] >= counts[SAVES_BASE + at as usize] {
+        return 15;
+    }
+    0
+}
+
+// What is wrong with an event after those that were counted: 3, 4, 5, 6 or 15, or 0 (proofs/Faults: `fault-counted`).
 pub fn fault(counts: &[u16], procs: u64, e: Event) -> u32
-    requires { ⌜ (procs ≤ 64) × (length (now counts) ≡ 4160) ⌝ }
+    requires { ⌜ (procs ≤ 64) × (length (now counts) ≡ countWords) ⌝ }
     ensures { λ r. ⌜ r ≡ faultBy procs (now (counts .entry)) e ⌝ }
 {
     match e {
         Event::Send { at, to, val: _ } => pair_fault(procs, at, to),
         Event::Recv { at, from } => recv_fault(counts, procs, at, from),
         Event::Save { at } => save_fault(counts, procs, at),
+        Event::Done { at } => done_fault(counts, procs, at),
     }
 }
 
@@ -183,5 +204,6 @@ pub fn tally(counts: &mut [u16], e: Event)
         Event::Send { at, to, val: _ } => raise(counts, channel(at, to)),
         Event::Recv { at, from } => lower(counts, channel(from, at)),
         Event::Save { at } => raise(counts, SAVES_BASE + at as usize),
+        Event::Done { at } => raise(counts, DONES_BASE + at as usize),
     }
 }

@@ -21,7 +21,13 @@ returns-3 c =
     let save-fault = c .save-fault in
     rw (e3 .given .1) (save-fault .ensures)
 
+returns-4 : tie.Need-returns-4
+returns-4 c =
+    let e4 = c .before .before .e4 in
+    let done-fault = c .done-fault in
+    rw (e4 .given .1) (done-fault .ensures)
+
 pub fault-spec : {M : Type 1} → statement M
 fault-spec =
     tie.close
-    (tie.spec (λ c. search needs) (λ c κs. search needs) (λ c. search needs) (λ c κs. search needs) (λ c. search needs) (λ c κs. search needs) returns returns-2 returns-3)
+    (tie.spec (λ c. search needs) (λ c κs. search needs) (λ c. search needs) (λ c κs. search needs) (λ c. search needs) (λ c κs. search needs) (λ c. search needs) (λ c κs. search needs) returns returns-2 returns-3 returns-4)

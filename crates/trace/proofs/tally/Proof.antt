@@ -1,5 +1,5 @@
 -- `trace::tally` meets its contract: a fit event's counter is there and stays in its range.
-use Rattle.trace.proofs.Counting.{send-next, recv-next, save-next}
+use Rattle.trace.proofs.Counting.{send-next, recv-next, save-next, done-next}
 use native.Mathlib.Omega.{arith}
 use borrow.Author.Needs.{needs}
 use Rattle.trace.proofs.tally.Statement.{statement}
@@ -43,6 +43,18 @@ raise-requires-2 c κs =
     let pre = c .before .before .before .before .before .pre in
     (save-next _ _ (rw (e3 .given .1) at pre)) .1
 
+add-raise-2 : tie.Need-add-raise-2
+add-raise-2 c =
+    let e4 = c .before .before .e4 in
+    let pre = c .before .before .before .before .before .pre in
+    omega (arith, (done-next _ _ (rw (e4 .given .1) at pre)) .0)
+
+raise-requires-3 : tie.Need-raise-requires-3
+raise-requires-3 c κs =
+    let e4 = c .before .before .e4 in
+    let pre = c .before .before .before .before .before .pre in
+    (done-next _ _ (rw (e4 .given .1) at pre)) .1
+
 returns : tie.Need-returns
 returns c =
     let e = c .before .before .before .before .before .before .e in
@@ -63,7 +75,13 @@ returns-3 c =
     let raise2 = c .before .before .raise2 in
     rw (e3 .given .1) (raise2 .ensures)
 
+returns-4 : tie.Need-returns-4
+returns-4 c =
+    let e4 = c .before .before .before .before .before .e4 in
+    let raise3 = c .before .before .raise3 in
+    rw (e4 .given .1) (raise3 .ensures)
+
 pub tally-spec : {M : Type 1} → statement M
 tally-spec =
     tie.close
-    (tie.spec (λ c. search needs) channel-requires raise-requires (λ c. search needs) channel-requires-2 lower-requires (λ c. search needs) add-raise raise-requires-2 (λ c. search needs) returns (λ c. search needs) returns-2 (λ c. search needs) returns-3)
+    (tie.spec (λ c. search needs) channel-requires raise-requires (λ c. search needs) channel-requires-2 lower-requires (λ c. search needs) add-raise raise-requires-2 (λ c. search needs) add-raise-2 raise-requires-3 (λ c. search needs) returns (λ c. search needs) returns-2 (λ c. search needs) returns-3 (λ c. search needs) returns-4)

@@ -20,6 +20,11 @@ returns-3 c =
     let enum-told2 = c .enum-told2 in
     sym (ap valueOf (enum-told2 .given .1))
 
+returns-4 : tie.Need-returns-4
+returns-4 c =
+    let enum-told3 = c .enum-told3 in
+    sym (ap valueOf (enum-told3 .given .1))
+
 pub value-spec : {M : Type 1} → statement M
 value-spec =
-    tie.close (tie.spec (λ c. search needs) (λ c. search needs) (λ c. search needs) returns returns-2 returns-3)
+    tie.close (tie.spec (λ c. search needs) (λ c. search needs) (λ c. search needs) (λ c. search needs) returns returns-2 returns-3 returns-4)

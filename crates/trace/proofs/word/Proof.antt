@@ -20,7 +20,12 @@ returns-3 c =
     let e3 = c .before .e3 in
     sym (ap wordOf (e3 .given .1))
 
+returns-4 : tie.Need-returns-4
+returns-4 c =
+    let e4 = c .before .e4 in
+    sym (ap wordOf (e4 .given .1))
+
 pub word-spec : {M : Type 1} → statement M
 word-spec =
     tie.close
-    (tie.spec (λ c. search needs) (λ c. search needs) (λ c. search needs) (λ c. search needs) (λ c. search needs) (λ c. search needs) (λ c. search needs) (λ c. search needs) (λ c. search needs) (λ c. search needs) (λ c. search needs) (λ c. search needs) (λ c. search needs) returns returns-2 returns-3)
+    (tie.spec (λ c. search needs) (λ c. search needs) (λ c. search needs) (λ c. search needs) (λ c. search needs) (λ c. search needs) (λ c. search needs) (λ c. search needs) (λ c. search needs) (λ c. search needs) (λ c. search needs) (λ c. search needs) (λ c. search needs) (λ c. search needs) (λ c. search needs) returns returns-2 returns-3 returns-4)
