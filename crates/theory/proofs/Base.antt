@@ -246,6 +246,11 @@ pub cnt-skip : (f : ℕ → Bool) (x : ℕ) → f (suc x) ≡ false → cnt f (s
 unfolding cnt
 cnt-skip f x t = rw t
 
+pub cnt-none : (f : ℕ → Bool) (x : ℕ) → ((e : ℕ) → f e ≡ false) → cnt f x ≡ 0
+unfolding cnt
+cnt-none f zero h = refl
+cnt-none f (suc x) h = cnt-skip f x (h (suc x)) ∙ cnt-none f x h
+
 pub cnt-bound : (f : ℕ → Bool) (x : ℕ) → cnt f x ≤ x
 unfolding cnt
 cnt-bound f zero = omega arith

@@ -1,7 +1,7 @@
--- What document 01 promises of recovery, and document 02 of its steps (item 2), each claim under its sentence. Read
--- this file first, with the definitions of specs/; the other files of proofs/ say why. `demand-3` is demand 3 whole.
--- All claims hold for every well-formed trace (crate trace), every cut, and, where `rule` and `usable` are named, for
--- every rule of logging and every set of usable checkpoints; document 01's own are `past` and `reached`.
+-- What document 01 promises of recovery, and document 02 of its steps (item 2) and of unfinished saves (item 5), each
+-- claim under its sentence. Read this file first, with the definitions of specs/; the other files of proofs/ say why.
+-- `demand-3` is demand 3 whole. All claims hold for every well-formed trace (crate trace), every cut, and, where `rule` and `usable` are named, for
+-- every rule of logging and every set of usable checkpoints; the papers' own are `ruleOf` and `usableAt`.
 use mathlib.Core.Path.{_≡_, sym, _∙_}
 use mathlib.Core.Logic.{_⊎_, inl, inr, _↔_, _≢_}
 use mathlib.Core.Bool.{Bool, true, false, _&&_, _||_, not}
@@ -11,13 +11,13 @@ use Prim.Native.Nat.{ℕ, suc, _≤_, _<_}
 use native.Mathlib.Omega.{arith}
 use lib.ListN.{length, getD, take}
 use lib.Dec.{leb, ltb}
-use borrow.Author.Tests.{le-leb, lt-ltb}
+use borrow.Author.Tests.{leb-true, le-leb, lt-ltb, eq-eqb}
 use Rattle.trace.specs.Trace.{Trace}
 use Rattle.trace.specs.Fit.{wellFormed}
 use Rattle.theory.specs.Lists.{cnt, lastOf}
-use Rattle.theory.specs.Events.{size, sends, recvs, checkpoints, sent, rcvd}
-use Rattle.theory.specs.Epochs.{Rule, joined, epochAt, phaseAt, epochOf, phaseOf, loggedBy, ruleOf}
-use Rattle.theory.specs.Line.{inSet, Run, undone, lost, orphan, kept, orphanPhase, LossFree, restartIn, recorded, current, reached, Permitted, Greatest, lower, highest, greatestLine, usableAt, runAt}
+use Rattle.theory.specs.Events.{size, sends, recvs, checkpoints, finishes, sent, rcvd}
+use Rattle.theory.specs.Epochs.{Rule, joined, epochAt, phaseAt, epochOf, phaseOf, loggedBy, ruleOf, finishedAt}
+use Rattle.theory.specs.Line.{inSet, Run, undone, lost, orphan, kept, orphanPhase, LossFree, staysIn, restartIn, recorded, current, Permitted, Greatest, lower, highest, greatestLine, usableAt, unfinishedAt, runAt}
 use Rattle.theory.specs.Inner.Lines.{Usable, Above}
 use Rattle.theory.specs.Replay.{State, ready}
 use Rattle.theory.specs.Record.{delivered, faultless, SameRecord}
@@ -29,14 +29,14 @@ use Rattle.theory.specs.Answers.{orphans, keptOnes, lostOnes, exactSteps
 use Rattle.theory.specs.Refusals.{failureFault, lineFault}
 use Rattle.theory.specs.Inner.Refusals.{FitFailure, FitLine}
 use Rattle.theory.specs.Inner.Laws.{Laws}
-use Rattle.theory.proofs.Base.{on, by, le?}
+use Rattle.theory.proofs.Base.{on, by, clash, le?, both, or-right, cnt-none}
 use Rattle.theory.proofs.Events.{partner, sent-lt}
 use Rattle.theory.proofs.WellFormed.{Valid, valid}
 use Rattle.theory.proofs.Classes.{undone-counts, lost-counts, orphan-counts, kept-counts}
 use Rattle.theory.specs.Inner.Flow.{Inv}
 use Rattle.theory.proofs.Loss.{inv}
 use Rattle.theory.proofs.Epochs.{epoch-is, epochOf-at, phaseOf-send, logged-is, phase-recv, laws}
-use Rattle.theory.proofs.Lines.{now-is, now-few, usable-reached, stays-at, restart-epoch, restart-mono, number-of, lower-less}
+use Rattle.theory.proofs.Lines.{now-is, now-few, finished-le, usable-finished, may-is, stays-at, restart-epoch, restart-mono, number-of, lower-less}
 use Rattle.theory.proofs.Greatest.{highest-above, below-above, greatest-is, greatest-unique, floor-below}
 use Rattle.theory.proofs.Orders.{run-reaches, run-refused, run-steps, run-each, complete-iff, order-iff, order-differs, order-progress, order-done, order-bound}
 use Rattle.theory.proofs.Lowest.{lowest-some, lowest-iff, lowest-order}
@@ -236,9 +236,9 @@ module _ (t : Trace) (w : wellFormed t ≡ true) (rule : Rule) where
 
     -- ---- The restart line, of any usable checkpoints
 
-    -- "an epoch from 1 to its current one" is a set of usable checkpoints that contains the start
-    pub reached-usable : Usable t rule cut (reached t rule cut)
-    reached-usable = usable-reached t rule A cut cl
+    -- "finished epochs only, epoch 1 being always finished" is a set of usable checkpoints that contains the start
+    pub finished-usable : Usable t rule cut (usableAt t cut)
+    finished-usable = usable-finished t rule A cut cl
 
     module _ (usable : ℕ → ℕ → Bool) (U : Usable t rule cut usable) (failed : ℕ → Bool) where
       -- "The engine's line is the greatest without a lost message.": there is one, lowering gives it, and there is no
@@ -269,8 +269,7 @@ module _ (t : Trace) (w : wellFormed t ≡ true) (rule : Rule) where
       pub lowering-ends : (m : ℕ → ℕ) → Above t rule cut usable failed m → LossFree (recorded t rule cut m) → Greatest t rule cut usable failed m
       lowering-ends m a f = record { permitted = a .permitted; loss-free = f; top = a .top }
 
--- ---- The floor, for document 01's rule: "No zone in it restarts in an epoch below the smallest current epoch of a
--- failed zone."
+-- ---- The floor, for document 01's rule
 
 module _ (t : Trace) (w : wellFormed t ≡ true) (cut : ℕ) (cl : cut ≤ size t) (failed : ℕ → Bool) where
   -- in general: below an epoch f that each process can restart in, or that lies above the current epoch of one that did
@@ -280,16 +279,32 @@ module _ (t : Trace) (w : wellFormed t ≡ true) (cut : ℕ) (cl : cut ≤ size 
       → (l : ℕ → ℕ) → Greatest t (ruleOf t) cut usable failed l → (z : ℕ) → z < t .procs → f ≤ l z
   floor usable U = floor-below t (valid t w) cut cl usable U failed
 
-  -- y is a failed process of the smallest current epoch
-  pub floor-failed : (y : ℕ) → y < t .procs → failed y ≡ true → ((z : ℕ) → z < t .procs → failed z ≡ true → current t (ruleOf t) cut y ≤ current t (ruleOf t) cut z)
-      → (l : ℕ → ℕ) → Greatest t (ruleOf t) cut (usableAt t cut) failed l → (z : ℕ) → z < t .procs → current t (ruleOf t) cut y ≤ l z
-  floor-failed y a b c =
+  -- Document 02, item 5: "The floor becomes the smallest, over the failed zones and those with an unfinished save, of the
+  -- latest finished epoch at the cut." It is y's, where no failed process and none with an unfinished save has a smaller.
+  pub floor-finished : (y : ℕ)
+      → ((z : ℕ) → z < t .procs → (failed z || unfinishedAt t cut z) ≡ true → finishedAt t y cut ≤ finishedAt t z cut)
+      → (l : ℕ → ℕ) → Greatest t (ruleOf t) cut (usableAt t cut) failed l → (z : ℕ) → z < t .procs → finishedAt t y cut ≤ l z
+  floor-finished y c =
       let A = valid t w in
-      let n : 1 ≤ current t (ruleOf t) cut y = omega (arith, now-is t (ruleOf t) A cut cl y) in
-      floor (usableAt t cut) (usable-reached t (ruleOf t) A cut cl) (current t (ruleOf t) cut y) (omega (arith, now-few t (ruleOf t) A cut cl y))
-      (λ z h. on (le? (current t (ruleOf t) cut y) (current t (ruleOf t) cut z))
-      (λ u. let i : leb 1 (current t (ruleOf t) cut y) ≡ true = le-leb _ _ n in let j : leb (current t (ruleOf t) cut y) (current t (ruleOf t) cut z) ≡ true = le-leb _ _ u in inl (rw (i, j)))
-      (λ u. inr (by (failed z) (λ v. absurd (omega (arith, c z h v))) (λ v. v), u)))
+      let f = finishedAt t y cut in
+      floor (usableAt t cut) (usable-finished t (ruleOf t) A cut cl) f
+      (omega (arith, now-few t (ruleOf t) A cut cl y, finished-le t (ruleOf t) A cut cl y))
+      (λ z h. on (le? f (finishedAt t z cut))
+      (λ u. let i : leb 1 f ≡ true = le-leb 1 f (omega arith) in let j : leb f (finishedAt t z cut) ≡ true = le-leb f (finishedAt t z cut) u in inl (rw (i, j)))
+      (λ u. inr (
+        by (failed z) (λ v. absurd (omega (arith, c z h (rw v)))) (λ v. v),
+        on (le? (cnt (checkpoints t z) cut) (cnt (finishes t z) cut))
+            (λ v. omega (arith, now-is t (ruleOf t) A cut cl z))
+            (λ v. absurd (omega (arith, c z h (or-right (failed z) (unfinishedAt t cut z) (lt-ltb (cnt (finishes t z) cut) (cnt (checkpoints t z) cut) v))))),
+      )))
+
+  -- "In a trace with no `done`, each zone that goes back goes to epoch 1."
+  pub none-done : ((z e : ℕ) → finishes t z e ≡ false) → (l : ℕ → ℕ) → Permitted t (ruleOf t) cut (usableAt t cut) failed l
+      → (z : ℕ) → z < t .procs → staysIn l z ≡ false → l z ≡ 1
+  none-done h l b z lt back = on (may-is (usableAt t cut) failed z (l z) (b z lt))
+      (λ u. let c = both (leb 1 (l z)) (leb (l z) (finishedAt t z cut)) u in
+      omega (arith, leb-true 1 (l z) (c .0), leb-true (l z) (finishedAt t z cut) (c .1), cnt-none (finishes t z) cut (h z)))
+      (λ u. clash (eq-eqb (l z) 32 (u .0)) back)
 
 -- ---- Numbers, "Who names the failure and the replay". "Order: .. for the rest 8, 9, 10, 11."
 

@@ -8,7 +8,7 @@ use native.Mathlib.Omega.{arith}
 use lib.Dec.{eqb}
 use borrow.Author.Tests.{eqb-true}
 use Rattle.trace.specs.declared.Event.{Event}
-use Rattle.trace.specs.declared.Event.the-variants.{Send, Recv, Save}
+use Rattle.trace.specs.declared.Event.the-variants.{Send, Recv, Save, Done}
 use Rattle.trace.specs.Trace.{Trace, isSend, isRecv, isSave}
 use Rattle.theory.specs.Lists.{cnt, put}
 use Rattle.theory.specs.Events.{size, eventAt, sends, recvs, checkpoints, sent, rcvd, recvOf}
@@ -29,6 +29,7 @@ send-event p q (Send a b v) h =
     (v, rw (i, j))
 send-event p q (Recv a b) h = clash {b = false} h refl
 send-event p q (Save a) h = clash {b = false} h refl
+send-event p q (Done a) h = clash {b = false} h refl
 
 recv-event : (p q : ℕ) (e : Event) → isRecv p q e ≡ true → e ≡ Recv q p
 recv-event p q (Send a b v) h = clash {b = false} h refl
@@ -38,11 +39,13 @@ recv-event p q (Recv a b) h =
     let j : q ≡ a = eqb-true q a (c .1) in
     rw (i, j)
 recv-event p q (Save a) h = clash {b = false} h refl
+recv-event p q (Done a) h = clash {b = false} h refl
 
 checkpoint-event : (z : ℕ) (e : Event) → isSave z e ≡ true → e ≡ Save z
 checkpoint-event z (Send a b v) h = clash {b = false} h refl
 checkpoint-event z (Recv a b) h = clash {b = false} h refl
 checkpoint-event z (Save a) h = let i : z ≡ a = eqb-true z a h in rw i
+checkpoint-event z (Done a) h = clash {b = false} h refl
 
 joined-own : (b : Bool) (f m : ℕ) → f ≤ joined b f m
 joined-own true f m = omega arith
@@ -71,12 +74,14 @@ module _ (t : Trace) (rule : Rule) where
       let l = rule b a k (m .epoch) (n .epochs a) in
       put-le (n .phases) a (joined l (n .phases a) (m .phase)) (joined-own l (n .phases a) (m .phase)) z
   note-phase n e (Save a) z = put-le (n .phases) a (suc (n .phases a)) (omega arith) z
+  note-phase n e (Done a) z = omega arith
 
   note-epoch : (n : Notes) (e : ℕ) (v : Event) (z : ℕ) → (note t rule n e v) .epochs z ≡ cond (isSave z v) (suc (n .epochs z)) (n .epochs z)
   unfolding note
   note-epoch n e (Send a b v) z = refl
   note-epoch n e (Recv a b) z = refl
   note-epoch n e (Save a) z = by (eqb z a) (λ u. let i : a ≡ z = sym (eqb-true z a u) in rw (u, i)) (λ u. rw u)
+  note-epoch n e (Done a) z = refl
 
   note-checkpoint : (n : Notes) (e z : ℕ) → (note t rule n e (Save z)) .phases z ≡ suc (n .phases z)
   unfolding note
@@ -104,6 +109,7 @@ module _ (t : Trace) (rule : Rule) where
       (λ u. rw u)
   note-keeps n e (Recv a b) p q k h = refl
   note-keeps n e (Save a) p q k h = refl
+  note-keeps n e (Done a) p q k h = refl
 
   -- ---- The notes
 

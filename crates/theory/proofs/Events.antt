@@ -8,7 +8,7 @@ use native.Mathlib.Omega.{arith}
 use lib.Dec.{eqb}
 use borrow.Author.Tests.{eqb-true}
 use Rattle.trace.specs.declared.Event.{Event}
-use Rattle.trace.specs.declared.Event.the-variants.{Send, Recv, Save}
+use Rattle.trace.specs.declared.Event.the-variants.{Send, Recv, Save, Done}
 use Rattle.trace.specs.Trace.{Trace, isSend, isRecv, isSave}
 use Rattle.theory.specs.Events.{Kind, send, recv, other, kindOf, processOf, size, eventAt, at, kind, sends, recvs, checkpoints, sent, rcvd, sendOf, recvOf}
 use Rattle.theory.proofs.Base.{by, clash, both, eqb-self, cnt-suc, cnt-skip, cnt-le, cnt-lt, cnt-find, place-at}
@@ -20,16 +20,19 @@ send-split : (p q : ℕ) (e : Event) → isSend p q e ≡ (eqb p (processOf e) &
 send-split p q (Send a b v) = refl
 send-split p q (Recv a b) = by (eqb p a) (λ t. rw t) (λ t. rw t)
 send-split p q (Save a) = by (eqb p a) (λ t. rw t) (λ t. rw t)
+send-split p q (Done a) = by (eqb p a) (λ t. rw t) (λ t. rw t)
 
 recv-split : (p q : ℕ) (e : Event) → isRecv p q e ≡ (eqb q (processOf e) && recvFrom p (kindOf e))
 recv-split p q (Send a b v) = by (eqb q a) (λ t. rw t) (λ t. rw t)
 recv-split p q (Recv a b) = by (eqb q a) (λ t. by (eqb p b) (λ u. rw (t, u)) (λ u. rw (t, u))) (λ t. by (eqb p b) (λ u. rw (t, u)) (λ u. rw (t, u)))
 recv-split p q (Save a) = by (eqb q a) (λ t. rw t) (λ t. rw t)
+recv-split p q (Done a) = by (eqb q a) (λ t. rw t) (λ t. rw t)
 
 checkpoint-split : (z : ℕ) (e : Event) → isSave z e ≡ true → (processOf e ≡ z) × (kindOf e ≡ other)
 checkpoint-split z (Send a b v) h = clash {b = false} h refl
 checkpoint-split z (Recv a b) h = clash {b = false} h refl
 checkpoint-split z (Save a) h = (sym (eqb-true z a h), refl)
+checkpoint-split z (Done a) h = clash {b = false} h refl
 
 sendTo-is : (q : ℕ) (k : Kind) → sendTo q k ≡ true → k ≡ send q
 sendTo-is q (send r) h = ap send (sym (eqb-true q r h))

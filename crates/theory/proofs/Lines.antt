@@ -10,8 +10,8 @@ use borrow.Author.Tests.{leb-true, ltb-false, eqb-true, le-leb, eq-eqb, ne-eqb}
 use Rattle.trace.specs.Trace.{Trace}
 use Rattle.theory.specs.Lists.{cnt, place, lastOf}
 use Rattle.theory.specs.Events.{size, sends, recvs, checkpoints, sent, rcvd}
-use Rattle.theory.specs.Epochs.{Rule, epochAt, epochOf, loggedBy, ruleOf}
-use Rattle.theory.specs.Line.{may, sentBefore, received, receivedBefore, undone, lost, LossFree, restartIn, recorded, current, reached, Permitted}
+use Rattle.theory.specs.Epochs.{Rule, epochAt, epochOf, loggedBy, finishedAt, ruleOf}
+use Rattle.theory.specs.Line.{may, sentBefore, received, receivedBefore, undone, lost, LossFree, restartIn, recorded, current, Permitted, usableAt}
 use Rattle.theory.specs.Inner.Lines.{Usable}
 use Rattle.theory.specs.Inner.Laws.{Laws}
 use Rattle.theory.proofs.Base.{by, on, clash, le?, both, cnt-le, cnt-lt, cnt-bound, place-zero, place-cnt, place-mono, lastOf-le, lastOf-top}
@@ -184,12 +184,16 @@ module _ (t : Trace) (rule : Rule) (A : Valid t) (cut : ℕ) (cl : cut ≤ size 
 
   -- ---- Usable checkpoints
 
-  pub usable-reached : Usable t rule cut (reached t rule cut)
-  usable-reached = record {
-    start = λ z. le-leb 1 (current t rule cut z) (omega (arith, now-is z));
+  -- a finished epoch is one that the process has reached
+  pub finished-le : (z : ℕ) → finishedAt t z cut ≤ current t rule cut z
+  finished-le z = omega (arith, now-is z, A .finished-few z cut cl)
+
+  pub usable-finished : Usable t rule cut (usableAt t cut)
+  usable-finished = record {
+    start = λ z. le-leb 1 (finishedAt t z cut) (omega arith);
     within = λ z e h.
-        let b = both (leb 1 e) (leb e (current t rule cut z)) h in
-        (leb-true 1 e (b .0), leb-true e (current t rule cut z) (b .1));
+        let b = both (leb 1 e) (leb e (finishedAt t z cut)) h in
+        (leb-true 1 e (b .0), omega (arith, leb-true e (finishedAt t z cut) (b .1), finished-le z));
   }
 
   module _ (usable : ℕ → ℕ → Bool) (U : Usable t rule cut usable) (failed : ℕ → Bool) where

@@ -6,11 +6,11 @@ use mathlib.Core.Option.{bind}
 use Prim.Native.Nat.{ℕ}
 use lib.Dec.{eqb}
 use Rattle.trace.specs.declared.Event.{Event}
-use Rattle.trace.specs.declared.Event.the-variants.{Send, Recv, Save}
+use Rattle.trace.specs.declared.Event.the-variants.{Send, Recv, Save, Done}
 use Rattle.trace.specs.Trace.{count}
 use Rattle.trace.specs.Fit.{wellFormed, allFit, eventFault}
 use Rattle.theory.specs.Lists.{iv, keep, cnt, place, lastOf, no-one, all-below, sum, first}
-use Rattle.theory.specs.Events.{eventAt, at, kind, sends, recvs, checkpoints, sent, rcvd, sendOf, recvOf, value}
+use Rattle.theory.specs.Events.{eventAt, at, kind, sends, recvs, checkpoints, finishes, sent, rcvd, sendOf, recvOf, value}
 use Rattle.theory.specs.Epochs.{note, notes, loggedBy}
 use Rattle.theory.specs.Line.{Run, sentBefore, sentAfter, received, receivedBefore, undone, lost, orphan, kept, orphanPhase, restartIn, highest, lowered, lowering, greatestLine, runAt, engineLine}
 use Rattle.theory.specs.Replay.{listed, keptOn, takenBy, resends, ready, gate, sendStep, recvStep, eventStep, processStep, handStep, step}
@@ -21,7 +21,7 @@ use Rattle.theory.specs.Inner.Tests.{two, samePairs, sameRecord, placeOf
 
 -- all that a row computes with
 unfoldable pub opens : ℕ
-unfolding bind iv keep cnt place lastOf no-one all-below sum first eventAt at kind sends recvs checkpoints sent rcvd sendOf recvOf value note notes loggedBy sentBefore sentAfter received receivedBefore undone lost orphan kept orphanPhase restartIn highest lowered lowering greatestLine listed keptOn takenBy resends ready gate sendStep recvStep eventStep processStep handStep step delivered faultless choiceOf choose carry run lowest lowestFrom complete gather messages exactSteps samePairs sameRecord count wellFormed allFit eventFault
+unfolding bind iv keep cnt place lastOf no-one all-below sum first eventAt at kind sends recvs checkpoints finishes sent rcvd sendOf recvOf value note notes loggedBy sentBefore sentAfter received receivedBefore undone lost orphan kept orphanPhase restartIn highest lowered lowering greatestLine listed keptOn takenBy resends ready gate sendStep recvStep eventStep processStep handStep step delivered faultless choiceOf choose carry run lowest lowestFrom complete gather messages exactSteps samePairs sameRecord count wellFormed allFit eventFault
 opens = 0
 
 -- do all rows of a table hold
@@ -35,6 +35,10 @@ at-cut es cut l = runAt (two es) cut (lineOf l)
 
 abbrev line-of : List Event → ℕ → ℕ → ℕ → ℕ
 line-of es cut set = engineLine (two es) cut set
+
+-- the engine's line has these two numbers
+abbrev line-is : List Event → ℕ → ℕ → ℕ → ℕ → Bool
+line-is es cut set a b = eqb (line-of es cut set 0) a && eqb (line-of es cut set 1) b
 
 -- the order is refused at a place; it is complete and leaves the record of the run without failure; it is complete and
 -- does every event, but leaves another record
@@ -69,7 +73,7 @@ only-orphan [] r = false
 only-orphan (m ∷ []) r = eqb (m .from) 0 && (eqb (m .to) 1 && (eqb (m .number) 1 && eqb (m .phase) r))
 only-orphan (m ∷ n ∷ ms) r = false
 
--- ---- The traces: of rows 1, 2 and 3, 4, 6, 7, 8 and 9, 10, 12
+-- ---- The traces: of rows 1, 2 and 3, 4, 6, 7, 8 and 9, 10, 12, 16, 17, 18
 
 abbrev t1 : List Event
 t1 = Save 1 ∷ Send 0 1 0 ∷ Recv 1 0 ∷ []
@@ -95,10 +99,19 @@ t10 = Send 0 1 0 ∷ Recv 1 0 ∷ Send 0 1 0 ∷ Recv 1 0 ∷ []
 abbrev t12 : List Event
 t12 = Send 0 1 5 ∷ Send 0 1 6 ∷ Recv 1 0 ∷ Recv 1 0 ∷ []
 
+abbrev t16 : List Event
+t16 = Save 0 ∷ Save 0 ∷ Done 0 ∷ []
+
+abbrev t17 : List Event
+t17 = Save 0 ∷ Save 1 ∷ Send 0 1 0 ∷ Recv 1 0 ∷ Done 1 ∷ []
+
+abbrev t18 : List Event
+t18 = Save 0 ∷ Send 0 1 0 ∷ Recv 1 0 ∷ Done 0 ∷ []
+
 -- ---- The rows. Each is a theorem of its own, so that a definition that is wrong names the row that it makes false.
 
 -- all these traces are well formed
-fit : every (map (λ es. wellFormed (two es)) (t1 ∷ t2 ∷ t4 ∷ t6 ∷ t7 ∷ t8 ∷ t10 ∷ t12 ∷ [])) ≡ true
+fit : every (map (λ es. wellFormed (two es)) (t1 ∷ t2 ∷ t4 ∷ t6 ∷ t7 ∷ t8 ∷ t10 ∷ t12 ∷ t16 ∷ t17 ∷ t18 ∷ [])) ≡ true
 unfolding opens every
 fit = refl
 
@@ -149,7 +162,7 @@ unfolding opens
 d10 = refl
 
 -- the greatest line sends back the sender of a lost message, and not the receiver of an orphan
-d11 : (eqb (line-of t8 3 2 0) 1 && (eqb (line-of t8 3 2 1) 1 && (eqb (line-of t10 2 1 0) 1 && eqb (line-of t10 2 1 1) 32))) ≡ true
+d11 : (line-is t8 3 2 1 1 && line-is t10 2 1 1 32) ≡ true
 unfolding opens
 d11 = refl
 
@@ -179,3 +192,20 @@ d15 :
     && samePairs (faultless (at-cut t8 3 (32 ∷ 1 ∷ [])) 0 1) ((1, 6) ∷ [])))) ≡ true
 unfolding opens
 d15 = refl
+
+-- document 02, item 5: a save that is not finished at the cut cannot be restarted from; a done finishes the oldest
+d16 : (line-is t16 1 1 1 32 && (line-is t16 2 1 1 32 && line-is t16 3 1 2 32)) ≡ true
+unfolding opens
+d16 = refl
+
+-- the sender of a lost message goes back to its latest finished epoch, which may lie below the epoch of the send, and
+-- below the latest finished epoch of every failed process
+d17 : line-is t17 5 2 1 2 ≡ true
+unfolding opens
+d17 = refl
+
+-- a restart is right after the save, not after its done: what was sent between them is sent again, and the done is
+-- listed
+d18 : (line-is t18 4 1 2 32 && (completes (at-cut t18 4 (2 ∷ 32 ∷ [])) (0 ∷ 0 ∷ []) && exact (at-cut t18 4 (2 ∷ 32 ∷ [])) (0 ∷ 0 ∷ []))) ≡ true
+unfolding opens
+d18 = refl

@@ -10,7 +10,7 @@ use lib.ListN.{length}
 use lib.Dec.{eqb}
 use borrow.Author.Tests.{eqb-true, eqb-false, ne-eqb}
 use Rattle.trace.specs.declared.Event.{Event}
-use Rattle.trace.specs.declared.Event.the-variants.{Send, Recv, Save}
+use Rattle.trace.specs.declared.Event.the-variants.{Send, Recv, Save, Done}
 use Rattle.trace.specs.Trace.{isSend}
 use Rattle.theory.specs.Lists.{iv, cnt, sum, put, put2}
 use Rattle.theory.specs.Events.{size, eventAt, at, sends, sent}
@@ -67,6 +67,7 @@ one-channel n (Send a b v) = sum-one n (λ p. sum n (λ q. one (eqb p a && eqb q
     (rw (eqb-self a) (one-process n b))
 one-channel n (Recv a b) = omega (arith, sum-zero n (λ p. sum n (λ q. 0)) (λ p l. sum-zero n (λ q. 0) (λ q k. refl)))
 one-channel n (Save a) = omega (arith, sum-zero n (λ p. sum n (λ q. 0)) (λ p l. sum-zero n (λ q. 0) (λ q k. refl)))
+one-channel n (Done a) = omega (arith, sum-zero n (λ p. sum n (λ q. 0)) (λ p l. sum-zero n (λ q. 0) (λ q k. refl)))
 
 module _ (R : Run) where
   -- all listed events and all kept messages that are left

@@ -9,13 +9,13 @@ use lib.Seq.{take-suc}
 use lib.Dec.{leb, eqb}
 use borrow.Author.Tests.{leb-true, eqb-true}
 use Rattle.trace.specs.declared.Event.{Event}
-use Rattle.trace.specs.declared.Event.the-variants.{Send, Recv, Save}
-use Rattle.trace.specs.Trace.{Trace, isSend, isRecv, isSave, oneIf, count}
+use Rattle.trace.specs.declared.Event.the-variants.{Send, Recv, Save, Done}
+use Rattle.trace.specs.Trace.{Trace, isSend, isRecv, isSave, isDone, oneIf, count}
 use Rattle.trace.specs.Fit.{eventFault, valueFits, allFit, wellFormed}
-use Rattle.trace.proofs.Faults.{send-fit, recv-fit, save-fit}
+use Rattle.trace.proofs.Faults.{send-fit, recv-fit, save-fit, done-fit}
 use Rattle.theory.specs.Lists.{cnt}
-use Rattle.theory.specs.Events.{send, kindOf, processOf, size, eventAt, at, kind, sends, recvs, checkpoints, sent, rcvd}
-use Rattle.theory.proofs.Base.{by, clash, both, same2, cnt-suc, cnt-skip}
+use Rattle.theory.specs.Events.{send, kindOf, processOf, size, eventAt, at, kind, sends, recvs, checkpoints, finishes, sent, rcvd}
+use Rattle.theory.proofs.Base.{by, clash, both, same2, cnt-suc, cnt-skip, cnt-le}
 use Rattle.theory.proofs.Events.{sent-le}
 
 -- what a well-formed trace has, by event number
@@ -25,6 +25,8 @@ pub record Valid (t : Trace) : Type 0 where
   pub peer-lt : (e q : ℕ) → 0 < e → e ≤ size t → kind t e ≡ send q → q < t .procs
   pub causal : (p q x : ℕ) → x ≤ size t → rcvd t p q x ≤ sent t p q x
   pub checkpoints-few : (z x : ℕ) → x ≤ size t → cnt (checkpoints t z) x ≤ 30
+  -- no more are finished than made
+  pub finished-few : (z x : ℕ) → x ≤ size t → cnt (finishes t z) x ≤ cnt (checkpoints t z) x
 
 fit-at : (n : ℕ) (d : Event) (before es : List Event) → allFit n before es ≡ true → (i : ℕ) → i < length es
     → eventFault n (before ++ take i es) (getD es i d) ≡ 0
@@ -52,21 +54,31 @@ fit-process : (n : ℕ) (b : List Event) (e : Event) → eventFault n b e ≡ 0 
 fit-process n b (Send z q v) h = (send-fit n b z q v h) .0
 fit-process n b (Recv z p) h = (recv-fit n b z p h) .0
 fit-process n b (Save z) h = (save-fit n b z h) .0
+fit-process n b (Done z) h = (done-fit n b z h) .0
 
 fit-peer : (n : ℕ) (b : List Event) (e : Event) (q : ℕ) → eventFault n b e ≡ 0 → kindOf e ≡ send q → q < n
 fit-peer n b (Send z r v) q h k = let i : r ≡ q = cc in omega (arith, (send-fit n b z r v h) .1)
 fit-peer n b (Recv z p) q h k = let z : _≡_ {A = ℕ} 0 1 = cc in absurd (omega arith)
 fit-peer n b (Save z) q h k = let z : _≡_ {A = ℕ} 0 1 = cc in absurd (omega arith)
+fit-peer n b (Done z) q h k = let z : _≡_ {A = ℕ} 0 1 = cc in absurd (omega arith)
 
 fit-transit : (n : ℕ) (b : List Event) (e : Event) (p q : ℕ) → eventFault n b e ≡ 0 → isRecv p q e ≡ true → count (isRecv p q) b < count (isSend p q) b
 fit-transit n b (Send z r v) p q h k = clash {b = false} k refl
 fit-transit n b (Recv z r) p q h k = let c = same2 p r q z k in rw (c .0, c .1) ((recv-fit n b z r h) .3)
 fit-transit n b (Save z) p q h k = clash {b = false} k refl
+fit-transit n b (Done z) p q h k = clash {b = false} k refl
 
 fit-checkpoint : (n : ℕ) (b : List Event) (e : Event) (z : ℕ) → eventFault n b e ≡ 0 → isSave z e ≡ true → count (isSave z) b < 30
 fit-checkpoint n b (Send y r v) z h k = clash {b = false} k refl
 fit-checkpoint n b (Recv y r) z h k = clash {b = false} k refl
 fit-checkpoint n b (Save y) z h k = let i : z ≡ y = eqb-true z y k in rw i ((save-fit n b y h) .1)
+fit-checkpoint n b (Done y) z h k = clash {b = false} k refl
+
+fit-done : (n : ℕ) (b : List Event) (e : Event) (z : ℕ) → eventFault n b e ≡ 0 → isDone z e ≡ true → count (isDone z) b < count (isSave z) b
+fit-done n b (Send y r v) z h k = clash {b = false} k refl
+fit-done n b (Recv y r) z h k = clash {b = false} k refl
+fit-done n b (Save y) z h k = clash {b = false} k refl
+fit-done n b (Done y) z h k = let i : z ≡ y = eqb-true z y k in rw i ((done-fit n b y h) .1)
 
 module _ (t : Trace) where
   -- counting the first x events of the list is counting event numbers 1 .. x
@@ -113,6 +125,12 @@ module _ (t : Trace) where
         let a = fit-checkpoint (t .procs) (take x (t .events)) (eventAt t (suc x)) z (fault x h) r in
         omega (arith, count-cnt (isSave z) x (omega arith))
 
+    done-room : (z x : ℕ) → x < size t → finishes t z (suc x) ≡ true → cnt (finishes t z) x < cnt (checkpoints t z) x
+    unfolding checkpoints finishes
+    done-room z x h r =
+        let a = fit-done (t .procs) (take x (t .events)) (eventAt t (suc x)) z (fault x h) r in
+        omega (arith, count-cnt (isDone z) x (omega arith), count-cnt (isSave z) x (omega arith))
+
     pub valid : Valid t
     valid = record {
       few = leb-true (t .procs) 64 (parts .0);
@@ -120,6 +138,7 @@ module _ (t : Trace) where
       peer-lt = λ e q a b k. peer e q a b k;
       causal = valid-causal;
       checkpoints-few = few-checkpoints;
+      finished-few = few-finished;
     }
       where
         in-range : (e : ℕ) → 0 < e → e ≤ size t → at t e < t .procs
@@ -135,3 +154,9 @@ module _ (t : Trace) where
         few-checkpoints z (suc x) h = by (checkpoints t z (suc x))
             (λ r. omega (arith, cnt-suc (checkpoints t z) x r, checkpoint-room z x h r))
             (λ r. omega (arith, cnt-skip (checkpoints t z) x r, few-checkpoints z x (omega arith)))
+
+        few-finished : (z x : ℕ) → x ≤ size t → cnt (finishes t z) x ≤ cnt (checkpoints t z) x
+        few-finished z zero h = unfold cnt in omega arith
+        few-finished z (suc x) h = by (finishes t z (suc x))
+            (λ r. omega (arith, cnt-suc (finishes t z) x r, done-room z x h r, cnt-le (checkpoints t z) x (suc x) (omega arith)))
+            (λ r. omega (arith, cnt-skip (finishes t z) x r, few-finished z x (omega arith), cnt-le (checkpoints t z) x (suc x) (omega arith)))

@@ -4,10 +4,10 @@ use mathlib.Core.Bool.{Bool, true, false}
 use Prim.Native.Nat.{ℕ, zero, suc, max}
 use lib.Dec.{ltb}
 use Rattle.trace.specs.declared.Event.{Event}
-use Rattle.trace.specs.declared.Event.the-variants.{Send, Recv, Save}
+use Rattle.trace.specs.declared.Event.the-variants.{Send, Recv, Save, Done}
 use Rattle.trace.specs.Trace.{Trace}
-use Rattle.theory.specs.Lists.{put, put3}
-use Rattle.theory.specs.Events.{size, eventAt, sent, rcvd, recvOf}
+use Rattle.theory.specs.Lists.{cnt, put, put3}
+use Rattle.theory.specs.Events.{size, eventAt, finishes, sent, rcvd, recvOf}
 
 -- A rule: is message k from p to q, sent in epoch a and received in epoch b, logged.
 abbrev pub Rule : Type 0
@@ -65,6 +65,8 @@ module _ (t : Trace) (rule : Rule) where
     phases = put (n .phases) z (suc (n .phases z));
     carried = n .carried;
   }
+  -- document 02, item 5: "Epochs and phases rise at the save as before."
+  note n e (Done z) = n
 
   -- the notes after event x
   unfoldable pub notes : ℕ → Notes
@@ -88,3 +90,8 @@ module _ (t : Trace) (rule : Rule) where
 
   unfoldable pub loggedBy : ℕ → ℕ → ℕ → Bool
   loggedBy p q k = rule p q k (epochOf p q k) (epochAt q (recvOf t p q k))
+
+-- The latest finished epoch of process z after event x (document 02, item 5). "A `done` finishes the oldest unfinished
+-- save of A", so that the finished epochs are those from 1 to this one, "epoch 1 being always finished".
+abbrev pub finishedAt : Trace → ℕ → ℕ → ℕ
+finishedAt t z x = suc (cnt (finishes t z) x)

@@ -4,8 +4,8 @@ use mathlib.Core.Bool.{Bool}
 use Prim.Native.Nat.{ℕ, zero, suc}
 use lib.ListN.{length, getD}
 use Rattle.trace.specs.declared.Event.{Event}
-use Rattle.trace.specs.declared.Event.the-variants.{Send, Recv, Save}
-use Rattle.trace.specs.Trace.{Trace, valueOf, isSend, isRecv, isSave}
+use Rattle.trace.specs.declared.Event.the-variants.{Send, Recv, Save, Done}
+use Rattle.trace.specs.Trace.{Trace, valueOf, isSend, isRecv, isSave, isDone}
 use Rattle.theory.specs.Lists.{cnt, place}
 
 -- what a replay sees of an event: a send to q, a receive from p, or any other
@@ -18,11 +18,13 @@ abbrev pub kindOf : Event → Kind
 kindOf (Send at to val) = send to
 kindOf (Recv at from) = recv from
 kindOf (Save at) = other
+kindOf (Done at) = other
 
 abbrev pub processOf : Event → ℕ
 processOf (Send at to val) = at
 processOf (Recv at from) = at
 processOf (Save at) = at
+processOf (Done at) = at
 
 module _ (t : Trace) where
   -- "events, numbered from 1 in text order": how many there are, and event e. Under any other number stands a
@@ -41,7 +43,7 @@ module _ (t : Trace) where
   unfoldable pub kind : ℕ → Kind
   kind e = kindOf (eventAt e)
 
-  -- is event e a send, a receive on the channel from p to q; is it a checkpoint of z
+  -- is event e a send, a receive on the channel from p to q; is it a checkpoint of z; does it finish one of z
   unfoldable pub sends : ℕ → ℕ → ℕ → Bool
   sends p q e = isSend p q (eventAt e)
 
@@ -50,6 +52,9 @@ module _ (t : Trace) where
 
   unfoldable pub checkpoints : ℕ → ℕ → Bool
   checkpoints z e = isSave z (eventAt e)
+
+  unfoldable pub finishes : ℕ → ℕ → Bool
+  finishes z e = isDone z (eventAt e)
 
   -- "A message is named by sender, receiver and its number on that channel, from 1." How many are sent, how many
   -- received on the channel up to event x: a send e has number `sent p q e`. "A takes the oldest message in transit": a

@@ -6,16 +6,16 @@ use mathlib.Core.Option.{Option, none, some}
 use Prim.Native.Nat.{ℕ, zero, suc, _-_, _*_, _/_, _%_, _^_, _≤_, _<_}
 use lib.Dec.{leb, ltb, eqb}
 use Rattle.trace.specs.Trace.{Trace}
-use Rattle.theory.specs.Lists.{place, lastOf, ifSome, first, put}
-use Rattle.theory.specs.Events.{size, checkpoints, sendOf, recvOf}
-use Rattle.theory.specs.Epochs.{Rule, ruleOf, epochAt, phaseAt, epochOf, phaseOf, loggedBy}
+use Rattle.theory.specs.Lists.{cnt, place, lastOf, ifSome, first, put}
+use Rattle.theory.specs.Events.{size, checkpoints, finishes, sendOf, recvOf}
+use Rattle.theory.specs.Epochs.{Rule, ruleOf, epochAt, phaseAt, epochOf, phaseOf, loggedBy, finishedAt}
 
 -- ---- The failure: the cut, "right after event K", and who failed: "M a 64-bit number in decimal whose bit z says that
 -- zone z failed"
 abbrev pub inSet : ℕ → ℕ → Bool
 inSet m z = eqb (m / 2 ^ z % 2) 1
 
--- ---- A line: "an epoch from 1 to its current one, or 32, which means the zone stays as it was at the cut"
+-- ---- A line: one number for each process, an epoch, "or 32, which means the zone stays as it was at the cut"
 abbrev pub staysIn : (ℕ → ℕ) → ℕ → Bool
 staysIn line z = eqb (line z) 32
 
@@ -103,10 +103,6 @@ module _ (t : Trace) (rule : Rule) (cut : ℕ) where
 
   -- ---- Which lines are permitted, and which is the greatest
 
-  -- document 01's usable checkpoints: "an epoch from 1 to its current one"
-  abbrev pub reached : ℕ → ℕ → Bool
-  reached z e = leb 1 e && leb e (current z)
-
   module _ (usable : ℕ → ℕ → Bool) (failed : ℕ → Bool) where
     abbrev pub Permitted : (ℕ → ℕ) → Type 0
     Permitted l = (z : ℕ) → z < t .procs → may usable failed z (l z) ≡ true
@@ -144,9 +140,14 @@ module _ (t : Trace) (rule : Rule) (cut : ℕ) where
 
 -- ---- The run of a trace, by its own rule
 
--- the epochs that each process can restart in
+-- The epochs that each process can restart in (document 02, item 5): "Restart lines may name finished epochs only, epoch
+-- 1 being always finished".
 abbrev pub usableAt : Trace → ℕ → ℕ → ℕ → Bool
-usableAt t cut = reached t (ruleOf t) cut
+usableAt t cut z e = leb 1 e && leb e (finishedAt t z cut)
+
+-- has process z an unfinished save at the cut: fewer are finished than made
+abbrev pub unfinishedAt : Trace → ℕ → ℕ → Bool
+unfinishedAt t cut z = ltb (cnt (finishes t z) cut) (cnt (checkpoints t z) cut)
 
 -- the recorded run with a failure right after event `cut` and a line
 abbrev pub runAt : Trace → ℕ → (ℕ → ℕ) → Run
