@@ -7,7 +7,7 @@ use native.Mathlib.Omega.{arith}
 use lib.Dec.{ltb, leb}
 use Rattle.words.proofs.Cases.{by-eq, by-lt, and-left, and-right}
 use Rattle.trace.specs.declared.Event.{Event}
-use Rattle.trace.specs.declared.Event.the-variants.{Send, Recv, Save}
+use Rattle.trace.specs.declared.Event.the-variants.{Send, Recv, Save, Done}
 use Rattle.trace.specs.Trace.{Trace}
 use Rattle.theory.specs.Events.{size, eventAt, sendOf}
 use Rattle.theory.specs.Epochs.{joined, notes, epochAt, phaseAt, ruleOf}
@@ -15,7 +15,7 @@ use Rattle.theory.proofs.Base.{place-le}
 use Rattle.theory.proofs.WellFormed.{Valid}
 use Rattle.theory.proofs.Events.{partner}
 use Rattle.theory.proofs.Epochs.{epoch-is}
-use Rattle.columns.proofs.Moves.{send-phase, recv-here, recv-phase, recv-phase-other, save-phase, save-phase-other}
+use Rattle.columns.proofs.Moves.{Local, send-phase, recv-here, recv-phase, recv-phase-other, save-local, done-local, local-phase, local-phase-other}
 use mathlib.Core.List.{[]}
 use borrow.Author.Tests.{leb-true}
 use Rattle.trace.specs.Fit.{allFit, wellFormed}
@@ -34,6 +34,13 @@ module _ (t : Trace) (A : Valid t) where
   phase-start z = omega arith
 
   -- the phases after event x + 1, from those up to x
+  local-next : (x : ℕ) → ((y : ℕ) → y ≤ x → (z : ℕ) → phaseAt t (ruleOf t) z y ≤ suc y) → (z a u : ℕ) → u ≤ 1 → Local t x a u
+      → phaseAt t (ruleOf t) z (suc x) ≤ suc (suc x)
+  local-next x ih z a u few v =
+      by-eq z a
+      (λ h. rw h (omega (arith, local-phase t x a u v, ih x (omega arith) a)))
+      (λ n. omega (arith, local-phase-other t x a u v z n, ih x (omega arith) z))
+
   phase-next : (x : ℕ) → suc x ≤ size t → ((y : ℕ) → y ≤ x → (z : ℕ) → phaseAt t (ruleOf t) z y ≤ suc y) → (z : ℕ) (v : Event) → eventAt t (suc x) ≡ v
       → phaseAt t (ruleOf t) z (suc x) ≤ suc (suc x)
   phase-next x l ih z (Send a b v) e = omega (arith, send-phase t x a b v e z, ih x (omega arith) z)
@@ -43,10 +50,8 @@ module _ (t : Trace) (A : Valid t) where
       rw (h, recv-phase t x a b e l (p .0) (p .3) (p .1) (omega (arith, p .2)) (p .4) A)
       (joined-most (ltb (epochAt t (ruleOf t) b (p .0)) (epochAt t (ruleOf t) a x)) (phaseAt t (ruleOf t) a x) (phaseAt t (ruleOf t) b (p .0)) (suc (suc x)) (omega (arith, ih x (omega arith) a)) (omega (arith, ih (p .0) (omega (arith, p .2)) b, p .2))))
       (λ n. omega (arith, recv-phase-other t x a b e z n, ih x (omega arith) z))
-  phase-next x l ih z (Save a) e =
-      by-eq z a
-      (λ h. rw h (omega (arith, save-phase t x a e, ih x (omega arith) a)))
-      (λ n. omega (arith, save-phase-other t x a e z n, ih x (omega arith) z))
+  phase-next x l ih z (Save a) e = local-next x ih z a 1 (omega arith) (save-local t x a e)
+  phase-next x l ih z (Done a) e = local-next x ih z a 0 (omega arith) (done-local t x a e)
 
   phases-most : (x : ℕ) → x ≤ size t → (y : ℕ) → y ≤ x → (z : ℕ) → phaseAt t (ruleOf t) z y ≤ suc y
   phases-most zero l y h z = let e : y ≡ 0 = omega arith in rw e (phase-start z)

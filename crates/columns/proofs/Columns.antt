@@ -1,4 +1,4 @@
--- Each kind of event fills its columns: `send-filled`, `recv-filled`, `save-filled`. From how counts, epochs and phases
+-- Each kind of event fills its columns: `send-filled`, `recv-filled`, `local-filled`. From how counts, epochs and phases
 -- move.
 use Prim.Native.Nat.{ℕ, suc, _+_, _*_, _<_, _≤_}
 use mathlib.Core.Path.{_≡_, sym, ap, subst, _∙_}
@@ -18,8 +18,8 @@ use Rattle.theory.specs.Epochs.{epochAt, phaseAt, loggedBy, ruleOf}
 use Rattle.theory.proofs.Base.{place-zero}
 use Rattle.theory.proofs.WellFormed.{Valid}
 use Rattle.theory.proofs.Events.{sends-is, recvs-is, send-of, sendOf-at, recvOf-at, sent-more, sent-same, rcvd-more, rcvd-same}
-use Rattle.columns.specs.Inner.Filling.{placed, stored, sendFull, recvLogged, recvPhase, recvFull, saveFull, Filled, Working}
-use Rattle.columns.proofs.Moves.{send-at, send-here, send-recvs, send-epoch, send-phase, recv-at, recv-here, recv-else, recv-sends, recv-epoch, recv-logged, recv-phase, save-at, save-sends, save-recvs, save-epoch, save-phase}
+use Rattle.columns.specs.Inner.Filling.{placed, stored, sendFull, recvLogged, recvPhase, recvFull, localFull, Filled, Working}
+use Rattle.columns.proofs.Moves.{Local, send-at, send-here, send-recvs, send-epoch, send-phase, recv-at, recv-here, recv-else, recv-sends, recv-epoch, recv-logged, recv-phase, local-at, local-sends, local-recvs, local-epoch, local-phase}
 use Rattle.columns.proofs.Storing.{length-placed, placed-match, placed-other, placed-phase, placed-epoch, length-stored, stored-match, stored-other, stored-phase, stored-epoch, stored-number, Step, filled-step, by-event}
 
 -- an event is on one channel only
@@ -107,13 +107,13 @@ module _ (t : Trace) (x : ℕ) (full : List ℕ) (F : Filled t x full) (A : Vali
         (rw (send-at t x a b v e) (W .epochs a la ∙ sym (send-epoch t x a b v e a)))
         (rw (send-at t x a b v e) (W .phases a la ∙ sym (send-phase t x a b v e a))))
 
-    pub save-filled : (a : ℕ) → eventAt t (suc x) ≡ Save a → a < 64 → Filled t (suc x) (saveFull full work (suc x) a)
-    save-filled a e la =
-        filled-step t x full (saveFull full work (suc x) a) F few l
-        (quiet _ _ _ (save-recvs t x a e)
-        (λ p q s. clash s (save-sends t x a e p q))
-        (rw (save-at t x a e) (omega (arith, W .epochs a la, save-epoch t x a e)))
-        (rw (save-at t x a e) (omega (arith, W .phases a la, save-phase t x a e))))
+    pub local-filled : (a u : ℕ) → Local t x a u → a < 64 → Filled t (suc x) (localFull full work (suc x) a u)
+    local-filled a u v la =
+        filled-step t x full (localFull full work (suc x) a u) F few l
+        (quiet _ _ _ (local-recvs t x a u v)
+        (λ p q s. clash s (local-sends t x a u v p q))
+        (rw (local-at t x a u v) (omega (arith, W .epochs a la, local-epoch t x a u v)))
+        (rw (local-at t x a u v) (omega (arith, W .phases a la, local-phase t x a u v))))
 
     -- a receive: its message is sent by d, and d is matched with it
     module _ (a b : ℕ) (e : eventAt t (suc x) ≡ Recv a b) (la : a < 64) (lb : b < 64) where

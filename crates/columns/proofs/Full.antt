@@ -13,7 +13,7 @@ use borrow.Author.Tests.{eqb-true, leb-true}
 use Rattle.words.specs.Halves.{half}
 use Rattle.words.proofs.Cases.{by-bool, and-left, and-right}
 use Rattle.trace.specs.declared.Event.{Event}
-use Rattle.trace.specs.declared.Event.the-variants.{Send, Recv, Save}
+use Rattle.trace.specs.declared.Event.the-variants.{Send, Recv, Save, Done}
 use Rattle.trace.specs.Trace.{Trace, valueOf}
 use Rattle.trace.specs.Fit.{eventFault, valueFits, allFit, wellFormed}
 use Rattle.trace.specs.Table.{wordOf, valueWord}
@@ -26,16 +26,20 @@ use Rattle.theory.proofs.WellFormed.{Valid, valid}
 use Rattle.columns.specs.Inner.Columns.{Flagged, Tabled}
 use Rattle.columns.specs.Inner.Full.{procsW, eventsW, eventW, atW, peerW, kindW, numberW, valueW, matchW, loggedW, kindBy}
 use Rattle.columns.proofs.Bounds.{well-few}
-use Rattle.columns.proofs.Moves.{send-epoch, send-phase, recv-at, recv-epoch, recv-phase-other, save-at, save-epoch-other, save-phase-other}
+use Rattle.columns.proofs.Moves.{send-epoch, send-phase, recv-at, recv-epoch, recv-phase-other, Local, save-local, done-local, local-at, local-epoch-other, local-phase-other}
 
 -- an event changes the epoch and the phase of its own process only
 module _ (t : Trace) (x z : ℕ) (n : z ≢ at t (suc x)) where
+  else-local : (a u : ℕ) → Local t x a u → (epochAt t (ruleOf t) z (suc x) ≡ epochAt t (ruleOf t) z x) × (phaseAt t (ruleOf t) z (suc x) ≡ phaseAt t (ruleOf t) z x)
+  else-local a u v =
+      let m : z ≢ a = λ i. n (i ∙ sym (local-at t x a u v)) in
+      (local-epoch-other t x a u v z m, local-phase-other t x a u v z m)
+
   else-of : (v : Event) → eventAt t (suc x) ≡ v → (epochAt t (ruleOf t) z (suc x) ≡ epochAt t (ruleOf t) z x) × (phaseAt t (ruleOf t) z (suc x) ≡ phaseAt t (ruleOf t) z x)
   else-of (Send a b v) h = (send-epoch t x a b v h z, send-phase t x a b v h z)
   else-of (Recv a b) h = (recv-epoch t x a b h z, recv-phase-other t x a b h z (λ i. n (i ∙ sym (recv-at t x a b h))))
-  else-of (Save a) h =
-      let m : z ≢ a = λ i. n (i ∙ sym (save-at t x a h)) in
-      (save-epoch-other t x a h z m, save-phase-other t x a h z m)
+  else-of (Save a) h = else-local a 1 (save-local t x a h)
+  else-of (Done a) h = else-local a 0 (done-local t x a h)
 
   pub else-same : (epochAt t (ruleOf t) z (suc x) ≡ epochAt t (ruleOf t) z x) × (phaseAt t (ruleOf t) z (suc x) ≡ phaseAt t (ruleOf t) z x)
   else-same = else-of (eventAt t (suc x)) refl
@@ -52,6 +56,7 @@ fits-most : (e : Event) → valueFits e ≡ true → valueOf e ≤ 1844674407370
 fits-most (Send a b v) h = leb-true v 18446744073709551615 h
 fits-most (Recv a b) h = omega arith
 fits-most (Save a) h = omega arith
+fits-most (Done a) h = omega arith
 
 module _ (t : Trace) (w : wellFormed t ≡ true) where
   -- a value of a well-formed trace has 64 bits: its halves tell it
@@ -153,11 +158,19 @@ module _ (t : Trace) (full : List ℕ) (G : Tabled t full) where
         let l : z < 64 = rw h at process-few in
         (word-kind z 0 3 _ l (omega arith) w (omega arith), word-at z 0 3 _ l (omega arith) w)
 
+    of-done : (z : ℕ) → eventAt t e ≡ Done z → (kindW full e ≡ 0) × (atW full e ≡ z)
+    unfolding at
+    of-done z h =
+        let w : eventW full e ≡ z % 64 + 64 * (0 % 64) + 4096 * 0 = word-is e a b ∙ ap wordOf h ∙ omega arith in
+        let l : z < 64 = rw h at process-few in
+        (word-kind z 0 0 _ l (omega arith) w (omega arith), word-at z 0 0 _ l (omega arith) w)
+
     told : (v : Event) → eventAt t e ≡ v → (atW full e ≡ at t e) × (kind t e ≡ kindBy (kindW full e) (peerW full e))
     unfolding at kind kindBy
     told (Send z q v) h = let w = of-send z q v h in (w .1 ∙ rw h, rw (h, w .0, w .2))
     told (Recv z p) h = let w = of-recv z p h in (w .1 ∙ rw h, rw (h, w .0, w .2))
     told (Save z) h = let w = of-save z h in (w .1 ∙ rw h, rw (h, w .0))
+    told (Done z) h = let w = of-done z h in (w .1 ∙ rw h, rw (h, w .0))
 
     pub at-is : atW full e ≡ at t e
     at-is = (told (eventAt t e) refl) .0

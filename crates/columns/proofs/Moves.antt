@@ -1,14 +1,14 @@
 -- How the theory's counts, epochs and phases move at one event, by its kind. From the definitions, and the claims of
 -- the theory on what a message carries.
-use Prim.Native.Nat.{ℕ, suc, _<_, _≤_}
+use Prim.Native.Nat.{ℕ, suc, _+_, _<_, _≤_}
 use mathlib.Core.Path.{_≡_, refl, sym, ap, _∙_}
-use mathlib.Core.Logic.{_≢_}
+use mathlib.Core.Logic.{_⊎_, inl, inr, ⊎-elim, _≢_}
 use mathlib.Core.Bool.{Bool, true, false, _&&_}
 use native.Mathlib.Omega.{arith}
 use lib.Dec.{eqb, ltb}
 use borrow.Author.Tests.{eq-eqb, ne-eqb}
 use Rattle.trace.specs.declared.Event.{Event}
-use Rattle.trace.specs.declared.Event.the-variants.{Send, Recv, Save}
+use Rattle.trace.specs.declared.Event.the-variants.{Send, Recv, Save, Done}
 use Rattle.trace.specs.Trace.{Trace}
 use Rattle.words.proofs.Cases.{by-eq}
 use Rattle.theory.specs.Events.{size, eventAt, at, sends, recvs, sent, rcvd}
@@ -96,32 +96,54 @@ module _ (t : Trace) (x : ℕ) where
           ∙ ap (λ (k : ℕ). joined (ltb (epochAt t (ruleOf t) b d) (epochAt t (ruleOf t) a x)) (phaseAt t (ruleOf t) a x) (phaseOf t (ruleOf t) b a k)) (sym n)
           ∙ ap (λ (k : ℕ). joined (ltb (epochAt t (ruleOf t) b d) (epochAt t (ruleOf t) a x)) (phaseAt t (ruleOf t) a x) k) (phaseOf-send t (ruleOf t) b a d s p m)
 
-  -- a checkpoint of a
-  module _ (a : ℕ) (e : eventAt t (suc x) ≡ Save a) where
-    pub save-at : at t (suc x) ≡ a
+  -- a local event of a, by which its epoch and its phase rise by u: a checkpoint, or the end of one
+  abbrev pub Local : ℕ → ℕ → Type 0
+  Local a u = ((eventAt t (suc x) ≡ Save a) × (u ≡ 1)) ⊎ ((eventAt t (suc x) ≡ Done a) × (u ≡ 0))
+
+  module _ (a u : ℕ) (l : Local a u) where
+    pub local-at : at t (suc x) ≡ a
     unfolding at
-    save-at = rw e
+    local-at = ⊎-elim (λ e. rw (e .0)) (λ e. rw (e .0)) l
 
-    pub save-sends : (p q : ℕ) → sends t p q (suc x) ≡ false
+    pub local-sends : (p q : ℕ) → sends t p q (suc x) ≡ false
     unfolding sends
-    save-sends p q = rw e
+    local-sends p q = ⊎-elim (λ e. rw (e .0)) (λ e. rw (e .0)) l
 
-    pub save-recvs : (p q : ℕ) → recvs t p q (suc x) ≡ false
+    pub local-recvs : (p q : ℕ) → recvs t p q (suc x) ≡ false
     unfolding recvs
-    save-recvs p q = rw e
+    local-recvs p q = ⊎-elim (λ e. rw (e .0)) (λ e. rw (e .0)) l
 
-    pub save-epoch : epochAt t (ruleOf t) a (suc x) ≡ suc (epochAt t (ruleOf t) a x)
+    pub local-epoch : epochAt t (ruleOf t) a (suc x) ≡ epochAt t (ruleOf t) a x + u
     unfolding note
-    save-epoch = ap (λ (n : Notes). n .epochs a) (noted (Save a) e) ∙ rw (eqb-self a)
+    local-epoch = ⊎-elim
+        (λ e. ap (λ (n : Notes). n .epochs a) (noted (Save a) (e .0)) ∙ rw (eqb-self a, e .1) (omega arith))
+        (λ e. ap (λ (n : Notes). n .epochs a) (noted (Done a) (e .0)) ∙ rw (e .1) (omega arith))
+        l
 
-    pub save-phase : phaseAt t (ruleOf t) a (suc x) ≡ suc (phaseAt t (ruleOf t) a x)
+    pub local-phase : phaseAt t (ruleOf t) a (suc x) ≡ phaseAt t (ruleOf t) a x + u
     unfolding note
-    save-phase = ap (λ (n : Notes). n .phases a) (noted (Save a) e) ∙ rw (eqb-self a)
+    local-phase = ⊎-elim
+        (λ e. ap (λ (n : Notes). n .phases a) (noted (Save a) (e .0)) ∙ rw (eqb-self a, e .1) (omega arith))
+        (λ e. ap (λ (n : Notes). n .phases a) (noted (Done a) (e .0)) ∙ rw (e .1) (omega arith))
+        l
 
-    pub save-epoch-other : (z : ℕ) → z ≢ a → epochAt t (ruleOf t) z (suc x) ≡ epochAt t (ruleOf t) z x
+    pub local-epoch-other : (z : ℕ) → z ≢ a → epochAt t (ruleOf t) z (suc x) ≡ epochAt t (ruleOf t) z x
     unfolding note
-    save-epoch-other z n = ap (λ (n : Notes). n .epochs z) (noted (Save a) e) ∙ rw (ne-eqb z a n)
+    local-epoch-other z n = ⊎-elim
+        (λ e. ap (λ (n : Notes). n .epochs z) (noted (Save a) (e .0)) ∙ rw (ne-eqb z a n))
+        (λ e. ap (λ (n : Notes). n .epochs z) (noted (Done a) (e .0)))
+        l
 
-    pub save-phase-other : (z : ℕ) → z ≢ a → phaseAt t (ruleOf t) z (suc x) ≡ phaseAt t (ruleOf t) z x
+    pub local-phase-other : (z : ℕ) → z ≢ a → phaseAt t (ruleOf t) z (suc x) ≡ phaseAt t (ruleOf t) z x
     unfolding note
-    save-phase-other z n = ap (λ (n : Notes). n .phases z) (noted (Save a) e) ∙ rw (ne-eqb z a n)
+    local-phase-other z n = ⊎-elim
+        (λ e. ap (λ (n : Notes). n .phases z) (noted (Save a) (e .0)) ∙ rw (ne-eqb z a n))
+        (λ e. ap (λ (n : Notes). n .phases z) (noted (Done a) (e .0)))
+        l
+
+  -- the two kinds
+  pub save-local : (a : ℕ) → eventAt t (suc x) ≡ Save a → Local a 1
+  save-local a e = inl (e, refl)
+
+  pub done-local : (a : ℕ) → eventAt t (suc x) ≡ Done a → Local a 0
+  done-local a e = inr (e, refl)

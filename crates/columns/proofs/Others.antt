@@ -1,7 +1,7 @@
 -- The words that the columns do not name: each kind of event leaves them right, from what its stores leave; and with
 -- the columns they are all words (`same-table`).
 use Prim.Native.Nat.{ℕ, suc, _+_, _-_, _<_, _≤_}
-use mathlib.Core.Path.{_≡_, refl, sym, subst, _∙_}
+use mathlib.Core.Path.{_≡_, refl, sym, ap, subst, _∙_}
 use mathlib.Core.Logic.{_≢_}
 use mathlib.Core.Bool.{Bool, true, cond}
 use mathlib.Core.List.{List}
@@ -10,14 +10,13 @@ use lib.ListN.{getD, set}
 use lib.Seq.{getD-set-other, ext-getD}
 use Rattle.words.proofs.Cases.{by-eq, by-lt}
 use Rattle.trace.specs.declared.Event.{Event}
-use Rattle.trace.specs.declared.Event.the-variants.{Send, Recv, Save}
+use Rattle.trace.specs.declared.Event.the-variants.{Send, Recv, Save, Done}
 use Rattle.trace.specs.Trace.{Trace}
-use Rattle.theory.specs.Events.{size, eventAt, sends, checkpoints, rcvd, sendOf}
-use Rattle.theory.proofs.Base.{eqb-self}
+use Rattle.theory.specs.Events.{other, kindOf, size, eventAt, kind, sends, rcvd, sendOf}
 use Rattle.theory.proofs.WellFormed.{Valid}
-use Rattle.theory.proofs.Events.{send-not-checkpoint, recv-not-checkpoint}
+use Rattle.theory.proofs.Events.{send-not-other, recv-not-other}
 use Rattle.columns.specs.Inner.Columns.{Columns, Flagged, Others}
-use Rattle.columns.specs.Inner.Filling.{placed, sendFull, recvLogged, recvPhase, recvFull, saveFull, Filled, Working}
+use Rattle.columns.specs.Inner.Filling.{placed, sendFull, recvLogged, recvPhase, recvFull, localFull, Filled, Working}
 use Rattle.columns.proofs.Moves.{send-here, recv-here}
 use Rattle.columns.proofs.Storing.{placed-other, stored-match, stored-other, stored-number, by-event}
 use Rattle.columns.proofs.Columns.{oldest-found}
@@ -25,8 +24,8 @@ use Rattle.columns.proofs.Columns.{oldest-found}
 -- before the first event
 pub begin-others : (t : Trace) (full : List ℕ) → getD full 6163 0 ≡ 0 → Others t 0 full full
 begin-others t full z = record {
-  number-checkpoint = λ z e s u h. absurd (let y : ⊥ = omega arith in y);
-  match-checkpoint = λ z e s u h. absurd (let y : ⊥ = omega arith in y);
+  number-other = λ e s u h. absurd (let y : ⊥ = omega arith in y);
+  match-other = λ e s u h. absurd (let y : ⊥ = omega arith in y);
   number-none = z;
   after-number = λ k h m. refl;
   after-epoch = λ k h m. refl;
@@ -37,8 +36,8 @@ begin-others t full z = record {
 -- a table that begins as another from the number of event 1 on
 pub others-from : (t : Trace) (x : ℕ) (before mid after : List ℕ) → ((k : ℕ) → 6163 < k → getD mid k 0 ≡ getD before k 0) → Others t x mid after → Others t x before after
 others-from t x before mid after same O = record {
-  number-checkpoint = O .number-checkpoint;
-  match-checkpoint = O .match-checkpoint;
+  number-other = O .number-other;
+  match-other = O .match-other;
   number-none = O .number-none;
   after-number = λ k h m. O .after-number k h m ∙ same k (omega arith);
   after-epoch = λ k h m. O .after-epoch k h m ∙ same k (omega arith);
@@ -47,22 +46,22 @@ others-from t x before mid after same O = record {
 }
 
 module _ (t : Trace) (x : ℕ) (before full : List ℕ) (O : Others t x before full) (F : Filled t x full) (few : size t ≤ 2048) (l : suc x ≤ size t) where
-  -- an event stores its own words, and maybe the match of a send before it; a checkpoint stores number 0 and match 0
+  -- an event stores its own words, and maybe the match of a send before it; a local one stores number 0 and match 0
   others-step : (next : List ℕ)
       → ((k : ℕ) → k ≢ 6163 + suc x → k ≢ 8212 + suc x → k ≢ 10261 + suc x → k ≢ 12310 + suc x
       → ((p q d : ℕ) → sends t p q d ≡ true → 0 < d → d ≤ x → k ≢ 12310 + d)
       → getD next k 0 ≡ getD full k 0)
-      → ((z : ℕ) → checkpoints t z (suc x) ≡ true → (getD next (6163 + suc x) 0 ≡ 0) × (getD next (12310 + suc x) 0 ≡ 0)) → Others t (suc x) before next
+      → (kind t (suc x) ≡ other → (getD next (6163 + suc x) 0 ≡ 0) × (getD next (12310 + suc x) 0 ≡ 0)) → Others t (suc x) before next
   others-step next off new = record {
-    number-checkpoint = λ z e s u h. by-event t x full next F few l (λ e. checkpoints t z e ≡ true → 0 < e → getD next (6163 + e) 0 ≡ 0) e h
+    number-other = λ e s u h. by-event t x full next F few l (λ e. kind t e ≡ other → 0 < e → getD next (6163 + e) 0 ≡ 0) e h
         (λ g s u. off (6163 + e) (λ i. omega arith) (λ i. omega arith) (λ i. omega arith) (λ i. omega arith) (λ p q d r v w i. omega arith)
-        ∙ O .number-checkpoint z e s u g)
-        (λ s u. (new z s) .0) s u;
-    match-checkpoint = λ z e s u h. by-event t x full next F few l (λ e. checkpoints t z e ≡ true → 0 < e → getD next (12310 + e) 0 ≡ 0) e h
+        ∙ O .number-other e s u g)
+        (λ s u. (new s) .0) s u;
+    match-other = λ e s u h. by-event t x full next F few l (λ e. kind t e ≡ other → 0 < e → getD next (12310 + e) 0 ≡ 0) e h
         (λ g s u. off (12310 + e) (λ i. omega arith) (λ i. omega arith) (λ i. omega arith) (λ i. omega arith)
-        (λ p q d r v w i. send-not-checkpoint t p q z d e r s (omega arith))
-        ∙ O .match-checkpoint z e s u g)
-        (λ s u. (new z s) .1) s u;
+        (λ p q d r v w i. send-not-other t p q d e r s (omega arith))
+        ∙ O .match-other e s u g)
+        (λ s u. (new s) .1) s u;
     number-none = off 6163 (λ i. omega arith) (λ i. omega arith) (λ i. omega arith) (λ i. omega arith) (λ p q d r v w i. omega arith) ∙ O .number-none;
     after-number = λ k h m. off k (λ i. omega arith) (λ i. omega arith) (λ i. omega arith) (λ i. omega arith) (λ p q d r v w i. omega arith) ∙ O .after-number k (omega arith) m;
     after-epoch = λ k h m. off k (λ i. omega arith) (λ i. omega arith) (λ i. omega arith) (λ i. omega arith) (λ p q d r v w i. omega arith) ∙ O .after-epoch k (omega arith) m;
@@ -75,13 +74,13 @@ module _ (t : Trace) (x : ℕ) (before full : List ℕ) (O : Others t x before f
     send-others a b v e =
         others-step (sendFull full work (suc x) a b)
         (λ k m n o p _. stored-other full (suc x) _ _ _ 0 (F .whole) (omega arith) k m n o p)
-        (λ z s. absurd (send-not-checkpoint t a b z (suc x) (suc x) (send-here t x a b v e) s refl))
+        (λ s. absurd (send-not-other t a b (suc x) (suc x) (send-here t x a b v e) s refl))
 
-    pub save-others : (a : ℕ) → eventAt t (suc x) ≡ Save a → Others t (suc x) before (saveFull full work (suc x) a)
-    save-others a e =
-        others-step (saveFull full work (suc x) a)
+    pub local-others : (a u : ℕ) → Others t (suc x) before (localFull full work (suc x) a u)
+    local-others a u =
+        others-step (localFull full work (suc x) a u)
         (λ k m n o p _. stored-other full (suc x) 0 _ _ 0 (F .whole) (omega arith) k m n o p)
-        (λ z s. (stored-number full (suc x) 0 _ _ 0 (F .whole) (omega arith), stored-match full (suc x) 0 _ _ 0 (F .whole) (omega arith)))
+        (λ s. (stored-number full (suc x) 0 _ _ 0 (F .whole) (omega arith), stored-match full (suc x) 0 _ _ 0 (F .whole) (omega arith)))
 
     -- the match of the send d whose message is received
     pub recv-others : (A : Valid t) (W : Working t x work) (a b : ℕ) → eventAt t (suc x) ≡ Recv a b → a < 64 → b < 64
@@ -95,33 +94,39 @@ module _ (t : Trace) (x : ℕ) (before full : List ℕ) (O : Others t x before f
         (λ k m n o p s. getD-set-other (set mid (12310 + d) (suc x)) (6163 + suc x) k flag 0 m
         ∙ getD-set-other mid (12310 + d) k (suc x) 0 (s b a d (f .sends-it) (f .later) (f .by))
         ∙ placed-other full (suc x) _ _ d (F .whole) (omega arith) k n o p)
-        (λ z s. absurd (recv-not-checkpoint t b a z (suc x) (suc x) (recv-here t x a b e) s refl))
+        (λ s. absurd (recv-not-other t b a (suc x) (suc x) (recv-here t x a b e) s refl))
 
 -- Two tables of a trace, filled from tables that were the same, are the same.
-module _ (t : Trace) (L : ℕ → ℕ → ℕ → Bool) (before full other : List ℕ) (C : Columns t full) (M : Flagged t L full) (O : Others t (size t) before full)
-    (D : Columns t other) (N : Flagged t L other) (P : Others t (size t) before other) where
+module _ (t : Trace) (L : ℕ → ℕ → ℕ → Bool) (before full twin : List ℕ) (C : Columns t full) (M : Flagged t L full) (O : Others t (size t) before full)
+    (D : Columns t twin) (N : Flagged t L twin) (P : Others t (size t) before twin) where
   abbrev Same : ℕ → Type 0
-  Same k = getD full k 0 ≡ getD other k 0
+  Same k = getD full k 0 ≡ getD twin k 0
 
-  save-here : (x a : ℕ) → eventAt t (suc x) ≡ Save a → checkpoints t a (suc x) ≡ true
-  unfolding checkpoints
-  save-here x a e = rw e (eqb-self a)
+  kind-of : (x : ℕ) (v : Event) → eventAt t (suc x) ≡ v → kind t (suc x) ≡ kindOf v
+  unfolding kind
+  kind-of x v e = ap kindOf e
+
+  number-0 : (x : ℕ) → suc x ≤ size t → kind t (suc x) ≡ other → Same (6163 + suc x)
+  number-0 x h s = O .number-other (suc x) s (omega arith) h ∙ sym (P .number-other (suc x) s (omega arith) h)
+
+  match-0 : (x : ℕ) → suc x ≤ size t → kind t (suc x) ≡ other → Same (12310 + suc x)
+  match-0 x h s = O .match-other (suc x) s (omega arith) h ∙ sym (P .match-other (suc x) s (omega arith) h)
 
   same-number : (x : ℕ) → suc x ≤ size t → (v : Event) → eventAt t (suc x) ≡ v → Same (6163 + suc x)
   same-number x h (Send a b v) e =
       let s = send-here t x a b v e in C .number-send a b (suc x) s (omega arith) h ∙ sym (D .number-send a b (suc x) s (omega arith) h)
   same-number x h (Recv a b) e =
       let s = recv-here t x a b e in M b a (suc x) s (omega arith) h ∙ sym (N b a (suc x) s (omega arith) h)
-  same-number x h (Save a) e =
-      let s = save-here x a e in O .number-checkpoint a (suc x) s (omega arith) h ∙ sym (P .number-checkpoint a (suc x) s (omega arith) h)
+  same-number x h (Save a) e = number-0 x h (kind-of x _ e)
+  same-number x h (Done a) e = number-0 x h (kind-of x _ e)
 
   same-match : (x : ℕ) → suc x ≤ size t → (v : Event) → eventAt t (suc x) ≡ v → Same (12310 + suc x)
   same-match x h (Send a b v) e =
       let s = send-here t x a b v e in C .match-send a b (suc x) s (omega arith) h ∙ sym (D .match-send a b (suc x) s (omega arith) h)
   same-match x h (Recv a b) e =
       let s = recv-here t x a b e in C .match-recv b a (suc x) s (omega arith) h ∙ sym (D .match-recv b a (suc x) s (omega arith) h)
-  same-match x h (Save a) e =
-      let s = save-here x a e in O .match-checkpoint a (suc x) s (omega arith) h ∙ sym (P .match-checkpoint a (suc x) s (omega arith) h)
+  same-match x h (Save a) e = match-0 x h (kind-of x _ e)
+  same-match x h (Done a) e = match-0 x h (kind-of x _ e)
 
   -- a word of a column up to the last event, or one after it
   in-column : (base k : ℕ) → base < k → ((x : ℕ) → suc x ≤ size t → Same (base + suc x)) → (base + size t < k → Same k) → Same k
@@ -141,5 +146,5 @@ module _ (t : Trace) (L : ℕ → ℕ → ℕ → Bool) (before full other : Lis
       (λ g. in-column 8212 k h (λ x l. C .epoch (suc x) (omega arith) l ∙ sym (D .epoch (suc x) (omega arith) l)) (λ q. O .after-epoch k q g ∙ sym (P .after-epoch k q g))))
       (λ g. in-column 6163 k (omega (arith, m)) (λ x l. same-number x l _ refl) (λ q. O .after-number k q g ∙ sym (P .after-number k q g)))))
 
-  pub same-table : full ≡ other
-  same-table = ext-getD 0 full other (C .whole ∙ sym (D .whole)) (λ k h. same-word k)
+  pub same-table : full ≡ twin
+  same-table = ext-getD 0 full twin (C .whole ∙ sym (D .whole)) (λ k h. same-word k)

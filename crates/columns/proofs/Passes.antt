@@ -10,7 +10,7 @@ use borrow.Author.Tests.{le-leb, lt-leb, le-ltb}
 use Rattle.words.proofs.Area.{zero-word}
 use Rattle.words.proofs.Cases.{by-eq, by-lt}
 use Rattle.trace.specs.declared.Event.{Event}
-use Rattle.trace.specs.declared.Event.the-variants.{Send, Recv, Save}
+use Rattle.trace.specs.declared.Event.the-variants.{Send, Recv, Save, Done}
 use Rattle.trace.specs.Trace.{Trace}
 use Rattle.trace.specs.Table.{tableWord}
 use Rattle.theory.specs.Lists.{cnt, place}
@@ -20,12 +20,12 @@ use Rattle.theory.proofs.Base.{place-le, place-there, cnt-le, cnt-bound}
 use Rattle.theory.proofs.Events.{sends-is, partner}
 use Rattle.theory.proofs.WellFormed.{Valid}
 use Rattle.columns.specs.Inner.Columns.{fullWords, Columns, Others}
-use Rattle.columns.specs.Inner.Filling.{noteFull, noteWork, Notable, Filled, Working}
-use Rattle.columns.proofs.Moves.{send-here, send-at, recv-here, recv-at, save-at}
+use Rattle.columns.specs.Inner.Filling.{noteFull, noteWork, LocalNotable, Notable, Filled, Working}
+use Rattle.columns.proofs.Moves.{send-here, send-at, recv-here, recv-at, Local, save-local, done-local, local-at}
 use Rattle.columns.proofs.Bounds.{sendOf-most, phase-most, epoch-most}
-use Rattle.columns.proofs.Columns.{no-message, oldest-is, oldest-found, send-filled, recv-filled, save-filled, latest-number}
-use Rattle.columns.proofs.Others.{others-from, send-others, recv-others, save-others}
-use Rattle.columns.proofs.Work.{send-working, recv-working, save-working}
+use Rattle.columns.proofs.Columns.{no-message, oldest-is, oldest-found, send-filled, recv-filled, local-filled, latest-number}
+use Rattle.columns.proofs.Others.{others-from, send-others, recv-others, local-others}
+use Rattle.columns.proofs.Work.{send-working, recv-working, local-working}
 
 -- ---- Before the first event
 
@@ -88,6 +88,18 @@ module _ (t : Trace) (A : Valid t) (few : size t ≤ 2048) (x : ℕ) (l : suc x 
   unfolding sent
   sent-most p q = cnt-bound (sends t p q) x
 
+  local-notable : (a : ℕ) → at t (suc x) ≡ a → LocalNotable work a
+  local-notable a e =
+      let la = process-few a e in
+      record {
+        at-lt = la;
+        epoch-few = rw (W .epochs a la) (omega (arith, epoch-most t A a x (omega arith)));
+        phase-few = rw (W .phases a la) (omega (arith, phase-most t A a x (omega arith)));
+      }
+
+  local-few : (a u : ℕ) → Local t x a u → a < 64
+  local-few a u v = process-few a (local-at t x a u v)
+
   pub notable : (v : Event) → eventAt t (suc x) ≡ v → Notable full work v
   notable (Send a b v) e =
       let la = process-few a (send-at t x a b v e) in
@@ -111,13 +123,8 @@ module _ (t : Trace) (A : Valid t) (few : size t ≤ 2048) (x : ℕ) (l : suc x 
         oldest-most = rw d (omega (arith, f .by));
         phase-few = rw (d, F .phase m (f .later) (f .by)) (omega (arith, f .by, phase-most t A (at t m) m (omega (arith, f .by))));
       }
-  notable (Save a) e =
-      let la = process-few a (save-at t x a e) in
-      record {
-        at-lt = la;
-        epoch-few = rw (W .epochs a la) (omega (arith, epoch-most t A a x (omega arith)));
-        phase-few = rw (W .phases a la) (omega (arith, phase-most t A a x (omega arith)));
-      }
+  notable (Save a) e = local-notable a (local-at t x a 1 (save-local t x a e))
+  notable (Done a) e = local-notable a (local-at t x a 0 (done-local t x a e))
 
   pub next-filled : (v : Event) → eventAt t (suc x) ≡ v → Filled t (suc x) (noteFull full work (suc x) v)
   next-filled (Send a b v) e = send-filled t x full F A few l work W a b v e (process-few a (send-at t x a b v e)) (receiver-few a b v e)
@@ -125,7 +132,8 @@ module _ (t : Trace) (A : Valid t) (few : size t ≤ 2048) (x : ℕ) (l : suc x 
       let la = process-few a (recv-at t x a b e) in
       let lb = sender-few a b e in
       rw (oldest-is t x full F A few l work W a b e la lb) (recv-filled t x full F A few l work W a b e la lb)
-  next-filled (Save a) e = save-filled t x full F A few l work W a e (process-few a (save-at t x a e))
+  next-filled (Save a) e = let v = save-local t x a e in local-filled t x full F A few l work W a 1 v (local-few a 1 v)
+  next-filled (Done a) e = let v = done-local t x a e in local-filled t x full F A few l work W a 0 v (local-few a 0 v)
 
   pub next-others : (before : List ℕ) → Others t x before full → (v : Event) → eventAt t (suc x) ≡ v → Others t (suc x) before (noteFull full work (suc x) v)
   next-others before O (Send a b v) e = send-others t x before full O F few l work a b v e
@@ -133,7 +141,8 @@ module _ (t : Trace) (A : Valid t) (few : size t ≤ 2048) (x : ℕ) (l : suc x 
       let la = process-few a (recv-at t x a b e) in
       let lb = sender-few a b e in
       rw (oldest-is t x full F A few l work W a b e la lb) (recv-others t x before full O F few l work A W a b e la lb)
-  next-others before O (Save a) e = save-others t x before full O F few l work a e
+  next-others before O (Save a) e = local-others t x before full O F few l work a 1
+  next-others before O (Done a) e = local-others t x before full O F few l work a 0
 
   pub next-working : (v : Event) → eventAt t (suc x) ≡ v → Working t (suc x) (noteWork full work (suc x) v)
   next-working (Send a b v) e = send-working t x work W A few l a b v e (process-few a (send-at t x a b v e)) (receiver-few a b v e)
@@ -141,7 +150,8 @@ module _ (t : Trace) (A : Valid t) (few : size t ≤ 2048) (x : ℕ) (l : suc x 
       let la = process-few a (recv-at t x a b e) in
       let lb = sender-few a b e in
       rw (oldest-is t x full F A few l work W a b e la lb) (recv-working t x work W A few l full F a b e la lb)
-  next-working (Save a) e = save-working t x work W A few l a e (process-few a (save-at t x a e))
+  next-working (Save a) e = let v = save-local t x a e in local-working t x work W A few l a 1 v (local-few a 1 v)
+  next-working (Done a) e = let v = done-local t x a e in local-working t x work W A few l a 0 v (local-few a 0 v)
 
 -- ---- After the last event
 

@@ -1,4 +1,4 @@
--- Each kind of event keeps the working words right: `send-working`, `recv-working`, `save-working`. From how counts,
+-- Each kind of event keeps the working words right: `send-working`, `recv-working`, `local-working`. From how counts,
 -- epochs and phases move.
 use Prim.Native.Nat.{ℕ, suc, _+_, _*_, _<_, _≤_}
 use mathlib.Core.Path.{_≡_, sym, ap, subst, _∙_}
@@ -16,8 +16,8 @@ use Rattle.trace.specs.Trace.{Trace}
 use Rattle.theory.specs.Events.{size, eventAt, at, sends, sent, rcvd, sendOf}
 use Rattle.theory.proofs.WellFormed.{Valid}
 use Rattle.theory.proofs.Events.{sendOf-at, sent-le, sent-more, sent-same, rcvd-same}
-use Rattle.columns.specs.Inner.Filling.{orNew, sendWork, recvPhase, recvWork, saveWork, Filled, Working}
-use Rattle.columns.proofs.Moves.{send-here, send-else, send-recvs, send-epoch, send-phase, recv-else, recv-sends, recv-epoch, recv-phase-other, save-sends, save-recvs, save-epoch, save-epoch-other, save-phase, save-phase-other}
+use Rattle.columns.specs.Inner.Filling.{orNew, sendWork, recvPhase, recvWork, localWork, Filled, Working}
+use Rattle.columns.proofs.Moves.{Local, send-here, send-else, send-recvs, send-epoch, send-phase, recv-else, recv-sends, recv-epoch, recv-phase-other, local-sends, local-recvs, local-epoch, local-epoch-other, local-phase, local-phase-other}
 use Rattle.columns.proofs.Columns.{one-channel, no-message, found, oldest-found, phase-is}
 
 -- this channel, or another
@@ -210,39 +210,39 @@ module _ (t : Trace) (x : ℕ) (work : List ℕ) (W : Working t x work) (A : Val
           fresh = λ i h. kept (8320 + i) (λ y. omega arith) (λ y. omega arith) ∙ W .fresh i (omega arith);
         }
 
-  -- ---- a checkpoint of a
-  module _ (a : ℕ) (e : eventAt t (suc x) ≡ Save a) (la : a < 64) where
+  -- ---- a local event of a
+  module _ (a u : ℕ) (v : Local t x a u) (la : a < 64) where
     s₁ : List ℕ
-    s₁ = set work a (getD work a 0 + 1)
+    s₁ = set work a (getD work a 0 + u)
 
     s₁-whole : length s₁ ≡ 10369
     unfolding s₁
     s₁-whole = simp length-set (W .whole)
 
-    same : (k : ℕ) → k ≢ a → k ≢ 64 + a → getD (saveWork work a) k 0 ≡ getD work k 0
+    same : (k : ℕ) → k ≢ a → k ≢ 64 + a → getD (localWork work a u) k 0 ≡ getD work k 0
     unfolding s₁
-    same k n m = getD-set-other s₁ (64 + a) k (getD work (64 + a) 0 + 1) 0 m ∙ getD-set-other work a k (getD work a 0 + 1) 0 n
+    same k n m = getD-set-other s₁ (64 + a) k (getD work (64 + a) 0 + u) 0 m ∙ getD-set-other work a k (getD work a 0 + u) 0 n
 
-    raised-epoch : getD (saveWork work a) a 0 ≡ getD work a 0 + 1
+    raised-epoch : getD (localWork work a u) a 0 ≡ getD work a 0 + u
     unfolding s₁
-    raised-epoch = getD-set-other s₁ (64 + a) a (getD work (64 + a) 0 + 1) 0 (λ q. omega arith) ∙ getD-set-same work a (getD work a 0 + 1) 0 (omega (arith, W .whole))
+    raised-epoch = getD-set-other s₁ (64 + a) a (getD work (64 + a) 0 + u) 0 (λ q. omega arith) ∙ getD-set-same work a (getD work a 0 + u) 0 (omega (arith, W .whole))
 
-    raised-phase : getD (saveWork work a) (64 + a) 0 ≡ getD work (64 + a) 0 + 1
+    raised-phase : getD (localWork work a u) (64 + a) 0 ≡ getD work (64 + a) 0 + u
     unfolding s₁
-    raised-phase = getD-set-same s₁ (64 + a) (getD work (64 + a) 0 + 1) 0 (omega (arith, s₁-whole))
+    raised-phase = getD-set-same s₁ (64 + a) (getD work (64 + a) 0 + u) 0 (omega (arith, s₁-whole))
 
-    pub save-working : Working t (suc x) (saveWork work a)
-    save-working =
-        let none = save-sends t x a e in
-        let no-recv = save-recvs t x a e in
+    pub local-working : Working t (suc x) (localWork work a u)
+    local-working =
+        let none = local-sends t x a u v in
+        let no-recv = local-recvs t x a u v in
         record {
           whole = simp length-set (W .whole);
           epochs = λ z lz. by-eq z a
-              (λ g. rw g (omega (arith, raised-epoch, W .epochs a la, save-epoch t x a e)))
-              (λ n. same z n (λ q. omega arith) ∙ W .epochs z lz ∙ sym (save-epoch-other t x a e z n));
+              (λ g. rw g (omega (arith, raised-epoch, W .epochs a la, local-epoch t x a u v)))
+              (λ n. same z n (λ q. omega arith) ∙ W .epochs z lz ∙ sym (local-epoch-other t x a u v z n));
           phases = λ z lz. by-eq z a
-              (λ g. rw g (omega (arith, raised-phase, W .phases a la, save-phase t x a e)))
-              (λ n. same (64 + z) (λ q. omega arith) (λ q. n (omega arith)) ∙ W .phases z lz ∙ sym (save-phase-other t x a e z n));
+              (λ g. rw g (omega (arith, raised-phase, W .phases a la, local-phase t x a u v)))
+              (λ n. same (64 + z) (λ q. omega arith) (λ q. n (omega arith)) ∙ W .phases z lz ∙ sym (local-phase-other t x a u v z n));
           oldest = λ p q lp lq. same (128 + (64 * p + q)) (λ i. omega arith) (λ i. omega arith) ∙ W .oldest p q lp lq
               ∙ rw (sent-same t x p q (none p q), rcvd-same t x p q (no-recv p q));
           latest = λ p q lp lq. same (4224 + (64 * p + q)) (λ i. omega arith) (λ i. omega arith) ∙ W .latest p q lp lq ∙ rw (sent-same t x p q (none p q));

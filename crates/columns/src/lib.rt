@@ -7,11 +7,11 @@ ghost use mathlib.Core.Path.{_≡_};
 ghost use Prim.Native.Nat.{max, _≤_, _<_};
 ghost use lib.Dec.{ltb};
 ghost use lib.ListN.{length, getD};
-ghost use Rattle.trace.specs.declared.Event.the-variants.{Send, Recv, Save};
+ghost use Rattle.trace.specs.declared.Event.the-variants.{Send, Recv};
 ghost use Rattle.theory.specs.Epochs.{joined};
 ghost use Rattle.columns.specs.Inner.Columns.{fullWords};
 ghost use Rattle.columns.specs.Inner.Full.{procsW, matchW};
-ghost use Rattle.columns.specs.Inner.Filling.{placed, stored, orNew, sendFull, sendWork, recvFull, recvWork, saveFull, saveWork, noteFull, noteWork, oldestOf, Notable, Storable};
+ghost use Rattle.columns.specs.Inner.Filling.{placed, stored, orNew, sendFull, sendWork, recvFull, recvWork, localFull, localWork, noteFull, noteWork, oldestOf, LocalNotable, Notable, Storable};
 use trace::Event;
 
 // Where the columns of the full table begin: the word of event e is at the base + e.
@@ -161,14 +161,14 @@ fn note_recv(full: &mut [u32], work: &mut [u16], e: usize, a: usize, b: usize)
     work[OLDEST + c] = next;
 }
 
-// Event e, a checkpoint of a.
-fn note_save(full: &mut [u32], work: &mut [u16], e: usize, a: usize)
-    requires { ⌜ Storable (now full) (now work) e × Notable (now full) (now work) (Save a) ⌝ }
-    ensures columns { λ _. ⌜ now (full .exit) ≡ saveFull (now (full .entry)) (now (work .entry)) e a ⌝ }
-    ensures working { λ _. ⌜ now (work .exit) ≡ saveWork (now (work .entry)) a ⌝ }
+// Event e, a local one of a: its epoch and its phase rise by `up`.
+fn note_local(full: &mut [u32], work: &mut [u16], e: usize, a: usize, up: u16)
+    requires { ⌜ Storable (now full) (now work) e × LocalNotable (now work) a × (up ≤ 1) ⌝ }
+    ensures columns { λ _. ⌜ now (full .exit) ≡ localFull (now (full .entry)) (now (work .entry)) e a up ⌝ }
+    ensures working { λ _. ⌜ now (work .exit) ≡ localWork (now (work .entry)) a up ⌝ }
 {
-    let epoch = work[a] + 1;
-    let phase = work[PHASES + a] + 1;
+    let epoch = work[a] + up;
+    let phase = work[PHASES + a] + up;
     store(full, e, 0, epoch as u32, phase as u32, 0);
     work[a] = epoch;
     work[PHASES + a] = phase;
@@ -183,6 +183,7 @@ pub fn note(full: &mut [u32], work: &mut [u16], e: usize, event: Event)
     match event {
         Event::Send { at, to, val: _ } => note_send(full, work, e, at as usize, to as usize),
         Event::Recv { at, from } => note_recv(full, work, e, at as usize, from as usize),
-        Event::Save { at } => note_save(full, work, e, at as usize),
+        Event::Save { at } => note_local(full, work, e, at as usize, 1),
+        Event::Done { at } => note_local(full, work, e, at as usize, 0),
     }
 }

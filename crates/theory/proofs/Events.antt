@@ -80,17 +80,17 @@ module _ (t : Trace) where
   pub send-not-recv : (p q d e : ℕ) → sends t p q d ≡ true → recvs t p q e ≡ true → d ≢ e
   send-not-recv p q d e a b = apart d e (send q) (recv p) (sends-is p q d a .1) (recvs-is p q e b .1) (λ i. let z : _≡_ {A = ℕ} 0 1 = cc in omega arith)
 
-  pub send-not-checkpoint : (p q z d e : ℕ) → sends t p q d ≡ true → checkpoints t z e ≡ true → d ≢ e
-  send-not-checkpoint p q z d e a b = apart d e (send q) other (sends-is p q d a .1) (checkpoints-is z e b .1) (λ i. let z : _≡_ {A = ℕ} 0 1 = cc in omega arith)
+  pub send-not-other : (p q d e : ℕ) → sends t p q d ≡ true → kind t e ≡ other → d ≢ e
+  send-not-other p q d e a b = apart d e (send q) other (sends-is p q d a .1) b (λ i. let z : _≡_ {A = ℕ} 0 1 = cc in omega arith)
 
-  pub recv-not-checkpoint : (p q z d e : ℕ) → recvs t p q d ≡ true → checkpoints t z e ≡ true → d ≢ e
-  recv-not-checkpoint p q z d e a b = apart d e (recv p) other (recvs-is p q d a .1) (checkpoints-is z e b .1) (λ i. let z : _≡_ {A = ℕ} 0 1 = cc in omega arith)
+  pub recv-not-other : (p q d e : ℕ) → recvs t p q d ≡ true → kind t e ≡ other → d ≢ e
+  recv-not-other p q d e a b = apart d e (recv p) other (recvs-is p q d a .1) b (λ i. let z : _≡_ {A = ℕ} 0 1 = cc in omega arith)
 
   pub send-no-checkpoint : (p q d : ℕ) → sends t p q d ≡ true → checkpoints t p d ≡ false
-  send-no-checkpoint p q d h = by (checkpoints t p d) (λ u. absurd (send-not-checkpoint p q p d d h u refl)) (λ u. u)
+  send-no-checkpoint p q d h = by (checkpoints t p d) (λ u. absurd (send-not-other p q d d h (checkpoints-is p d u .1) refl)) (λ u. u)
 
   pub recv-no-checkpoint : (p q e : ℕ) → recvs t p q e ≡ true → checkpoints t q e ≡ false
-  recv-no-checkpoint p q e h = by (checkpoints t q e) (λ u. absurd (recv-not-checkpoint p q q e e h u refl)) (λ u. u)
+  recv-no-checkpoint p q e h = by (checkpoints t q e) (λ u. absurd (recv-not-other p q e e h (checkpoints-is q e u .1) refl)) (λ u. u)
 
   -- ---- Messages by number
 

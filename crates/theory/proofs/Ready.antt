@@ -18,7 +18,7 @@ use Rattle.theory.specs.Line.{Run, sentAfter, receivedBefore, orphan, or
 use Rattle.theory.specs.Replay.{Choice, State, resends, ready, gate, step}
 use Rattle.theory.specs.Inner.Laws.{Laws}
 use Rattle.theory.proofs.Base.{by, on, both, find-has, find-below}
-use Rattle.theory.proofs.Events.{sends-is, recvs-is, sends-of, send-not-checkpoint, rcvd-le, rcvd-lt, send-of, sendOf-at}
+use Rattle.theory.proofs.Events.{sends-is, recvs-is, checkpoints-is, sends-of, send-not-other, rcvd-le, rcvd-lt, send-of, sendOf-at}
 use Rattle.theory.proofs.Classes.{NoLoss}
 use Rattle.theory.specs.Inner.Flow.{rBefore, rCut, keptb, Kept, Inv}
 use Rattle.theory.proofs.Flow.{todo-at, resends-of}
@@ -50,7 +50,7 @@ module _ (R : Run) where
         below : (x : ℕ) → checkpoints (R .trace) z x ≡ true → e ≤ x → R .phase z e < R .phase z x
         below zero r l = absurd (omega arith)
         below (suc x) r l =
-            let n : e ≢ suc x = send-not-checkpoint (R .trace) z q z e (suc x) u r in
+            let n : e ≢ suc x = send-not-other (R .trace) z q e (suc x) u (checkpoints-is (R .trace) z (suc x) r .1) in
             omega (arith, phase-le z e x (omega arith), L .phase-checkpoint z x r)
 
   module _ (L : Laws R) (N : NoLoss R) (s : State) (i : Inv R s) where

@@ -9,7 +9,7 @@ use lib.ListN.{length, getD}
 use Rattle.trace.specs.Trace.{Trace}
 use Rattle.trace.specs.Fit.{wellFormed}
 use Rattle.trace.specs.Table.{tableWord}
-use Rattle.theory.specs.Events.{size, at, sends, recvs, checkpoints, sent, rcvd, sendOf, recvOf}
+use Rattle.theory.specs.Events.{other, size, at, kind, sends, recvs, sent, rcvd, sendOf, recvOf}
 use Rattle.theory.specs.Epochs.{epochAt, phaseAt, ruleOf}
 
 -- the words before event 1 of each column
@@ -59,9 +59,9 @@ Flagged t L full = (p q e : ℕ) → recvs t p q e ≡ true → 0 < e → e ≤ 
 -- The words that `Columns` and `Flagged` do not name, where the columns of the first x events are filled in a table
 -- that was `before`. With x = size t the three together name every word (`one-table` of crate protocol).
 pub record Others (t : Trace) (x : ℕ) (before after : List ℕ) : Type 0 where
-  -- a checkpoint has no message
-  pub number-checkpoint : (z e : ℕ) → checkpoints t z e ≡ true → 0 < e → e ≤ x → getD after (numberBase + e) 0 ≡ 0
-  pub match-checkpoint : (z e : ℕ) → checkpoints t z e ≡ true → 0 < e → e ≤ x → getD after (matchBase + e) 0 ≡ 0
+  -- a checkpoint, or the end of one, has no message
+  pub number-other : (e : ℕ) → kind t e ≡ other → 0 < e → e ≤ x → getD after (numberBase + e) 0 ≡ 0
+  pub match-other : (e : ℕ) → kind t e ≡ other → 0 < e → e ≤ x → getD after (matchBase + e) 0 ≡ 0
   -- there is no event 0; its word is 0, and a channel's first message gets one more
   pub number-none : getD after numberBase 0 ≡ 0
   -- the others are as they were: in each column those after event x, up to the next column's event 0

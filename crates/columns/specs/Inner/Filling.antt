@@ -7,7 +7,7 @@ use mathlib.Core.List.{List}
 use lib.Dec.{ltb, leb, eqb}
 use lib.ListN.{length, getD, set}
 use Rattle.trace.specs.declared.Event.{Event}
-use Rattle.trace.specs.declared.Event.the-variants.{Send, Recv, Save}
+use Rattle.trace.specs.declared.Event.the-variants.{Send, Recv, Save, Done}
 use Rattle.trace.specs.Trace.{Trace}
 use Rattle.trace.specs.Table.{tableWord}
 use Rattle.theory.specs.Events.{at, sends, recvs, sent, rcvd, sendOf, recvOf}
@@ -70,12 +70,12 @@ recvFull full work e d a =
 abbrev pub recvWork : List ℕ → List ℕ → ℕ → ℕ → ℕ → List ℕ
 recvWork full work d a b = set (set work (phasesBase + a) (recvPhase full work d a)) (oldestBase + (64 * b + a)) (getD work (nextBase + d) 0)
 
--- event e, a checkpoint of a: both rise
-abbrev pub saveFull : List ℕ → List ℕ → ℕ → ℕ → List ℕ
-saveFull full work e a = stored full e 0 (getD work a 0 + 1) (getD work (phasesBase + a) 0 + 1) 0
+-- event e, a local one of a: epoch and phase rise by u, 1 at a checkpoint, 0 at the end of one
+abbrev pub localFull : List ℕ → List ℕ → ℕ → ℕ → ℕ → List ℕ
+localFull full work e a u = stored full e 0 (getD work a 0 + u) (getD work (phasesBase + a) 0 + u) 0
 
-abbrev pub saveWork : List ℕ → ℕ → List ℕ
-saveWork work a = set (set work a (getD work a 0 + 1)) (phasesBase + a) (getD work (phasesBase + a) 0 + 1)
+abbrev pub localWork : List ℕ → ℕ → ℕ → List ℕ
+localWork work a u = set (set work a (getD work a 0 + u)) (phasesBase + a) (getD work (phasesBase + a) 0 + u)
 
 abbrev pub oldestOf : List ℕ → ℕ → ℕ → ℕ
 oldestOf work a b = getD work (oldestBase + (64 * b + a)) 0
@@ -83,12 +83,14 @@ oldestOf work a b = getD work (oldestBase + (64 * b + a)) 0
 abbrev pub noteFull : List ℕ → List ℕ → ℕ → Event → List ℕ
 noteFull full work e (Send a b v) = sendFull full work e a b
 noteFull full work e (Recv a b) = recvFull full work e (oldestOf work a b) a
-noteFull full work e (Save a) = saveFull full work e a
+noteFull full work e (Save a) = localFull full work e a 1
+noteFull full work e (Done a) = localFull full work e a 0
 
 abbrev pub noteWork : List ℕ → List ℕ → ℕ → Event → List ℕ
 noteWork full work e (Send a b v) = sendWork work e a b
 noteWork full work e (Recv a b) = recvWork full work (oldestOf work a b) a b
-noteWork full work e (Save a) = saveWork work a
+noteWork full work e (Save a) = localWork work a 1
+noteWork full work e (Done a) = localWork work a 0
 
 -- the full table after x events
 pub record Filled (t : Trace) (x : ℕ) (full : List ℕ) : Type 0 where
@@ -131,7 +133,7 @@ pub record RecvNotable (full work : List ℕ) (a b : ℕ) : Type 0 where
   pub oldest-most : oldestOf work a b ≤ 2048
   pub phase-few : getD full (phaseBase + oldestOf work a b) 0 < 65535
 
-pub record SaveNotable (work : List ℕ) (a : ℕ) : Type 0 where
+pub record LocalNotable (work : List ℕ) (a : ℕ) : Type 0 where
   pub at-lt : a < 64
   pub epoch-few : getD work a 0 < 65535
   pub phase-few : getD work (phasesBase + a) 0 < 65535
@@ -139,7 +141,8 @@ pub record SaveNotable (work : List ℕ) (a : ℕ) : Type 0 where
 abbrev pub Notable : List ℕ → List ℕ → Event → Type 0
 Notable full work (Send a b v) = SendNotable full work a b
 Notable full work (Recv a b) = RecvNotable full work a b
-Notable full work (Save a) = SaveNotable work a
+Notable full work (Save a) = LocalNotable work a
+Notable full work (Done a) = LocalNotable work a
 
 -- both tables have their sizes, and the event its place in them
 pub record Storable (full work : List ℕ) (e : ℕ) : Type 0 where
