@@ -18,7 +18,7 @@ use Rattle.trace.specs.Trace.{Trace, valueOf}
 use Rattle.trace.specs.Fit.{eventFault, valueFits, allFit, wellFormed}
 use Rattle.trace.specs.Table.{wordOf, valueWord}
 use Rattle.trace.proofs.Places.{column-at, word-procs, word-count, word-event, word-value, word-at, word-peer, word-kind}
-use Rattle.theory.specs.Events.{send, recv, other, size, eventAt, at, kind, sends, recvs, sent, rcvd, sendOf, recvOf, value}
+use Rattle.theory.specs.Events.{send, recv, other, size, eventAt, at, kind, sends, recvs, finishes, sent, rcvd, sendOf, recvOf, value}
 use Rattle.theory.specs.Epochs.{epochAt, phaseAt, ruleOf}
 use Rattle.theory.proofs.Base.{place-le, place-there}
 use Rattle.theory.proofs.Events.{sends-is, recvs-is, sends-of, recvs-of, sendOf-at, partner}
@@ -178,7 +178,17 @@ module _ (t : Trace) (full : List ℕ) (G : Tabled t full) where
     pub kind-is : kind t e ≡ kindBy (kindW full e) (peerW full e)
     kind-is = (told (eventAt t e) refl) .1
 
-    -- kind 1 is a send, kind 2 a receive
+    ended : (z : ℕ) (v : Event) → eventAt t e ≡ v → finishes t z e ≡ (eqb (kindW full e) 0 && eqb z (atW full e))
+    unfolding finishes
+    ended z (Send y q v) h = rw (h, of-send y q v h .0)
+    ended z (Recv y p) h = rw (h, of-recv y p h .0)
+    ended z (Save y) h = rw (h, of-save y h .0)
+    ended z (Done y) h = let w = of-done y h in rw (h, w .0, w .1)
+
+    -- kind 0 is the end of a checkpoint, kind 1 a send, kind 2 a receive
+    pub finishes-is : (z : ℕ) → finishes t z e ≡ (eqb (kindW full e) 0 && eqb z (atW full e))
+    finishes-is z = ended z (eventAt t e) refl
+
     pub kind-send : kindW full e ≡ 1 → sends t (atW full e) (peerW full e) e ≡ true
     unfolding kindBy
     kind-send k = sends-of t (atW full e) (peerW full e) e (sym at-is) (kind-is ∙ rw k)

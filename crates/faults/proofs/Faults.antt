@@ -8,24 +8,20 @@ use native.Mathlib.Numerals.{add-one}
 use lib.ListN.{length, getD}
 use lib.Dec.{leb, ltb, eqb}
 use borrow.Author.Tests.{lt-ltb, le-ltb, le-leb, lt-leb, eq-eqb, ne-eqb}
-use Rattle.words.proofs.Area.{getD-words}
 use Rattle.trace.specs.Trace.{Trace}
 use Rattle.theory.specs.Lists.{all-below}
 use Rattle.theory.specs.Events.{size}
-use Rattle.theory.specs.Epochs.{ruleOf}
-use Rattle.theory.specs.Line.{inSet, may, current, usableAt}
+use Rattle.theory.specs.Line.{inSet, may, usableAt}
 use Rattle.theory.specs.Refusals.{failureFault, permits, numbersFault}
 use Rattle.theory.proofs.Base.{all-same}
 use Rattle.theory.proofs.Refusals.{set-shifted}
-use Rattle.columns.specs.Inner.Columns.{epochBase, Tabled}
+use Rattle.columns.specs.Inner.Columns.{Tabled}
 use Rattle.columns.specs.Inner.Full.{procsW, eventsW}
-use Rattle.positions.specs.Inner.Positions.{NewestRanged, afterW}
-use Rattle.positions.proofs.Newest.{epochs-made}
-use Rattle.recovery_line.specs.Given.{each}
-use Rattle.faults.specs.Inner.Permitted.{reachedW, mayStayW, mayW, Judgeable}
-use Rattle.columns.proofs.Full.{fit, few, procs-is, size-is}
+use Rattle.positions.specs.Inner.Positions.{Finished}
+use Rattle.faults.specs.Inner.Permitted.{usableW, mayStayW, mayW}
+use Rattle.columns.proofs.Full.{fit, procs-is, size-is}
 
--- ---- `names_beyond`, `has_reached`, `may_stay`, `may_hold`
+-- ---- `names_beyond`, `can_restart`, `may_stay`, `may_hold`
 
 pub beyond-none : (set count : ℕ) → count ≡ 64 → set < 18446744073709551616 → false ≡ leb (2 ^ count) set
 beyond-none set count e h = rw e (sym (lt-leb (2 ^ 64) set h))
@@ -33,11 +29,11 @@ beyond-none set count e h = rw e (sym (lt-leb (2 ^ 64) set h))
 pub beyond-some : (set count : ℕ) → not (eqb (set / 2 ^ count) 0) ≡ leb (2 ^ count) set
 beyond-some set count = sym (set-shifted count set)
 
-pub reached-none : (epoch n : ℕ) → n < 1 → false ≡ reachedW epoch n
-reached-none epoch n h = rw (lt-leb 1 n h)
+pub restart-none : (finished n : ℕ) → n < 1 → false ≡ usableW finished n
+restart-none finished n h = rw (lt-leb 1 n h)
 
-pub reached-some : (epoch n : ℕ) → 1 ≤ n → leb n epoch ≡ reachedW epoch n
-reached-some epoch n h = rw (le-leb 1 n h)
+pub restart-some : (finished n : ℕ) → 1 ≤ n → leb n finished ≡ usableW finished n
+restart-some finished n h = rw (le-leb 1 n h)
 
 pub stay-not : (failed z n : ℕ) → (n ≡ 32 → ⊥) → false ≡ mayStayW failed z n
 stay-not failed z n h = rw (ne-eqb n 32 h)
@@ -45,12 +41,12 @@ stay-not failed z n h = rw (ne-eqb n 32 h)
 pub stay-may : (failed z n : ℕ) → n ≡ 32 → not (eqb (failed / 2 ^ z % 2) 1) ≡ mayStayW failed z n
 stay-may failed z n h = rw (eq-eqb n 32 h)
 
-module _ (failed : ℕ) (epochs numbers : List ℕ) (z : ℕ) (r : Bool) (er : r ≡ reachedW (getD epochs z 0) (getD numbers z 0)) where
-  pub holds-reached : r ≡ true → true ≡ mayW failed epochs numbers z
-  holds-reached h = let a : reachedW (getD epochs z 0) (getD numbers z 0) ≡ true = sym er ∙ h in rw a
+module _ (failed : ℕ) (finished numbers : List ℕ) (z : ℕ) (r : Bool) (er : r ≡ usableW (getD finished z 0) (getD numbers z 0)) where
+  pub holds-usable : r ≡ true → true ≡ mayW failed finished numbers z
+  holds-usable h = let a : usableW (getD finished z 0) (getD numbers z 0) ≡ true = sym er ∙ h in rw a
 
-  pub holds-stay : (s : Bool) → r ≡ false → s ≡ mayStayW failed z (getD numbers z 0) → s ≡ mayW failed epochs numbers z
-  holds-stay s h e = let a : reachedW (getD epochs z 0) (getD numbers z 0) ≡ false = sym er ∙ h in rw a e
+  pub holds-stay : (s : Bool) → r ≡ false → s ≡ mayStayW failed z (getD numbers z 0) → s ≡ mayW failed finished numbers z
+  holds-stay s h e = let a : usableW (getD finished z 0) (getD numbers z 0) ≡ false = sym er ∙ h in rw a e
 
 -- ---- `permitted`
 
@@ -91,40 +87,24 @@ module _ (t : Trace) (full : List ℕ) (G : Tabled t full) (step set : ℕ) wher
 
 -- ---- `line_fault`
 
-module _ (t : Trace) (full latest : List ℕ) (cut : ℕ) (J : Judgeable t full latest cut) (set n : ℕ) (line : ℕ → ℕ) (count : ℕ) (ec : count ≡ procsW full) where
+module _ (t : Trace) (full : List ℕ) (G : Tabled t full) (cut : ℕ) (cl : cut ≤ size t) (set n : ℕ) (line : ℕ → ℕ) (count : ℕ) (ec : count ≡ procsW full) where
   count-is : count ≡ t .procs
-  count-is = ec ∙ procs-is t full (J .tabled)
+  count-is = ec ∙ procs-is t full G
 
   pub fault-count : (n ≡ count → ⊥) → 10 ≡ numbersFault t cut set n line
   fault-count h = let s : eqb n (t .procs) ≡ false = ne-eqb n (t .procs) (λ q. h (q ∙ sym count-is)) in rw s
 
-  pub ranged : (m : List ℕ) → length m ≡ 64 → NewestRanged full m latest
-  ranged m l = record {
-    whole = J .tabled .columns .whole;
-    long = l;
-    wide = J .linked .wide;
-    few = λ z h. omega (arith, J .linked .last z h .within, J .within, few t full (J .tabled));
-  }
-
-  module _ (en : n ≡ count) (epochs numbers : List ℕ) (len : length epochs ≡ 64)
-      (ee : (z : ℕ) → z < 64 → getD epochs z 0 ≡ cond (ltb z count) (afterW full epochBase (getD latest z 0)) 0)
-      (ln : (z : ℕ) → z < t .procs → line z ≡ getD numbers z 0) (r : Bool) (er : r ≡ all-below count (mayW set epochs numbers)) where
+  module _ (en : n ≡ count) (finished numbers : List ℕ) (N : Finished full cut finished)
+      (ln : (z : ℕ) → z < t .procs → line z ≡ getD numbers z 0) (r : Bool) (er : r ≡ all-below count (mayW set finished numbers)) where
     n-is : eqb n (t .procs) ≡ true
     n-is = eq-eqb n (t .procs) (en ∙ count-is)
-
-    epoch-at : (z : ℕ) → z < t .procs → getD epochs z 0 ≡ current t (ruleOf t) cut z
-    epoch-at z l =
-        let s : ltb (0 + z) (t .procs) ≡ true = lt-ltb (0 + z) (t .procs) (omega arith) in
-        let e : 0 + z ≡ z = omega arith in
-        let all = epochs-made t full (J .tabled) cut (J .within) count ec (J .earlier) latest epochs (J .linked) len ee in
-        ap (λ (x : List ℕ). getD x z 0) all ∙ getD-words (each t (current t (ruleOf t) cut)) 0 64 z (omega (arith, fit t full (J .tabled) .few))
-        ∙ rw s (ap (current t (ruleOf t) cut) e)
 
     permits-is : permits t (usableAt t cut) (inSet set) line ≡ r
     unfolding permits
     permits-is =
-        all-same (t .procs) (λ z. may (usableAt t cut) (inSet set) z (line z)) (mayW set epochs numbers) (λ z l. rw (ln z l, epoch-at z l))
-        ∙ ap (λ (c : ℕ). all-below c (mayW set epochs numbers)) (sym count-is) ∙ sym er
+        all-same (t .procs) (λ z. may (usableAt t cut) (inSet set) z (line z)) (mayW set finished numbers)
+        (λ z l. rw (ln z l, N .counts t G cl z (omega (arith, fit t full G .few))))
+        ∙ ap (λ (c : ℕ). all-below c (mayW set finished numbers)) (sym count-is) ∙ sym er
 
     pub fault-fit : r ≡ true → 0 ≡ numbersFault t cut set n line
     fault-fit q = rw (n-is, permits-is, q)

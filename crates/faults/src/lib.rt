@@ -3,15 +3,16 @@
 ghost use mathlib.Core.Path.{_≡_};
 ghost use mathlib.Core.Bool.{_&&_};
 ghost use lib.Dec.{leb};
-ghost use Prim.Native.Nat.{ℕ, _^_, _≤_, _<_};
+ghost use Prim.Native.Nat.{_^_, _≤_, _<_};
 ghost use lib.ListN.{length};
 ghost use Rattle.trace.specs.Trace.{Trace};
 ghost use Rattle.theory.specs.Lists.{all-below};
+ghost use Rattle.theory.specs.Events.{size};
 ghost use Rattle.theory.specs.Refusals.{failureFault, numbersFault};
 ghost use Rattle.columns.specs.Inner.Columns.{Tabled};
 ghost use Rattle.columns.specs.Inner.Full.{eventsW};
 ghost use Rattle.recovery_line.specs.Given.{lineIn};
-ghost use Rattle.faults.specs.Inner.Permitted.{reachedW, mayStayW, mayW, Judgeable};
+ghost use Rattle.faults.specs.Inner.Permitted.{usableW, mayStayW, mayW};
 use recovery_line::Line;
 use recovery_line::STAYS;
 
@@ -45,14 +46,14 @@ pub fn failure_fault(full: &[u32], step: u64, set: u64) -> u32
     0
 }
 
-// Has a process with this epoch at the cut reached epoch n.
-fn has_reached(epoch: u32, n: u32) -> bool
-    ensures { λ r. ⌜ r ≡ reachedW epoch n ⌝ }
+// Can a process with this latest finished epoch restart in epoch n.
+fn can_restart(finished: u32, n: u32) -> bool
+    ensures { λ r. ⌜ r ≡ usableW finished n ⌝ }
 {
     if n < 1 {
         return false;
     }
-    n <= epoch
+    n <= finished
 }
 
 // May a line hold n for process z, to stay.
@@ -67,11 +68,11 @@ fn may_stay(set: u64, z: u32, n: u32) -> bool
 }
 
 // May a line hold this number for process z.
-fn may_hold(epochs: &[u32], numbers: &[u32], set: u64, z: usize) -> bool
-    requires { ⌜ (length (now epochs) ≡ 64) × (length (now numbers) ≡ 64) × (z < 64) ⌝ }
-    ensures { λ r. ⌜ r ≡ mayW set (now (epochs .entry)) (now (numbers .entry)) z ⌝ }
+fn may_hold(finished: &[u32], numbers: &[u32], set: u64, z: usize) -> bool
+    requires { ⌜ (length (now finished) ≡ 64) × (length (now numbers) ≡ 64) × (z < 64) ⌝ }
+    ensures { λ r. ⌜ r ≡ mayW set (now (finished .entry)) (now (numbers .entry)) z ⌝ }
 {
-    if has_reached(epochs[z], numbers[z]) {
+    if can_restart(finished[z], numbers[z]) {
         return true;
     }
     may_stay(set, z as u32, numbers[z])
@@ -84,33 +85,32 @@ fn both(a: bool, b: bool) -> bool
 }
 
 // Does a line hold for each process what it may.
-fn permitted(epochs: &[u32], numbers: &[u32], count: usize, set: u64) -> bool
-    requires { ⌜ (length (now epochs) ≡ 64) × (length (now numbers) ≡ 64) × (count ≤ 64) ⌝ }
-    ensures { λ r. ⌜ r ≡ all-below count (mayW set (now (epochs .entry)) (now (numbers .entry))) ⌝ }
+fn permitted(finished: &[u32], numbers: &[u32], count: usize, set: u64) -> bool
+    requires { ⌜ (length (now finished) ≡ 64) × (length (now numbers) ≡ 64) × (count ≤ 64) ⌝ }
+    ensures { λ r. ⌜ r ≡ all-below count (mayW set (now (finished .entry)) (now (numbers .entry))) ⌝ }
 {
     let mut all = true;
     let mut z: usize = 0;
     while z < count {
-        all = both(may_hold(epochs, numbers, set, z), all);
+        all = both(may_hold(finished, numbers, set, z), all);
         z += 1;
     }
     all
 }
 
-// What is wrong with a line, where nothing is with the failure: 10, or 0. `latest` has the newest event of each process
-// up to the cut.
-pub fn line_fault(full: &[u32], latest: &[u16], set: u64, line: Line) -> u32
-    requires { ⌜ ((t : Trace) × (cut : ℕ) × Judgeable t (now full) (now latest) cut) ⌝ }
-    ensures { λ r. ⌜ ((t : Trace) (cut : ℕ) → Judgeable t (now (full .entry)) (now (latest .entry)) cut → r ≡ numbersFault t cut set (line .count) (lineIn line)) ⌝ }
+// What is wrong with a line, where nothing is with the failure: 10, or 0.
+pub fn line_fault(full: &[u32], cut: usize, set: u64, line: Line) -> u32
+    requires { ⌜ ((t : Trace) × Tabled t (now full) × (cut ≤ size t)) ⌝ }
+    ensures { λ r. ⌜ ((t : Trace) → Tabled t (now (full .entry)) → cut ≤ size t → r ≡ numbersFault t cut set (line .count) (lineIn line)) ⌝ }
 {
     let count = columns::processes(full);
     if line.count != count {
         return 10;
     }
-    let mut epochs = [0u32; 64];
-    positions::epochs_at(full, latest, count, &mut epochs);
+    let mut finished = [1u32; 64];
+    positions::finished_at(full, cut, &mut finished);
     let numbers = line.epochs;
-    if permitted(&epochs, &numbers, count, set) {
+    if permitted(&finished, &numbers, count, set) {
         0
     } else {
         10

@@ -3,7 +3,7 @@
 use mathlib.Core.Path.{_≡_, refl, sym, _∙_, ap, subst, fun-ext}
 use mathlib.Core.Bool.{Bool, true, false, _&&_, not, cond}
 use mathlib.Core.List.{List}
-use Prim.Native.Nat.{ℕ, _+_, _≤_, _<_}
+use Prim.Native.Nat.{ℕ, _+_, min, _≤_, _<_}
 use native.Mathlib.Omega.{arith}
 use lib.ListN.{length, getD, set, List·getD-eq-default}
 use lib.Seq.{getD-set-same, getD-set-other}
@@ -15,19 +15,20 @@ use Rattle.words.proofs.Cases.{by-bool, by-lt, clash, and-left, and-right}
 use Rattle.trace.specs.Trace.{Trace}
 use Rattle.theory.specs.Lists.{lastOf}
 use Rattle.theory.specs.Events.{size, at, sends, recvs, sent, rcvd, sendOf}
-use Rattle.theory.specs.Epochs.{Rule, epochAt, epochOf, loggedBy, ruleOf}
+use Rattle.theory.specs.Epochs.{Rule, epochAt, epochOf, loggedBy, ruleOf, finishedAt}
 use Rattle.theory.specs.Line.{inSet, lost, LossFree, recorded, current, Greatest, lower, highest, greatestLine, usableAt}
 use Rattle.theory.specs.Inner.Lines.{Usable, Above}
 use Rattle.theory.specs.Answers.{lineOf}
 use Rattle.theory.proofs.Base.{lastOf-le, lastOf-top}
 use Rattle.theory.proofs.Events.{sends-is, recvs-is, sendOf-at}
 use Rattle.theory.proofs.Epochs.{epochOf-at, epoch-same}
-use Rattle.theory.proofs.Lines.{Number, ByEpochs, epoch-le, number-of, lost-in, lost-epochs, epochs-lost}
-use Rattle.theory.proofs.Claims.{epoch-counts, reached-usable, lowering-begins, lowering-goes-on, lowering-ends, greatest-line, greatest-only}
+use Rattle.theory.proofs.Lines.{Number, ByEpochs, epoch-le, finished-le, number-of, lost-in, lost-epochs, epochs-lost}
+use Rattle.theory.proofs.Claims.{epoch-counts, finished-usable, lowering-begins, lowering-goes-on, lowering-ends, greatest-line, greatest-only}
 use Rattle.recovery_line.specs.declared.Line.{Line}
 use Rattle.columns.specs.Inner.Columns.{Tabled, Flagged}
 use Rattle.recovery_line.specs.Given.{each, lineIn, lineTo}
 use Rattle.columns.specs.Inner.Full.{procsW, atW, peerW, kindW, epochW, matchW, loggedW}
+use Rattle.positions.specs.Inner.Positions.{Finished}
 use Rattle.lowering.specs.Inner.Lowering.{lostE, lostW, lowerAt, Lowers, Rising, Lowered}
 use Rattle.lowering.specs.Inner.Lowering.Lowers.{same, more}
 use Rattle.columns.proofs.Full.{fit, procs-is, at-is, kind-receive, receive-kind, recv-match}
@@ -39,7 +40,8 @@ not-true : (b : Bool) → not b ≡ true → b ≡ false
 not-true true h = clash {b = false} h refl
 not-true false h = refl
 
-module _ (t : Trace) (full : List ℕ) (G : Tabled t full) (rule : Rule) (F : Flagged t (loggedBy t rule) full) (cut : ℕ) (cl : cut ≤ size t) where
+module _ (t : Trace) (full : List ℕ) (G : Tabled t full) (rule : Rule) (F : Flagged t (loggedBy t rule) full) (cut : ℕ) (cl : cut ≤ size t)
+    (f : List ℕ) (N : Finished full cut f) where
   -- ---- A receive up to the cut, by words
 
   module _ (e p q : ℕ) (a : 0 < e) (b : e ≤ cut) (r : recvs t p q e ≡ true) where
@@ -132,22 +134,20 @@ module _ (t : Trace) (full : List ℕ) (G : Tabled t full) (rule : Rule) (F : Fl
 
   -- ---- Lowering
 
-  -- what a process has reached is the same by any rule
-  current-same : (z : ℕ) → current t (ruleOf t) cut z ≡ current t rule cut z
-  current-same z = epoch-same t (ruleOf t) rule z cut
-
   abbrev U : Usable t rule cut (usableAt t cut)
-  U =
-      let own = reached-usable t (G .formed) (ruleOf t) cut cl in
-      record { start = own .start; within = λ z e h. (own .within z e h .0, omega (arith, own .within z e h .1, current-same z)) }
+  U = finished-usable t (G .formed) rule cut cl
 
-  -- the last epoch reached that is not above a reached one is that one
-  pub last-reached : (p x : ℕ) → 1 ≤ x → x ≤ current t (ruleOf t) cut p → lastOf (usableAt t cut p) x ≡ x
-  last-reached p x a b =
-      let h1 : leb 1 x ≡ true = le-leb 1 x a in
-      let h2 : leb x (current t (ruleOf t) cut p) ≡ true = le-leb x (current t (ruleOf t) cut p) b in
-      let h : usableAt t cut p x ≡ true = rw (h1, h2) in
-      omega (arith, lastOf-le (usableAt t cut p) x, (lastOf-top (usableAt t cut p) x x h a (omega arith)) .0)
+  -- the last finished epoch that is not above one
+  last-finished : (p x : ℕ) → 1 ≤ x → lastOf (usableAt t cut p) x ≡ min x (finishedAt t p cut)
+  last-finished p x a =
+      let n = min x (finishedAt t p cut) in
+      let h1 : leb 1 n ≡ true = le-leb 1 n (omega arith) in
+      let h2 : leb n (finishedAt t p cut) ≡ true = le-leb n (finishedAt t p cut) (omega arith) in
+      let h : usableAt t cut p n ≡ true = rw (h1, h2) in
+      let top = lastOf-top (usableAt t cut p) x n h (omega arith) (omega arith) in
+      let l = lastOf (usableAt t cut p) x in
+      let u : l ≤ finishedAt t p cut = leb-true l (finishedAt t p cut) (and-right (leb 1 l) (leb l (finishedAt t p cut)) (top .1)) in
+      omega (arith, lastOf-le (usableAt t cut p) x, top .0, u)
 
   module _ (failed : ℕ → Bool) where
     abbrev Over : (ℕ → ℕ) → Type 0
@@ -172,7 +172,7 @@ module _ (t : Trace) (full : List ℕ) (G : Tabled t full) (rule : Rule) (F : Fl
           epochs-lost t rule (fit t full G) cut cl (lineOf m) p q (rcvd t p q e)
           (number m v p (sender-in e p q a b r)) (number m v q (receiver-in e p q a b r)) low-by
 
-      low-to : lastOf (usableAt t cut p) (epochOf t rule p q (rcvd t p q e)) ≡ epochW full (matchW full e)
+      low-to : lastOf (usableAt t cut p) (epochOf t rule p q (rcvd t p q e)) ≡ min (epochW full (matchW full e)) (getD f p 0)
       low-to =
           let x = X e p q a b r in
           let d = matchW full e in
@@ -180,23 +180,24 @@ module _ (t : Trace) (full : List ℕ) (G : Tabled t full) (rule : Rule) (F : Fl
           ap (epochOf t rule p q) (sym (x .3)) ∙ epochOf-at t rule p q d (x .2) (x .0) (d-in e p q a b r) in
           let c = epoch-counts t (G .formed) rule p d in
           ap (λ (y : ℕ). lastOf (usableAt t cut p) y) i
-          ∙ last-reached p (epochAt t rule p d) (omega (arith, c)) (omega (arith, current-same p, epoch-le t rule (fit t full G) cut cl p d (omega (arith, x .1))))
-          ∙ sym (sent-epoch e p q a b r)
+          ∙ last-finished p (epochAt t rule p d) (omega (arith, c))
+          ∙ rw (sent-epoch e p q a b r, N .counts t G cl p (omega (arith, sender-in e p q a b r, fit t full G .few)))
 
-      pub low-above : Over (lineOf (set m p (epochW full (matchW full e))))
+      pub low-above : Over (lineOf (set m p (min (epochW full (matchW full e)) (getD f p 0))))
       low-above =
           let w = lowering-goes-on t (G .formed) rule cut cl (usableAt t cut) U failed (lineOf m) v p q (rcvd t p q e) low-lost in
           let s = sender-in e p q a b r in
-          above-same (lower t rule cut (usableAt t cut) (lineOf m) p q (rcvd t p q e)) (lineOf (set m p (epochW full (matchW full e))))
+          let n = min (epochW full (matchW full e)) (getD f p 0) in
+          above-same (lower t rule cut (usableAt t cut) (lineOf m) p q (rcvd t p q e)) (lineOf (set m p n))
           (λ z l. by-bool (eqb z p)
           (λ y. let i : z ≡ p = eqb-true z p y in
-          rw (y, i, getD-set-same m p (epochW full (matchW full e)) 0 (omega (arith, len, fit t full G .few))) low-to)
-          (λ y. rw (y, getD-set-other m p z (epochW full (matchW full e)) 0 (eqb-false z p y))))
+          rw (y, i, getD-set-same m p n 0 (omega (arith, len, fit t full G .few))) low-to)
+          (λ y. rw (y, getD-set-other m p z n 0 (eqb-false z p y))))
           (w .0)
 
     -- what one event does to a line that is above: it stays so, and places past the processes stay as they are
     lower-above : (m : List ℕ) (e : ℕ) → length m ≡ 64 → 0 < e → e ≤ cut → Over (lineOf m)
-        → Over (lineOf (lowerAt full m e)) × ((z : ℕ) → t .procs ≤ z → getD (lowerAt full m e) z 0 ≡ getD m z 0)
+        → Over (lineOf (lowerAt full f m e)) × ((z : ℕ) → t .procs ≤ z → getD (lowerAt full f m e) z 0 ≡ getD m z 0)
     unfolding lowerAt lostW
     lower-above m e len a b v = by-bool (eqb (kindW full e) 2)
         (λ k.
@@ -205,18 +206,18 @@ module _ (t : Trace) (full : List ℕ) (G : Tabled t full) (rule : Rule) (F : Fl
         let q = atW full e in
         by-bool (lostE full m p q (matchW full e) e)
         (λ h. let s = sender-in e p q a b r in
-        rw (k, h) (low-above m e p q v len a b r h, λ z l. getD-set-other m p z (epochW full (matchW full e)) 0 (λ i. omega arith)))
+        rw (k, h) (low-above m e p q v len a b r h, λ z l. getD-set-other m p z (min (epochW full (matchW full e)) (getD f p 0)) 0 (λ i. omega arith)))
         (λ h. rw (k, h) (v, λ z l. refl)))
         (λ k. rw k (v, λ z l. refl))
 
     -- and any number of events: the same
-    lowers-above : (m r : List ℕ) → Lowers full cut m r → length m ≡ 64 → Over (lineOf m)
+    lowers-above : (m r : List ℕ) → Lowers full f cut m r → length m ≡ 64 → Over (lineOf m)
         → Over (lineOf r) × ((z : ℕ) → t .procs ≤ z → getD r z 0 ≡ getD m z 0) × (length r ≡ 64)
     lowers-above m r same len v = (v, λ z l. refl, len)
     lowers-above m r (more {r = x} e a b s) len v =
         let ih = lowers-above m x s len v in
         let w = lower-above x e (ih .2) a b (ih .0) in
-        (w .0, λ z l. w .1 z l ∙ ih .1 z l, length-lower full x e ∙ ih .2)
+        (w .0, λ z l. w .1 z l ∙ ih .1 z l, length-lower full f x e ∙ ih .2)
 
     -- no event up to the cut receives a lost message: none is lost
     none-lost : (m : List ℕ) → Over (lineOf m) → ((e : ℕ) → 0 < e → e ≤ cut → lostW full m e ≡ false) → LossFree (recorded t rule cut (lineOf m))
@@ -235,18 +236,20 @@ module _ (t : Trace) (full : List ℕ) (G : Tabled t full) (rule : Rule) (F : Fl
     -- ---- The whole
 
     -- the first line: "Failed zones may not stay", all others do
-    first-above : (m : List ℕ) → ((z : ℕ) → z < t .procs → getD m z 0 ≡ cond (failed z) (current t (ruleOf t) cut z) 32) → Over (lineOf m)
+    first-above : (m : List ℕ) → ((z : ℕ) → z < t .procs → getD m z 0 ≡ cond (failed z) (getD f z 0) 32) → Over (lineOf m)
     unfolding highest
-    first-above m f =
+    first-above m h =
         above-same (highest t rule cut (usableAt t cut) failed) (lineOf m)
         (λ z l. let c = epoch-counts t (G .formed) rule z cut in
-        ap (λ (y : ℕ). cond (failed z) y 32) (last-reached z (current t rule cut z) (omega (arith, c)) (omega (arith, current-same z)) ∙ sym (current-same z)) ∙ sym (f z l))
+        let n : min (current t rule cut z) (finishedAt t z cut) ≡ getD f z 0 =
+        omega (arith, finished-le t rule (fit t full G) cut cl z, N .counts t G cl z (omega (arith, fit t full G .few))) in
+        ap (λ (y : ℕ). cond (failed z) y 32) (last-finished z (current t rule cut z) (omega (arith, c)) ∙ n) ∙ sym (h z l))
         (lowering-begins t (G .formed) rule cut cl (usableAt t cut) U failed)
 
-    module _ (m r : List ℕ) (len : length m ≡ 64) (f : (z : ℕ) → z < t .procs → getD m z 0 ≡ cond (failed z) (current t (ruleOf t) cut z) 32)
-        (past-zero : (z : ℕ) → t .procs ≤ z → getD m z 0 ≡ 0) (L : Lowered full cut m r) where
+    module _ (m r : List ℕ) (len : length m ≡ 64) (h : (z : ℕ) → z < t .procs → getD m z 0 ≡ cond (failed z) (getD f z 0) 32)
+        (past-zero : (z : ℕ) → t .procs ≤ z → getD m z 0 ≡ 0) (L : Lowered full f cut m r) where
       all : Over (lineOf r) × ((z : ℕ) → t .procs ≤ z → getD r z 0 ≡ getD m z 0) × (length r ≡ 64)
-      all = lowers-above m r (L .steps) len (first-above m f)
+      all = lowers-above m r (L .steps) len (first-above m h)
 
       greatest-words : Greatest t rule cut (usableAt t cut) failed (lineOf r)
       greatest-words = lowering-ends t (G .formed) rule cut cl (usableAt t cut) U failed (lineOf r) (all .0) (none-lost r (all .0) (L .none-lost rising))
@@ -261,21 +264,16 @@ module _ (t : Trace) (full : List ℕ) (G : Tabled t full) (rule : Rule) (F : Fl
           ∙ rw (lt-ltb z (t .procs) l))
           (λ l. all .1 z l ∙ past-zero z l ∙ rw (le-ltb z (t .procs) l)))
 
--- ---- `greatest`: the epochs at the cut d, the first line m, the last line r
+-- ---- `greatest`: the latest finished epochs f, the first line m, the last line r
 
-module _ (t : Trace) (rule : Rule) (full : List ℕ) (cut set count : ℕ) (d m r : List ℕ) (M : Marked t rule full) (cl : cut ≤ size t) (ec : count ≡ procsW full)
-    (ed : d ≡ wordsFrom (each t (current t (ruleOf t) cut)) 0 64) (len : length m ≡ 64)
-    (below : (z : ℕ) → z < count → getD m z 0 ≡ cond (inSet set z) (getD d z 0) 32) (others : (z : ℕ) → count ≤ z → getD m z 0 ≡ 0) (L : Lowered full cut m r) where
+module _ (t : Trace) (rule : Rule) (full : List ℕ) (cut set count : ℕ) (f m r : List ℕ) (M : Marked t rule full) (cl : cut ≤ size t) (ec : count ≡ procsW full)
+    (N : Finished full cut f) (len : length m ≡ 64)
+    (below : (z : ℕ) → z < count → getD m z 0 ≡ cond (inSet set z) (getD f z 0) 32) (others : (z : ℕ) → count ≤ z → getD m z 0 ≡ 0) (L : Lowered full f cut m r) where
   count-is : count ≡ t .procs
   count-is = ec ∙ procs-is t full (M .tabled)
 
-  cut-at : (z : ℕ) → z < 64 → getD d z 0 ≡ each t (current t (ruleOf t) cut) z
-  cut-at z h = ap (λ (l : List ℕ). getD l z 0) ed ∙ getD-words (each t (current t (ruleOf t) cut)) 0 64 z h ∙ ap (each t (current t (ruleOf t) cut)) (let e : 0 + z ≡ z = omega arith in e)
-
-  first-is : (z : ℕ) → z < t .procs → getD m z 0 ≡ cond (inSet set z) (current t (ruleOf t) cut z) 32
-  first-is z h =
-      let s : ltb z (t .procs) ≡ true = lt-ltb z (t .procs) h in
-      below z (omega (arith, count-is)) ∙ ap (λ (x : ℕ). cond (inSet set z) x 32) (cut-at z (omega (arith, fit t full (M .tabled) .few)) ∙ rw s)
+  first-is : (z : ℕ) → z < t .procs → getD m z 0 ≡ cond (inSet set z) (getD f z 0) 32
+  first-is z h = below z (omega (arith, count-is))
 
   past-is : (z : ℕ) → t .procs ≤ z → getD m z 0 ≡ 0
   past-is z h = others z (omega (arith, count-is))
@@ -284,7 +282,7 @@ module _ (t : Trace) (rule : Rule) (full : List ℕ) (cut set count : ℕ) (d m 
   made = record { epochs = r; count = count }
 
   r-is : r ≡ wordsFrom (each t (lineBy t rule cut set)) 0 64
-  r-is = greatest-list t full (M .tabled) rule (M .flags) cut cl (inSet set) m r len first-is past-is L
+  r-is = greatest-list t full (M .tabled) rule (M .flags) cut cl f N (inSet set) m r len first-is past-is L
 
   pub greatest-made : made ≡ lineTo t (lineBy t rule cut set)
   greatest-made = ap (λ (x : List ℕ). record { epochs = x; count = count }) r-is ∙ ap (λ (x : ℕ). record { epochs = wordsFrom (each t (lineBy t rule cut set)) 0 64; count = x }) count-is
@@ -305,4 +303,4 @@ module _ (t : Trace) (rule : Rule) (full : List ℕ) (cut set count : ℕ) (d m 
   pub greatest-means : Greatest t rule cut (usableAt t cut) (inSet set) (lineIn made)
   greatest-means =
       subst (Greatest t rule cut (usableAt t cut) (inSet set)) (fun-ext numbers-same)
-      (greatest-words t full (M .tabled) rule (M .flags) cut cl (inSet set) m r len first-is past-is L)
+      (greatest-words t full (M .tabled) rule (M .flags) cut cl f N (inSet set) m r len first-is past-is L)

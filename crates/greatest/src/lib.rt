@@ -18,23 +18,23 @@ use recovery_line::Line;
 use recovery_line::STAYS;
 
 // A process's number in the first line: a failed one may not stay.
-fn first_number(set: u64, z: u32, epoch: u32) -> u32
+fn first_number(set: u64, z: u32, finished: u32) -> u32
     requires { ⌜ z < 64 ⌝ }
-    ensures { λ r. ⌜ r ≡ cond (inSet set z) epoch 32 ⌝ }
+    ensures { λ r. ⌜ r ≡ cond (inSet set z) finished 32 ⌝ }
 {
-    if (set >> z) % 2 == 1 { epoch } else { STAYS }
+    if (set >> z) % 2 == 1 { finished } else { STAYS }
 }
 
-// The first line, from the epochs at the cut.
-fn first_line(epochs: &[u32], count: usize, set: u64, numbers: &mut [u32; 64])
-    requires { ⌜ (length (now epochs) ≡ 64) × (length (now numbers) ≡ 64) × (count ≤ 64) ⌝ }
-    ensures below { λ _. ⌜ ((z : ℕ) → z < count → getD (now (numbers .exit)) z 0 ≡ cond (inSet set z) (getD (now (epochs .entry)) z 0) 32) ⌝ }
+// The first line, from the latest finished epochs at the cut.
+fn first_line(finished: &[u32], count: usize, set: u64, numbers: &mut [u32; 64])
+    requires { ⌜ (length (now finished) ≡ 64) × (length (now numbers) ≡ 64) × (count ≤ 64) ⌝ }
+    ensures below { λ _. ⌜ ((z : ℕ) → z < count → getD (now (numbers .exit)) z 0 ≡ cond (inSet set z) (getD (now (finished .entry)) z 0) 32) ⌝ }
     ensures others { λ _. ⌜ ((z : ℕ) → count ≤ z → getD (now (numbers .exit)) z 0 ≡ getD (now (numbers .entry)) z 0) ⌝ }
     ensures long { λ _. ⌜ length (now (numbers .exit)) ≡ 64 ⌝ }
 {
     let mut z: usize = 0;
     while z < count {
-        numbers[z] = first_number(set, z as u32, epochs[z]);
+        numbers[z] = first_number(set, z as u32, finished[z]);
         z += 1;
     }
 }
@@ -54,12 +54,14 @@ pub fn greatest(full: &[u32], cut: usize, set: u64, epochs: &mut [u32], phases: 
     let mut latest = [0u16; 64];
     positions::link(full, cut, &mut earlier, &mut latest);
     positions::epochs_at(full, &latest, count, epochs);
+    let mut finished = [1u32; 64];
+    positions::finished_at(full, cut, &mut finished);
     let mut line = Line {
         epochs: [0u32; 64],
         count: count,
     };
-    first_line(epochs, count, set, &mut line.epochs);
-    lowering::lower(full, &earlier, &mut line.epochs, &mut latest);
+    first_line(&finished, count, set, &mut line.epochs);
+    lowering::lower(full, &finished, &earlier, &mut line.epochs, &mut latest);
     positions::restart_phases(full, &latest, &line.epochs, count, phases);
     line
 }

@@ -2,7 +2,7 @@
 use mathlib.Core.Path.{_≡_, sym, _∙_}
 use mathlib.Core.Bool.{true, false, and-false}
 use mathlib.Core.List.{List}
-use Prim.Native.Nat.{ℕ, _-_, _≤_, _<_}
+use Prim.Native.Nat.{ℕ, _-_, min, _≤_, _<_}
 use native.Mathlib.Omega.{arith}
 use lib.ListN.{getD, set}
 use lib.Dec.{leb, ltb, eqb}
@@ -47,13 +47,13 @@ module _ (t m : List ℕ) (e k : ℕ) (ek : k ≡ kindW t e) where
           let b : ltb (epochW t (matchW t e)) (getD m (peerW t e) 0) ≡ true = rw (← ed, ← ep) (lt-ltb (epochW t d) (getD m p 0) h) in
           rw (is-two, a, b, ne-eqb (loggedW t e) 1 l)
 
-      pub is-lowered : lostW t m e ≡ true → set m p (epochW t d) ≡ lowerAt t m e
+      pub is-lowered : (f : List ℕ) (v : ℕ) → v ≡ min (epochW t d) (getD f p 0) → lostW t m e ≡ true → set m p v ≡ lowerAt t f m e
       unfolding lowerAt
-      is-lowered h = rw (h, ed, ep)
+      is-lowered f v ev h = rw (h, ev, ed, ep)
 
-pub not-lowered : (t m : List ℕ) (e : ℕ) → lostW t m e ≡ false → m ≡ lowerAt t m e
+pub not-lowered : (t f m : List ℕ) (e : ℕ) → lostW t m e ≡ false → m ≡ lowerAt t f m e
 unfolding lowerAt
-not-lowered t m e h = rw h
+not-lowered t f m e h = rw h
 
 -- ---- `undoes`
 

@@ -3,7 +3,7 @@
 use mathlib.Core.Path.{_≡_, refl, sym, _∙_, ap, subst}
 use mathlib.Core.Bool.{true, false, _&&_, not}
 use mathlib.Core.List.{List, [], _∷_}
-use Prim.Native.Nat.{ℕ, zero, suc, _+_, _-_, _^_, _≤_, _<_}
+use Prim.Native.Nat.{ℕ, zero, suc, _+_, _-_, min, _^_, _≤_, _<_}
 use native.Mathlib.Omega.{arith}
 use lib.ListN.{length, getD, set, length-set}
 use lib.Seq.{getD-set-same, getD-set-other}
@@ -32,16 +32,16 @@ lost-below t m e h =
     ltb-true (epochW t (matchW t e)) (getD m (peerW t e) 0) (and-left b n (and-right (leb (getD m (atW t e) 0) (epochW t e)) (b && n) l)))
     (λ k. clash {b = false} (rw k at h) refl)
 
-pub length-lower : (t m : List ℕ) (e : ℕ) → length (lowerAt t m e) ≡ length m
+pub length-lower : (t f m : List ℕ) (e : ℕ) → length (lowerAt t f m e) ≡ length m
 unfolding lowerAt
-length-lower t m e = by-bool (lostW t m e) (λ k. rw (k, length-set)) (λ k. rw k)
+length-lower t f m e = by-bool (lostW t m e) (λ k. rw (k, length-set)) (λ k. rw k)
 
 -- no number rises
-lower-falls : (t m : List ℕ) (e z : ℕ) → length m ≡ 64 → getD (lowerAt t m e) z 0 ≤ getD m z 0
+lower-falls : (t f m : List ℕ) (e z : ℕ) → length m ≡ 64 → getD (lowerAt t f m e) z 0 ≤ getD m z 0
 unfolding lowerAt
-lower-falls t m e z len =
+lower-falls t f m e z len =
     by-bool (lostW t m e)
-    (λ k. let d = epochW t (matchW t e) in
+    (λ k. let d = min (epochW t (matchW t e)) (getD f (peerW t e) 0) in
     by-eq z (peerW t e)
     (λ i. rw (k, i, getD-set-same m (peerW t e) d 0 (omega (arith, len))) (omega (arith, lost-below t m e k)))
     (λ n. rw (k, getD-set-other m (peerW t e) z d 0 n) (omega arith)))
@@ -52,8 +52,8 @@ lower-falls t m e z len =
 abbrev Settled : List ℕ → List ℕ → ℕ → Type 0
 Settled t m e = kindW t e ≡ 2 → (loggedW t e ≡ 1 → ⊥) → getD m (peerW t e) 0 ≤ epochW t (matchW t e)
 
-settled-stays : (t m : List ℕ) (e x : ℕ) → length m ≡ 64 → Settled t m x → Settled t (lowerAt t m e) x
-settled-stays t m e x len s k l = omega (arith, s k l, lower-falls t m e (peerW t x) len)
+settled-stays : (t f m : List ℕ) (e x : ℕ) → length m ≡ 64 → Settled t m x → Settled t (lowerAt t f m e) x
+settled-stays t f m e x len s k l = omega (arith, s k l, lower-falls t f m e (peerW t x) len)
 
 settled-safe : (t m : List ℕ) (e : ℕ) → Settled t m e → lostW t m e ≡ false
 settled-safe t m e s =
@@ -69,12 +69,12 @@ early-safe t m e h =
     by-eq (kindW t e) 2 (λ k. received-early t m e _ refl k _ refl h) (λ n. no-receive t m e _ refl n)
 
 -- lowering at an undone event settles it
-lower-settles : (t m : List ℕ) (e : ℕ) → length m ≡ 64 → getD m (atW t e) 0 ≤ epochW t e → Settled t (lowerAt t m e) e
+lower-settles : (t f m : List ℕ) (e : ℕ) → length m ≡ 64 → getD m (atW t e) 0 ≤ epochW t e → Settled t (lowerAt t f m e) e
 unfolding lowerAt
-lower-settles t m e len u k l =
+lower-settles t f m e len u k l =
     let d = epochW t (matchW t e) in
     by-lt d (getD m (peerW t e) 0)
-    (λ h. rw (is-lost t m e _ refl k _ _ _ refl refl refl l u h, getD-set-same m (peerW t e) d 0 (omega (arith, len))) (omega arith))
+    (λ h. rw (is-lost t m e _ refl k _ _ _ refl refl refl l u h, getD-set-same m (peerW t e) (min d (getD f (peerW t e) 0)) 0 (omega (arith, len))) (omega arith))
     (λ h. rw (sent-late t m e _ refl k _ _ _ refl refl refl h) h)
 
 -- ---- `lower`
@@ -99,14 +99,14 @@ looking-begins t cut m earlier latest len L = record {
 }
 
 -- the same, and where it comes from; no process that is not pending has an undone event that was not looked at
-pub record Working (t : List ℕ) (cut : ℕ) (l m latest : List ℕ) (pending : ℕ) : Type 0 where
-  pub lowers : Lowers t cut l m
+pub record Working (t f : List ℕ) (cut : ℕ) (l m latest : List ℕ) (pending : ℕ) : Type 0 where
+  pub lowers : Lowers t f cut l m
   pub looking : Looking t cut m latest
   pub idle : Outside (λ z. undoneW t m latest z ≡ false) pending
 
-pub working-ends : (t : List ℕ) (cut : ℕ) (l m latest : List ℕ) (pending : ℕ) → Working t cut l m latest pending → pending ≡ 0
+pub working-ends : (t f : List ℕ) (cut : ℕ) (l m latest : List ℕ) (pending : ℕ) → Working t f cut l m latest pending → pending ≡ 0
     → (z : ℕ) → z < 64 → undoneW t m latest z ≡ false
-working-ends t cut l m latest pending W e z h = W .idle z h (rw e (none-in z))
+working-ends t f cut l m latest pending W e z h = W .idle z h (rw e (none-in z))
 
 pub joined-lt : (t m : List ℕ) (e pending after : ℕ) → after ≡ joinedBy t m e pending → pending < 2 ^ 64 → after < 2 ^ 64
 joined-lt t m e pending after i h = by-bool (lostW t m e) (λ k. rw (i, k) (with-lt pending (peerW t e) h)) (λ k. rw (i, k) h)
@@ -143,8 +143,8 @@ module _ (t : List ℕ) (cut : ℕ) (m latest : List ℕ) (L : Looking t cut m l
   }
 
   -- and nothing is lost: an event not looked at is no newer than one before its process's restart
-  pub looking-ends : (l : List ℕ) → Lowers t cut l m → Before t cut m latest → Lowered t cut l m
-  looking-ends l s B = record {
+  pub looking-ends : (f l : List ℕ) → Lowers t f cut l m → Before t cut m latest → Lowered t f cut l m
+  looking-ends f l s B = record {
     steps = s;
     none-lost = λ R e a b.
         let q = atW t e in
@@ -180,19 +180,20 @@ module _ (t : List ℕ) (cut : ℕ) (m latest : List ℕ) (L : Looking t cut m l
     newest : Newest t z (e - 1) d
     newest = subst (λ (y : ℕ). Newest t y (e - 1) d) own-e (K .before e some in-cut)
 
-    pub look-fits : Lowerable t m e
-    look-fits = record {
+    pub look-fits : (f : List ℕ) → length f ≡ 64 → Lowerable t f m e
+    look-fits f lf = record {
       whole = S .whole;
+      finished = lf;
       long = L .long;
       few = omega (arith, in-cut, S .cut-few);
       matched = S .matched e some in-cut;
     }
 
-    module _ (n rest : List ℕ) (en : n ≡ lowerAt t m e) (er : rest ≡ set latest z d) where
+    module _ (f n rest : List ℕ) (en : n ≡ lowerAt t f m e) (er : rest ≡ set latest z d) where
       pub look-less : sumL rest < sumL latest
       look-less = rw er (sum-set latest z d (omega (arith, L .wide)) (omega (arith, newest .within, some)))
 
-      pub look-lowers : (l : List ℕ) → Lowers t cut l m → Lowers t cut l n
+      pub look-lowers : (l : List ℕ) → Lowers t f cut l m → Lowers t f cut l n
       look-lowers l s = rw en (more e some in-cut s)
 
       at-z : getD rest z 0 ≡ d
@@ -203,17 +204,17 @@ module _ (t : List ℕ) (cut : ℕ) (m latest : List ℕ) (L : Looking t cut m l
 
       -- what was settled stays so
       still : (x : ℕ) → Settled t m x → Settled t n x
-      still x s = rw en (settled-stays t m e x (L .long) s)
+      still x s = rw en (settled-stays t f m e x (L .long) s)
 
       falls : (x : ℕ) → getD m (atW t x) 0 ≤ epochW t x → getD n (atW t x) 0 ≤ epochW t x
-      falls x h = rw en (omega (arith, lower-falls t m e (atW t x) (L .long), h))
+      falls x h = rw en (omega (arith, lower-falls t f m e (atW t x) (L .long), h))
 
       now-settled : Settled t n e
-      now-settled = rw en (lower-settles t m e (L .long) (rw own-e undone-e))
+      now-settled = rw en (lower-settles t f m e (L .long) (rw own-e undone-e))
 
       pub looking-next : Looking t cut n rest
       looking-next = record {
-        long = ap length en ∙ length-lower t m e ∙ L .long;
+        long = ap length en ∙ length-lower t f m e ∙ L .long;
         wide = ap length er ∙ simp length-set (L .wide);
         within = λ y l. by-eq y z (λ i. rw (i, at-z) (omega (arith, newest .within, in-cut))) (λ h. rw (other y h) (L .within y l));
         own = λ y l. by-eq y z (λ i. rw (i, at-z) (newest .own)) (λ h. rw (other y h) (L .own y l));
@@ -241,7 +242,7 @@ module _ (t : List ℕ) (cut : ℕ) (m latest : List ℕ) (L : Looking t cut m l
           by-bool (lostW t m e)
           (λ h. let v = with-out pending (peerW t e) y (omega arith) (rw (ea, h) at o) in
           let i : y ≡ z → ⊥ = λ i. clash (rw (← ez, ← i) at (first-in pending p l)) (v .0) in
-          rw (other y i, en, h, getD-set-other m (peerW t e) y (epochW t (matchW t e)) 0 (v .1)) (w y ly (v .0)))
+          rw (other y i, en, h, getD-set-other m (peerW t e) y (min (epochW t (matchW t e)) (getD f (peerW t e) 0)) 0 (v .1)) (w y ly (v .0)))
           (λ h. let v : inSet pending y ≡ false = rw (ea, h) at o in
           let i : y ≡ z → ⊥ = λ i. clash (rw (← ez, ← i) at (first-in pending p l)) v in
           rw (other y i, en, h) (w y ly v))

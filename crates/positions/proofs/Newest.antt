@@ -12,7 +12,7 @@ use Rattle.words.specs.Area.{wordsFrom}
 use Rattle.words.proofs.Area.{words-ext}
 use Rattle.words.proofs.Cases.{by-eq, by-lt, clash}
 use Rattle.trace.specs.declared.Event.{Event}
-use Rattle.trace.specs.declared.Event.the-variants.{Send, Recv, Save}
+use Rattle.trace.specs.declared.Event.the-variants.{Send, Recv, Save, Done}
 use Rattle.trace.specs.Trace.{Trace}
 use Rattle.theory.specs.Lists.{cnt}
 use Rattle.theory.specs.Events.{size, eventAt, at, checkpoints}
@@ -25,7 +25,7 @@ use Rattle.theory.proofs.Lines.{Number}
 use Rattle.theory.proofs.Claims.{restart-back, restart-stays}
 use Rattle.columns.specs.Inner.Columns.{epochBase, phaseBase, Tabled}
 use Rattle.columns.proofs.Bounds.{epoch-most, phase-most}
-use Rattle.columns.proofs.Moves.{save-phase}
+use Rattle.columns.proofs.Moves.{save-local, local-phase}
 use Rattle.recovery_line.specs.Given.{each, restartPhaseIn}
 use Rattle.columns.specs.Inner.Full.{atW, epochW, phaseW}
 use Rattle.columns.proofs.Full.{fit, few, procs-is, at-is, else-same}
@@ -46,7 +46,8 @@ raised : (t : Trace) (z y : ℕ) (v : Event) → eventAt t (suc y) ≡ v → che
 unfolding checkpoints
 raised t z y (Send a b v) e h = clash {b = false} (rw e at h) refl
 raised t z y (Recv a b) e h = clash {b = false} (rw e at h) refl
-raised t z y (Save a) e h = let i : z ≡ a = eqb-true z a (rw e at h) in rw i (save-phase t y a e)
+raised t z y (Save a) e h = let i : z ≡ a = eqb-true z a (rw e at h) in rw i (omega (arith, local-phase t y a 1 (save-local t y a e)))
+raised t z y (Done a) e h = clash {b = false} (rw e at h) refl
 
 module _ (t : Trace) (full : List ℕ) (G : Tabled t full) (cut : ℕ) (cl : cut ≤ size t) (z x : ℕ) (xl : x ≤ cut) (own : 0 < x → atW full x ≡ z) where
   -- ---- What is read at the newest event

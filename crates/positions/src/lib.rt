@@ -1,19 +1,21 @@
 // Where each process stands: at the cut, and right before its restart. The events of each process are linked from the
 // newest back; epochs at the cut and phases at the restarts are then read at one event of each process, and a process
-// that goes back is followed along its links. specs/Inner/Positions says what the links hold; proofs/Newest what is
-// read at them, by the theory's definitions. Assumes nothing.
+// that goes back is followed along its links. Its latest finished epoch is counted. specs/Inner/Positions says what the
+// links hold; proofs/Newest what is read at them, by the theory's definitions. Assumes nothing.
 ghost use mathlib.Core.Path.{_≡_};
 ghost use mathlib.Core.Bool.{cond};
 ghost use mathlib.Core.List.{List};
 ghost use Prim.Native.Nat.{ℕ, _+_, _≤_, _<_};
 ghost use lib.Dec.{ltb};
 ghost use lib.ListN.{length, getD};
+ghost use Rattle.trace.specs.Trace.{Trace};
 ghost use Rattle.columns.specs.Inner.Columns.{epochBase, fullWords};
 ghost use Rattle.columns.specs.Inner.Full.{phaseW};
-ghost use Rattle.positions.specs.Inner.Positions.{Unlinked, Linked, Newest, NewestRanged, afterW, restartPhase, PhasesFew, Walkable, Walked};
+ghost use Rattle.positions.specs.Inner.Positions.{Uncounted, Finished, Unlinked, Linked, Newest, NewestRanged, afterW, restartPhase, PhasesFew, Walkable, Walked};
 use columns::EPOCH_BASE;
 use columns::PHASE_BASE;
 use recovery_line::STAYS;
+use trace::DONE;
 use trace::EVENT_BASE;
 
 // How many links there are: one for each event, and one that stands for none.
@@ -31,6 +33,21 @@ pub fn link(full: &[u32], cut: usize, earlier: &mut [u16], latest: &mut [u16])
         let z = trace::process(full[EVENT_BASE + e]);
         earlier[e] = latest[z];
         latest[z] = e as u16;
+    }
+}
+
+// The latest finished epoch of each process at the cut: 1, and one more for each checkpoint that is finished by then.
+pub fn finished_at(full: &[u32], cut: usize, finished: &mut [u32])
+    requires { ⌜ ((t : Trace) × Uncounted t (now full) cut (now finished)) ⌝ }
+    ensures { λ _. ⌜ Finished (now (full .entry)) cut (now (finished .exit)) ⌝ }
+{
+    let mut e: usize = 0;
+    while e < cut {
+        e += 1;
+        let w = full[EVENT_BASE + e];
+        if trace::kind(w) == DONE {
+            finished[trace::process(w)] += 1;
+        }
     }
 }
 

@@ -1,5 +1,5 @@
--- `faults::may_hold` meets its contract: reached, or else to stay.
-use Rattle.faults.proofs.Faults.{holds-reached, holds-stay}
+-- `faults::may_hold` meets its contract: a usable epoch, or else to stay.
+use Rattle.faults.proofs.Faults.{holds-usable, holds-stay}
 use borrow.Author.Needs.{needs}
 use Rattle.faults.proofs.may_hold.Statement.{statement}
 use Rattle.faults.proofs.may_hold.Tie as tie
@@ -7,17 +7,17 @@ use Rattle.faults.proofs.may_hold.Tie as tie
 returns : tie.Need-returns
 returns c =
     let args = c .before .before .before .before .before .before .args in
-    let has-reached = c .before .has-reached in
+    let can-restart = c .before .can-restart in
     let if1 = c .if1 in
-    holds-reached _ (args .epochs .now) (args .numbers .now) _ _ (has-reached .ensures) (if1 .taken)
+    holds-usable _ (args .finished .now) (args .numbers .now) _ _ (can-restart .ensures) (if1 .taken)
 
 returns-2 : tie.Need-returns-2
 returns-2 c =
     let args = c .before .before .before .before .before .before .before .before .args in
-    let has-reached = c .before .before .before .has-reached in
+    let can-restart = c .before .before .before .can-restart in
     let if1 = c .before .before .if1 in
     let may-stay = c .may-stay in
-    holds-stay _ (args .epochs .now) (args .numbers .now) _ _ (has-reached .ensures) _ (if1 .left) (may-stay .ensures)
+    holds-stay _ (args .finished .now) (args .numbers .now) _ _ (can-restart .ensures) _ (if1 .left) (may-stay .ensures)
 
 pub may-hold-spec : {M : Type 1} → statement M
 may-hold-spec =

@@ -10,10 +10,10 @@ use Rattle.faults.proofs.permitted.Statement.{statement}
 use Rattle.faults.proofs.permitted.Tie as tie
 
 abbrev Inv-loop : tie.InvT-loop
-Inv-loop epochs numbers count set all₀ z₀ all z = (z ≤ count) × (all ≡ all-below z (mayW set epochs numbers))
+Inv-loop finished numbers count set all₀ z₀ all z = (z ≤ count) × (all ≡ all-below z (mayW set finished numbers))
 
 abbrev μ-loop : tie.MeasureT-loop
-μ-loop epochs numbers count set all₀ z₀ all z = count - z
+μ-loop finished numbers count set all₀ z₀ all z = count - z
 
 loop-holds : tie.Need-loop-holds Inv-loop μ-loop
 loop-holds c = (omega arith, all-none _)
@@ -24,7 +24,7 @@ loop-again c =
     let may-hold = c .before .may-hold in
     let loop = c .before .before .before .loop in
     let both = c .both in
-    (omega arith, all-next (mayW (args .set) (args .epochs .now) (args .numbers .now)) _ _ _ _ (may-hold .ensures) (loop .inv .1) (both .ensures))
+    (omega arith, all-next (mayW (args .set) (args .finished .now) (args .numbers .now)) _ _ _ _ (may-hold .ensures) (loop .inv .1) (both .ensures))
 
 returns : tie.Need-returns Inv-loop μ-loop
 returns c =

@@ -12,11 +12,11 @@ use Rattle.greatest.proofs.first_line.Statement.{statement}
 use Rattle.greatest.proofs.first_line.Tie as tie
 
 abbrev Inv-loop : tie.InvT-loop
-Inv-loop epochs count set numbers₀ z₀ numbers z =
-    (z ≤ count) × (length numbers ≡ length numbers₀) × Written (λ k. cond (inSet set k) (getD epochs k 0) 32) numbers₀ z numbers
+Inv-loop finished count set numbers₀ z₀ numbers z =
+    (z ≤ count) × (length numbers ≡ length numbers₀) × Written (λ k. cond (inSet set k) (getD finished k 0) 32) numbers₀ z numbers
 
 abbrev μ-loop : tie.MeasureT-loop
-μ-loop epochs count set numbers₀ z₀ numbers z =
+μ-loop finished count set numbers₀ z₀ numbers z =
     count - z
 
 loop-holds : tie.Need-loop-holds Inv-loop μ-loop

@@ -17,59 +17,59 @@ use Rattle.lowering.proofs.lower.Statement.{statement}
 use Rattle.lowering.proofs.lower.Tie as tie
 
 abbrev Inv-loop : tie.InvT-loop
-Inv-loop full earlier epochs₀ latest₀ pending₀ epochs latest pending =
-    (pending < 2 ^ 64) × ((cut : ℕ) → Sized full cut → Linked full cut earlier latest₀ → Working full cut epochs₀ epochs latest pending)
+Inv-loop full finished earlier epochs₀ latest₀ pending₀ epochs latest pending =
+    (pending < 2 ^ 64) × ((cut : ℕ) → Sized full cut → Linked full cut earlier latest₀ → Working full finished cut epochs₀ epochs latest pending)
 
 abbrev μ-loop : tie.MeasureT-loop
-μ-loop full earlier epochs₀ latest₀ pending₀ epochs latest pending =
+μ-loop full finished earlier epochs₀ latest₀ pending₀ epochs latest pending =
     sumL latest * 2 ^ 64 + pending
 
 loop-holds : tie.Need-loop-holds Inv-loop μ-loop
 loop-holds c =
-    let pre = c .before .before .before .pre in
-    (omega arith, λ cut S K. record { lowers = same; looking = looking-begins _ _ _ _ _ (pre .0) K; idle = λ z l o. clash (everyone-in z l) o })
+    let pre = c .before .before .before .before .pre in
+    (omega arith, λ cut S K. record { lowers = same; looking = looking-begins _ _ _ _ _ (pre .1) K; idle = λ z l o. clash (everyone-in z l) o })
 
 undoes-requires : tie.Need-undoes-requires Inv-loop μ-loop
 undoes-requires c κs =
-    let pre = c .before .before .before .before .before .before .before .before .before .pre in
+    let pre = c .before .before .before .before .before .before .before .before .before .before .pre in
     let loop = c .before .before .before .before .before .loop in
     let loop-test = c .before .before .before .before .loop-test in
     let first = c .before .before .before .first in
-    let S = (pre .1 .1) in let K = (pre .1 .2) in let W = (loop .inv .1) (pre .1 .0) S K in let p : 0 < (loop .pending) = omega (arith, (loop-test .taken)) in let lz : (first .result) < 64 = omega (arith, (first .ensures .0), first-lt (loop .pending) p (loop .inv .0)) in (ranged _ _ _ _ (W .looking) S, lz)
+    let S = (pre .2 .1) in let K = (pre .2 .2) in let W = (loop .inv .1) (pre .2 .0) S K in let p : 0 < (loop .pending) = omega (arith, (loop-test .taken)) in let lz : (first .result) < 64 = omega (arith, (first .ensures .0), first-lt (loop .pending) p (loop .inv .0)) in (ranged _ _ _ _ (W .looking) S, lz)
 
 look-requires : tie.Need-look-requires Inv-loop μ-loop
 look-requires c κs =
-    let pre = c .before .before .before .before .before .before .before .before .before .before .before .before .before .pre in
+    let pre = c .before .before .before .before .before .before .before .before .before .before .before .before .before .before .pre in
     let loop = c .before .before .before .before .before .before .before .before .before .loop in
     let loop-test = c .before .before .before .before .before .before .before .before .loop-test in
     let first = c .before .before .before .before .before .before .before .first in
-    let args = c .before .before .before .before .before .before .before .before .before .before .before .before .before .args in
+    let args = c .before .before .before .before .before .before .before .before .before .before .before .before .before .before .args in
     let undoes = c .before .before .before .undoes in
     let if1 = c .before .before .if1 in
-    let S = (pre .1 .1) in let K = (pre .1 .2) in let W = (loop .inv .1) (pre .1 .0) S K in let p : 0 < (loop .pending) = omega (arith, (loop-test .taken)) in let lz : (first .result) < 64 = omega (arith, (first .ensures .0), first-lt (loop .pending) p (loop .inv .0)) in let u : undoneW (args .full .now) (loop .epochs) (loop .latest) (first .result) ≡ true = sym (undoes .ensures) ∙ (if1 .taken) in record { long = K .long; wide = W .looking .wide; process = lz; fits = look-fits _ _ _ _ (W .looking) _ _ _ S K lz u }
+    let S = (pre .2 .1) in let K = (pre .2 .2) in let W = (loop .inv .1) (pre .2 .0) S K in let p : 0 < (loop .pending) = omega (arith, (loop-test .taken)) in let lz : (first .result) < 64 = omega (arith, (first .ensures .0), first-lt (loop .pending) p (loop .inv .0)) in let u : undoneW (args .full .now) (loop .epochs) (loop .latest) (first .result) ≡ true = sym (undoes .ensures) ∙ (if1 .taken) in record { long = K .long; wide = W .looking .wide; process = lz; fits = look-fits _ _ _ _ (W .looking) _ _ _ S K lz u _ ((pre .0)) }
 
 loop-less : tie.Need-loop-less Inv-loop μ-loop
 loop-less c =
-    let pre = c .before .before .before .before .before .before .before .before .before .before .before .before .before .before .before .before .pre in
+    let pre = c .before .before .before .before .before .before .before .before .before .before .before .before .before .before .before .before .before .pre in
     let loop = c .before .before .before .before .before .before .before .before .before .before .before .before .loop in
     let loop-test = c .before .before .before .before .before .before .before .before .before .before .before .loop-test in
     let first = c .before .before .before .before .before .before .before .before .before .before .first in
-    let args = c .before .before .before .before .before .before .before .before .before .before .before .before .before .before .before .before .args in
+    let args = c .before .before .before .before .before .before .before .before .before .before .before .before .before .before .before .before .before .args in
     let undoes = c .before .before .before .before .before .before .undoes in
     let if1 = c .before .before .before .before .before .if1 in
     let look = c .before .before .look in
-    let S = (pre .1 .1) in let K = (pre .1 .2) in let W = (loop .inv .1) (pre .1 .0) S K in let p : 0 < (loop .pending) = omega (arith, (loop-test .taken)) in let lz : (first .result) < 64 = omega (arith, (first .ensures .0), first-lt (loop .pending) p (loop .inv .0)) in let u : undoneW (args .full .now) (loop .epochs) (loop .latest) (first .result) ≡ true = sym (undoes .ensures) ∙ (if1 .taken) in let d = look-less _ _ _ _ (W .looking) _ _ _ S K lz u _ _ (look .ensures .0) (look .ensures .1 .0) in let b = joined-lt _ _ _ _ _ (look .ensures .1 .1) (loop .inv .0) in omega (arith, d, b)
+    let S = (pre .2 .1) in let K = (pre .2 .2) in let W = (loop .inv .1) (pre .2 .0) S K in let p : 0 < (loop .pending) = omega (arith, (loop-test .taken)) in let lz : (first .result) < 64 = omega (arith, (first .ensures .0), first-lt (loop .pending) p (loop .inv .0)) in let u : undoneW (args .full .now) (loop .epochs) (loop .latest) (first .result) ≡ true = sym (undoes .ensures) ∙ (if1 .taken) in let d = look-less _ _ _ _ (W .looking) _ _ _ S K lz u _ _ _ (look .ensures .0) (look .ensures .1 .0) in let b = joined-lt _ _ _ _ _ (look .ensures .1 .1) (loop .inv .0) in omega (arith, d, b)
 
 loop-again : tie.Need-loop-again Inv-loop μ-loop
 loop-again c =
     let loop = c .before .before .before .before .before .before .before .before .before .before .before .before .loop in
     let loop-test = c .before .before .before .before .before .before .before .before .before .before .before .loop-test in
     let first = c .before .before .before .before .before .before .before .before .before .before .first in
-    let args = c .before .before .before .before .before .before .before .before .before .before .before .before .before .before .before .before .args in
+    let args = c .before .before .before .before .before .before .before .before .before .before .before .before .before .before .before .before .before .args in
     let undoes = c .before .before .before .before .before .before .undoes in
     let if1 = c .before .before .before .before .before .if1 in
     let look = c .before .before .look in
-    let p : 0 < (loop .pending) = omega (arith, (loop-test .taken)) in let lz : (first .result) < 64 = omega (arith, (first .ensures .0), first-lt (loop .pending) p (loop .inv .0)) in let u : undoneW (args .full .now) (loop .epochs) (loop .latest) (first .result) ≡ true = sym (undoes .ensures) ∙ (if1 .taken) in (joined-lt _ _ _ _ _ (look .ensures .1 .1) (loop .inv .0), λ cut S K. let W = (loop .inv .1) cut S K in record { lowers = look-lowers _ _ _ _ (W .looking) _ _ _ S K lz u _ _ (look .ensures .0) (look .ensures .1 .0) _ (W .lowers); looking = looking-next _ _ _ _ (W .looking) _ _ _ S K lz u _ _ (look .ensures .0) (look .ensures .1 .0); idle = look-idle _ _ _ _ (W .looking) _ _ _ S K lz u _ _ (look .ensures .0) (look .ensures .1 .0) _ _ (first .ensures .0) p (loop .inv .0) (look .ensures .1 .1) (W .idle) })
+    let p : 0 < (loop .pending) = omega (arith, (loop-test .taken)) in let lz : (first .result) < 64 = omega (arith, (first .ensures .0), first-lt (loop .pending) p (loop .inv .0)) in let u : undoneW (args .full .now) (loop .epochs) (loop .latest) (first .result) ≡ true = sym (undoes .ensures) ∙ (if1 .taken) in (joined-lt _ _ _ _ _ (look .ensures .1 .1) (loop .inv .0), λ cut S K. let W = (loop .inv .1) cut S K in record { lowers = look-lowers _ _ _ _ (W .looking) _ _ _ S K lz u _ _ _ (look .ensures .0) (look .ensures .1 .0) _ (W .lowers); looking = looking-next _ _ _ _ (W .looking) _ _ _ S K lz u _ _ _ (look .ensures .0) (look .ensures .1 .0); idle = look-idle _ _ _ _ (W .looking) _ _ _ S K lz u _ _ _ (look .ensures .0) (look .ensures .1 .0) _ _ (first .ensures .0) p (loop .inv .0) (look .ensures .1 .1) (W .idle) })
 
 loop-less-2 : tie.Need-loop-less-2 Inv-loop μ-loop
 loop-less-2 c =
@@ -91,14 +91,14 @@ loop-again-2 c =
 same-length : tie.Need-same-length Inv-loop μ-loop
 same-length c =
     let loop = c .before .loop in
-    let pre = c .before .before .before .before .before .pre in
-    (loop .inv .1) (pre .1 .0) (pre .1 .1) (pre .1 .2) .looking .wide ∙ sym ((pre .1 .2) .wide)
+    let pre = c .before .before .before .before .before .before .pre in
+    (loop .inv .1) (pre .2 .0) (pre .2 .1) (pre .2 .2) .looking .wide ∙ sym ((pre .2 .2) .wide)
 
 returns : tie.Need-returns Inv-loop μ-loop
 returns c =
     let loop = c .before .loop in
     let loop-test = c .loop-test in
-    (λ cut S K. let W = (loop .inv .1) cut S K in looking-ends _ _ _ _ (W .looking) _ (W .lowers) (looking-stops _ _ _ _ (W .looking) (working-ends _ _ _ _ _ _ W (loop-test .left))), λ cut S K. let W = (loop .inv .1) cut S K in looking-stops _ _ _ _ (W .looking) (working-ends _ _ _ _ _ _ W (loop-test .left)))
+    (λ cut S K. let W = (loop .inv .1) cut S K in looking-ends _ _ _ _ (W .looking) _ _ (W .lowers) (looking-stops _ _ _ _ (W .looking) (working-ends _ _ _ _ _ _ _ W (loop-test .left))), λ cut S K. let W = (loop .inv .1) cut S K in looking-stops _ _ _ _ (W .looking) (working-ends _ _ _ _ _ _ _ W (loop-test .left)))
 
 pub lower-spec : {M : Type 1} → statement M
 lower-spec =

@@ -1,11 +1,14 @@
--- The newest events of the processes, linked, and what is read at them.
+-- The newest events of the processes, linked, and what is read at them; the latest finished epochs, counted.
 use Prim.Native.Nat.{ℕ, _+_, _-_, _<_, _≤_}
 use mathlib.Core.Path.{_≡_}
 use mathlib.Core.Bool.{_||_, cond}
 use mathlib.Core.List.{List}
 use lib.ListN.{length, getD}
 use lib.Dec.{eqb}
-use Rattle.columns.specs.Inner.Columns.{phaseBase, fullWords}
+use Rattle.trace.specs.Trace.{Trace}
+use Rattle.theory.specs.Events.{size}
+use Rattle.theory.specs.Epochs.{finishedAt}
+use Rattle.columns.specs.Inner.Columns.{phaseBase, fullWords, Tabled}
 use Rattle.columns.specs.Inner.Full.{atW, epochW, phaseW}
 use Rattle.recovery_line.specs.Inner.Words.{Sized}
 
@@ -14,6 +17,17 @@ pub record Newest (t : List ℕ) (z x e : ℕ) : Type 0 where
   pub within : e ≤ x
   pub own : 0 < e → atW t e ≡ z
   pub others : (y : ℕ) → e < y → y ≤ x → atW t y ≡ z → ⊥
+
+-- what `finished_at` is given: the full table of a trace, a cut of it, and 1 for each process
+pub record Uncounted (t : Trace) (full : List ℕ) (cut : ℕ) (finished : List ℕ) : Type 0 where
+  pub tabled : Tabled t full
+  pub within : cut ≤ size t
+  pub wide : length finished ≡ 64
+  pub ones : (z : ℕ) → z < 64 → getD finished z 0 ≡ 1
+
+-- the latest finished epoch of each process after event x
+pub record Finished (full : List ℕ) (x : ℕ) (finished : List ℕ) : Type 0 where
+  pub counts : (t : Trace) → Tabled t full → x ≤ size t → (z : ℕ) → z < 64 → getD finished z 0 ≡ finishedAt t z x
 
 -- what `link` is given: room for the links, and no event linked yet
 pub record Unlinked (t : List ℕ) (cut : ℕ) (earlier latest : List ℕ) : Type 0 where
