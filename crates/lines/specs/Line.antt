@@ -10,7 +10,7 @@ use Rattle.text.specs.Number.{numberAt}
 use Rattle.text.specs.Bytes.{bytesOf}
 use Rattle.text.specs.Key.{keyAt, fieldAt}
 use Rattle.lines.specs.declared.Line.{Line}
-use Rattle.lines.specs.declared.Line.the-variants.{Procs, Send, Recv, Save, Failure, Malformed}
+use Rattle.lines.specs.declared.Line.the-variants.{Procs, Send, Recv, Save, Done, Failure, Malformed}
 
 -- the keys, byte for byte, with the space before those that follow another
 abbrev pub kProcs : List ℕ
@@ -33,6 +33,9 @@ kFrom = bytesOf " from="
 
 abbrev pub kSave : List ℕ
 kSave = bytesOf "ev=save at="
+
+abbrev pub kDone : List ℕ
+kDone = bytesOf "ev=done at="
 
 abbrev pub kFail : List ℕ
 kFail = bytesOf "fail="
@@ -78,9 +81,9 @@ recvSaid l =
     thenLine (numberAt l (length kRecv) most) (λ a p.
     thenLine (fieldAt l p kFrom most) (λ b q. whenEnd (eqb q (length l)) (Recv a b)))
 
--- `ev=save at=A`
-unfoldable pub saveSaid : List ℕ → Line
-saveSaid l = thenLine (numberAt l (length kSave) most) (λ a p. whenEnd (eqb p (length l)) (Save a))
+-- `ev=save at=A`; `ev=done at=A` (document 02, item 5): by the key, and what it says of A
+unfoldable pub processSaid : List ℕ → (ℕ → Line) → List ℕ → Line
+processSaid key says l = thenLine (numberAt l (length key) most) (λ a p. whenEnd (eqb p (length l)) (says a))
 
 -- `fail=K set=M`
 unfoldable pub failSaid : List ℕ → Line
@@ -92,6 +95,7 @@ unfoldable pub lineSaid : List ℕ → Line
 lineSaid l =
     cond (keyAt l 0 kSend) (sendSaid l)
     (cond (keyAt l 0 kRecv) (recvSaid l)
-    (cond (keyAt l 0 kSave) (saveSaid l)
+    (cond (keyAt l 0 kSave) (processSaid kSave Save l)
+    (cond (keyAt l 0 kDone) (processSaid kDone Done l)
     (cond (keyAt l 0 kProcs) (procsSaid l)
-    (cond (keyAt l 0 kFail) (failSaid l) Malformed))))
+    (cond (keyAt l 0 kFail) (failSaid l) Malformed)))))

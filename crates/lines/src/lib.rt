@@ -1,19 +1,22 @@
-// What one line of text says: a process count, a send, a receive, a checkpoint or a failure, each with its numbers, or
-// none of these. specs/Line says it for every line, specs/Render the text of an event and of a failure; proofs/OneLine
+// What one line of text says: a process count, a send, a receive, a checkpoint, the end of one or a failure, each with
+// its numbers, or none of these. specs/Line says it for every line, specs/Render the text of an event and of a failure; proofs/OneLine
 // that a line says it exactly if it is that text. No public function has a `requires`. Assumes nothing.
 ghost use mathlib.Core.Path.{_≡_};
 ghost use lib.Dec.{eqb};
 ghost use lib.ListN.{length};
-ghost use Rattle.lines.specs.Line.{whenEnd, lineSaid, procsSaid, sendSaid, recvSaid, saveSaid, failSaid};
+ghost use mathlib.Core.Bool.{cond};
+ghost use Rattle.lines.specs.declared.Line.the-variants.{Save, Done};
+ghost use Rattle.lines.specs.Line.{kSave, kDone, whenEnd, lineSaid, procsSaid, sendSaid, recvSaid, processSaid, failSaid};
 use text::Num;
 
-// What a line says: a process count, a send, a receive, a checkpoint or a failure, each with its numbers; or none of
-// these.
+// What a line says: a process count, a send, a receive, a checkpoint, the end of one or a failure, each with its
+// numbers; or none of these.
 pub enum Line {
     Procs(u64),
     Send(u64, u64, u64),
     Recv(u64, u64),
     Save(u64),
+    Done(u64),
     Failure(u64, u64),
     Malformed,
 }
@@ -81,12 +84,16 @@ fn recv_line(line: &[u8]) -> Line
     when_end(line, q, Line::Recv(a, b))
 }
 
-fn save_line(line: &[u8]) -> Line
-    ensures { λ r. ⌜ r ≡ saveSaid (now (line .entry)) ⌝ }
+// A line with a process only: the end of a checkpoint, where `done`, else a checkpoint.
+fn process_line(line: &[u8], done: bool) -> Line
+    ensures { λ r. ⌜ r ≡ cond done (processSaid kDone Done (now (line .entry))) (processSaid kSave Save (now (line .entry))) ⌝ }
 {
     let Num::Value(a, p) = text::number(line, 11, MOST) else {
         return Line::Malformed;
     };
+    if done {
+        return when_end(line, p, Line::Done(a));
+    }
     when_end(line, p, Line::Save(a))
 }
 
@@ -116,7 +123,10 @@ pub fn read_line(line: &[u8]) -> Line
         return recv_line(line);
     }
     if text::key(line, 0, b"ev=save at=") {
-        return save_line(line);
+        return process_line(line, false);
+    }
+    if text::key(line, 0, b"ev=done at=") {
+        return process_line(line, true);
     }
     if text::key(line, 0, b"procs=") {
         return procs_line(line);

@@ -20,7 +20,8 @@ use Rattle.reader.specs.Failure.{Failing, refused, failing, lastFailure,
 use Rattle.reader.specs.declared.Answer.{Answer}
 use Rattle.reader.specs.declared.FailureAnswer.{FailureAnswer}
 use Rattle.reader.specs.Verdict.{Verdict, accepted, verdict}
-use Rattle.reader.specs.Meaning.{ReadAccepts, FailureAccepts, FailureTold, ReadAs, FailureReadAs, Numbered, ReadRefuses, FailureRefuses}
+use Rattle.reader.specs.Meaning.{ReadAccepts, FailureAccepts, FailureTold, ReadAs, FailureReadAs, TextNumber, Numbered, ReadRefuses, FailureRefuses}
+use Rattle.reader.proofs.Judging.{text-number}
 use Rattle.reader.proofs.Refusals.{verdict-fault, failure-fault}
 use Rattle.reader.proofs.Whole.{verdict-taken, render-taken, failing-taken, render-failing, refused-number, verdict-number}
 
@@ -65,7 +66,7 @@ failing-fit text t step set e = canonical-failing text t step set .0 e .0
 -- ---- Answers
 
 answered-of : (text : List ℕ) (v : Verdict) → verdict text ≡ v → verdictAnswer v .number ≡ 0 → (t : Trace) × (verdict text ≡ accepted t)
-answered-of text (Verdict.refused n k) e z = absurd (let q : ⊥ = omega (arith, verdict-number text n k e) in q)
+answered-of text (Verdict.refused n k) e z = absurd (let q : ⊥ = omega (arith, text-number n (verdict-number text n k e) .0) in q)
 answered-of text (Verdict.accepted t) e z = (t, e)
 
 -- "An answer has the number (0 if accepted)": what is answered with 0 is accepted as a trace, and the area is large
@@ -79,7 +80,7 @@ answered text a z =
 
 failing-of : (text : List ℕ) (x : Failing) → lastFailure text ≡ x → failureAnswerOf x .number ≡ 0
     → (t : Trace) × (lastFailure text ≡ failing t (failureAnswerOf x .step) (failureAnswerOf x .set))
-failing-of text (Failing.refused n k) e z = absurd (let q : ⊥ = omega (arith, refused-number text n k e) in q)
+failing-of text (Failing.refused n k) e z = absurd (let q : ⊥ = omega (arith, text-number n (refused-number text n k e) .0) in q)
 failing-of text (Failing.failing t step set) e z = (t, e)
 
 -- The same for a text with its failure line, of which the answer has the numbers.
@@ -136,12 +137,13 @@ fit-numbered size high =
       nowhere = λ e. refl;
     }
 
-unfit-numbered : (size n k : ℕ) → areaWords ≤ size → (1 ≤ n) × (n ≤ 7) → Numbered size n k
+unfit-numbered : (size n k : ℕ) → areaWords ≤ size → TextNumber n → Numbered size n k
 unfit-numbered size n k high r =
+    let (some, other) = text-number n r in
     record {
-      short = (λ e. omega (arith, r .1), λ l. omega arith);
+      short = (λ e. absurd (other e), λ l. omega arith);
       numbers = λ z t. r;
-      nowhere = ⊎-elim (λ z. absurd (let q : ⊥ = omega (arith, r .0) in q)) (λ t. absurd (let q : ⊥ = omega (arith, r .1) in q));
+      nowhere = ⊎-elim (λ z. absurd (let q : ⊥ = omega arith in q)) (λ t. absurd (other t));
     }
 
 read-as : (n k : ℕ) (x : List ℕ) → verdict x ≡ Verdict.refused n k → ReadAs (record { number = n; place = k }) x

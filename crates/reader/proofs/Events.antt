@@ -10,7 +10,7 @@ use lib.ListN.{length, length-append}
 use borrow.Author.Tests.{leb-true, le-leb, lt-leb, eqb-true, eq-eqb, ne-eqb}
 use Rattle.words.proofs.Cases.{by-eq, and-left, and-right, and-both}
 use Rattle.trace.specs.declared.Event.{Event}
-use Rattle.trace.specs.declared.Event.the-variants.{Send, Recv, Save}
+use Rattle.trace.specs.declared.Event.the-variants.{Send, Recv, Save, Done}
 use Rattle.trace.specs.Trace.{Trace, withEvents, extended}
 use Rattle.trace.specs.Fit.{eventFault, valueFits, allFit}
 use Rattle.lines.specs.declared.Line.{Line}
@@ -20,7 +20,7 @@ use Rattle.lines.specs.Line.{lineSaid, most, mostValue, mostSet}
 use Rattle.lines.specs.Render.{renderEvent, renderFailure, KeysHold}
 use Rattle.reader.specs.Render.{renderEvents}
 use Rattle.reader.specs.Verdict.{pieces, faultHere, judgeEvent, judge, Scan, afterLine, linesFrom}
-use Rattle.trace.proofs.Faults.{send-fit, recv-fit, save-fit}
+use Rattle.trace.proofs.Faults.{send-fit, recv-fit, save-fit, done-fit}
 use Rattle.reader.proofs.Judging.{fit-few}
 use Rattle.reader.proofs.Turns.{with-lf}
 use Rattle.lines.proofs.OneLine.{Says, failure-text, line-says, lineFor, event-line}
@@ -58,6 +58,7 @@ judge-told t l (line.the-variants.Procs n) s = tt
 judge-told t l (line.the-variants.Send at to val) s = event-told t l (Send at to val) (s .0) (le-leb val mostValue (s .1 .2))
 judge-told t l (line.the-variants.Recv at from) s = event-told t l (Recv at from) (s .0) refl
 judge-told t l (line.the-variants.Save at) s = event-told t l (Save at) (s .0) refl
+judge-told t l (line.the-variants.Done at) s = event-told t l (Done at) (s .0) refl
 judge-told t l (line.the-variants.Failure step set) s = s
 judge-told t l line.the-variants.Malformed s = tt
 
@@ -165,12 +166,14 @@ fit-small : (n : ℕ) (before : List Event) (e : Event) → n ≤ 64 → eventFa
 fit-small n before (Send at to val) r z v = let f = send-fit n before at to val z in (omega arith, omega arith, leb-true val mostValue v)
 fit-small n before (Recv at from) r z v = let f = recv-fit n before at from z in (omega arith, omega arith)
 fit-small n before (Save at) r z v = let f = save-fit n before at z in omega arith
+fit-small n before (Done at) r z v = let f = done-fit n before at z in omega arith
 
 pub judge-event : (t : Trace) (e : Event) → judge t (lineFor e) ≡ judgeEvent t e
 unfolding judge
 judge-event t (Send at to val) = refl
 judge-event t (Recv at from) = refl
 judge-event t (Save at) = refl
+judge-event t (Done at) = refl
 
 event-judged : (t : Trace) (e : Event) → t .procs ≤ 64 → length (t .events) < 2048 → eventFault (t .procs) (t .events) e ≡ 0 → valueFits e ≡ true
     → judge t (lineSaid (renderEvent e)) ≡ Fit e

@@ -14,8 +14,8 @@ use Rattle.text.specs.Bytes.{bytesOf}
 use Rattle.text.specs.Number.{numberAt}
 use Rattle.text.specs.Key.{keyAt, startsWith, fieldAt}
 use Rattle.lines.specs.declared.Line.{Line}
-use Rattle.lines.specs.declared.Line.the-variants.{Procs, Send, Recv, Save, Failure, Malformed}
-use Rattle.lines.specs.Line.{kSend, kTo, kVal, kRecv, kFrom, kSave, kProcs, kFail, kSet, most, mostValue, mostSet, thenLine, whenEnd, procsSaid, sendSaid, recvSaid, saveSaid, failSaid, lineSaid}
+use Rattle.lines.specs.declared.Line.the-variants.{Procs, Send, Recv, Save, Done, Failure, Malformed}
+use Rattle.lines.specs.Line.{kSend, kTo, kVal, kRecv, kFrom, kSave, kDone, kProcs, kFail, kSet, most, mostValue, mostSet, thenLine, whenEnd, procsSaid, sendSaid, recvSaid, processSaid, failSaid, lineSaid}
 use Rattle.reader.specs.Inner.Reading.{countOnly}
 
 -- two keys that differ in their first byte do not stand in the same place
@@ -58,9 +58,9 @@ no-recv l =
     (λ a p. no-count _ (λ b q. no-end (eqb q (length l)) (Recv a b) (record { is = refl })) (fieldAt l p kFrom most))
     (numberAt l (length kRecv) most)
 
-no-save : (l : List ℕ) → NoCount (saveSaid l)
-unfolding saveSaid countOnly
-no-save l = no-count _ (λ a p. no-end (eqb p (length l)) (Save a) (record { is = refl })) (numberAt l (length kSave) most)
+no-process : (key : List ℕ) (says : ℕ → Line) → ((a : ℕ) → NoCount (says a)) → (l : List ℕ) → NoCount (processSaid key says l)
+unfolding processSaid
+no-process key says h l = no-count _ (λ a p. no-end (eqb p (length l)) (says a) (h a)) (numberAt l (length key) most)
 
 no-fail : (l : List ℕ) → NoCount (failSaid l)
 unfolding failSaid countOnly
@@ -95,7 +95,7 @@ module _ (l : List ℕ) (b : Bool) (e : b ≡ keyAt l 0 kProcs) where
   unfolding lineSaid
   first-procs t =
       let k : startsWith l kProcs ≡ true = sym e ∙ t in
-      rw (other-key l 112 101 _ (bytesOf "v=send at=") (λ q. omega arith) k, other-key l 112 101 _ (bytesOf "v=recv at=") (λ q. omega arith) k, other-key l 112 101 _ (bytesOf "v=save at=") (λ q. omega arith) k, k)
+      rw (other-key l 112 101 _ (bytesOf "v=send at=") (λ q. omega arith) k, other-key l 112 101 _ (bytesOf "v=recv at=") (λ q. omega arith) k, other-key l 112 101 _ (bytesOf "v=save at=") (λ q. omega arith) k, other-key l 112 101 _ (bytesOf "v=done at=") (λ q. omega arith) k, k)
       (sym (count-count l))
 
   pub first-none : b ≡ false → Malformed ≡ countOnly (lineSaid l)
@@ -106,4 +106,5 @@ module _ (l : List ℕ) (b : Bool) (e : b ≡ keyAt l 0 kProcs) where
       sym
       (no-form (keyAt l 0 kSend) _ _ (no-send l)
       (no-form (keyAt l 0 kRecv) _ _ (no-recv l)
-      (no-form (keyAt l 0 kSave) _ _ (no-save l) rest)) .is)
+      (no-form (keyAt l 0 kSave) _ _ (no-process kSave Save (λ a. record { is = refl }) l)
+      (no-form (keyAt l 0 kDone) _ _ (no-process kDone Done (λ a. record { is = refl }) l) rest))) .is)

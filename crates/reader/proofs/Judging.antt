@@ -1,6 +1,7 @@
 -- Laws of `judge`: one for each way out of the functions that judge a line, and what a line that is judged fit has.
 use Prim.Native.Nat.{ℕ, _<_, _≤_}
-use mathlib.Core.Path.{_≡_, refl, sym, ap, _∙_}
+use mathlib.Core.Path.{_≡_, refl, sym, ap, subst, _∙_}
+use mathlib.Core.Logic.{inl, inr}
 use mathlib.Core.List.{List}
 use mathlib.Core.Bool.{Bool, true, false, cond}
 use native.Mathlib.Omega.{arith}
@@ -8,8 +9,8 @@ use lib.Dec.{leb, eqb}
 use lib.ListN.{length}
 use borrow.Author.Tests.{leb-false, le-leb, lt-leb, eq-eqb, ne-eqb}
 use Rattle.trace.specs.declared.Event.{Event}
-use Rattle.trace.specs.declared.Event.the-variants.{Send, Recv, Save}
-use Rattle.trace.specs.Trace.{Trace, sendsIn, recvsIn, savesIn}
+use Rattle.trace.specs.declared.Event.the-variants.{Send, Recv, Save, Done}
+use Rattle.trace.specs.Trace.{Trace, sendsIn, recvsIn, savesIn, donesIn}
 use Rattle.trace.specs.Fit.{eventFault}
 use Rattle.words.proofs.Cases.{by-eq}
 use Rattle.lines.specs.declared.Line.{Line}
@@ -17,6 +18,7 @@ use Rattle.reader.specs.declared.Judged.{Judged}
 use Rattle.reader.specs.declared.Judged.the-variants.{Fit, Unfit}
 use Rattle.reader.specs.Inner.Reading.{judgedNumber}
 use Rattle.reader.specs.Verdict.{faultHere, judgeEvent, judge}
+use Rattle.reader.specs.Meaning.{TextNumber}
 use Rattle.trace.proofs.Faults.{or-zero}
 use Rattle.lines.specs.declared.Line as line
 
@@ -55,6 +57,7 @@ fit-line t (line.the-variants.Procs n) d h = let z : _≡_ {A = ℕ} 0 1 = cc in
 fit-line t (line.the-variants.Send a b v) d h = let q = fit-here t (Send a b v) d h in rw (q .0) at (q .1)
 fit-line t (line.the-variants.Recv a b) d h = let q = fit-here t (Recv a b) d h in rw (q .0) at (q .1)
 fit-line t (line.the-variants.Save a) d h = let q = fit-here t (Save a) d h in rw (q .0) at (q .1)
+fit-line t (line.the-variants.Done a) d h = let q = fit-here t (Done a) d h in rw (q .0) at (q .1)
 fit-line t (line.the-variants.Failure k m) d h = let z : _≡_ {A = ℕ} 0 1 = cc in omega arith
 fit-line t line.the-variants.Malformed d h = let z : _≡_ {A = ℕ} 0 1 = cc in omega arith
 
@@ -69,13 +72,22 @@ fit-judged t l j d said fit = fit-few t d (fit-line t l d (sym said ∙ fit))
 
 -- ---- The numbers
 
--- 0, or 3 to 7
+-- neither 0 nor 12
+pub text-number : (n : ℕ) → TextNumber n → (1 ≤ n) × (n ≡ 12 → ⊥)
+text-number n (inl r) = (r .0, λ e. omega (arith, r .1))
+text-number n (inr r) = (omega arith, λ e. omega arith)
+
+-- 0, or 3 to 7 or 15
 abbrev pub Ranged : ℕ → Type 0
-Ranged n = (n ≡ 0 → ⊥) → (3 ≤ n) × (n ≤ 7)
+Ranged n = (n ≡ 0 → ⊥) → (3 ≤ n) × TextNumber n
 
 or-range : (b : Bool) (k rest : ℕ) → 3 ≤ k → k ≤ 7 → Ranged rest → Ranged (cond b k rest)
-or-range true k rest l h r = λ z. (l, h)
+or-range true k rest l h r = λ z. (l, inl (omega arith, h))
 or-range false k rest l h r = r
+
+done-range : (b : Bool) → Ranged (cond b 15 0)
+done-range true = λ z. (omega arith, inr refl)
+done-range false = λ z. absurd (z refl)
 
 event-range : (n : ℕ) (es : List Event) (e : Event) → Ranged (eventFault n es e)
 unfolding eventFault
@@ -91,6 +103,7 @@ event-range n es (Recv a b) =
 event-range n es (Save a) =
     or-range (leb n a) 3 _ (omega arith) (omega arith) (
     or-range (leb 30 (savesIn a es)) 6 0 (omega arith) (omega arith) (λ z. absurd (z refl)))
+event-range n es (Done a) = or-range (leb n a) 3 _ (omega arith) (omega arith) (done-range (leb (savesIn a es) (donesIn a es)))
 
 pub fault-range : (t : Trace) (e : Event) → Ranged (faultHere t e)
 unfolding faultHere
@@ -104,22 +117,22 @@ event-number t e =
     (λ z. rw (eq-eqb (faultHere t e) 0 z) (sym z))
     (λ n. rw (ne-eqb (faultHere t e) 0 n))
 
-unfit-event : (t : Trace) (e : Event) (n : ℕ) → judgeEvent t e ≡ Unfit n → (1 ≤ n) × (n ≤ 7)
+unfit-event : (t : Trace) (e : Event) (n : ℕ) → judgeEvent t e ≡ Unfit n → TextNumber n
 unfolding judgeEvent
 unfit-event t e n h =
     by-eq (faultHere t e) 0
     (λ z. let q : Fit e ≡ Unfit n = rw (eq-eqb (faultHere t e) 0 z) at h in let w : _≡_ {A = ℕ} 0 1 = cc in absurd (let y : ⊥ = omega arith in y))
     (λ z. let q : Unfit (faultHere t e) ≡ Unfit n = rw (ne-eqb (faultHere t e) 0 z) at h in
     let m : faultHere t e ≡ n = cc in
-    let r = fault-range t e z in
-    (omega (arith, r .0), omega (arith, r .1)))
+    subst TextNumber m (fault-range t e z .1))
 
--- an unfit line's number is 1 to 7
-pub unfit-number : (t : Trace) (x : Line) (n : ℕ) → judge t x ≡ Unfit n → (1 ≤ n) × (n ≤ 7)
+-- an unfit line's number is 1 to 7 or 15
+pub unfit-number : (t : Trace) (x : Line) (n : ℕ) → judge t x ≡ Unfit n → TextNumber n
 unfolding judge
-unfit-number t (line.the-variants.Procs m) n h = let q = ap judgedNumber h in (omega (arith, q), omega (arith, q))
+unfit-number t (line.the-variants.Procs m) n h = let q = ap judgedNumber h in inl (omega (arith, q), omega (arith, q))
 unfit-number t (line.the-variants.Send a b v) n h = unfit-event t (Send a b v) n h
 unfit-number t (line.the-variants.Recv a b) n h = unfit-event t (Recv a b) n h
 unfit-number t (line.the-variants.Save a) n h = unfit-event t (Save a) n h
+unfit-number t (line.the-variants.Done a) n h = unfit-event t (Done a) n h
 unfit-number t (line.the-variants.Failure k m) n h = let z : _≡_ {A = ℕ} 0 1 = cc in absurd (let y : ⊥ = omega arith in y)
-unfit-number t line.the-variants.Malformed n h = let q = ap judgedNumber h in (omega (arith, q), omega (arith, q))
+unfit-number t line.the-variants.Malformed n h = let q = ap judgedNumber h in inl (omega (arith, q), omega (arith, q))

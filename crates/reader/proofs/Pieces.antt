@@ -10,13 +10,13 @@ use borrow.Author.Tests.{eqb-true, ne-eqb, not-true}
 use Rattle.words.proofs.Cases.{by-bool, by-lt, and-left, and-right, and-both}
 use Rattle.text.specs.Number.{lastDigits, decimal}
 use Rattle.trace.specs.declared.Event.{Event}
-use Rattle.trace.specs.declared.Event.the-variants.{Send, Recv, Save}
+use Rattle.trace.specs.declared.Event.the-variants.{Send, Recv, Save, Done}
 use Rattle.lines.specs.Line.{kProcs}
 use Rattle.lines.specs.Render.{renderEvent}
 use Rattle.reader.specs.Verdict.{grow, pieces}
 use Rattle.text.proofs.Numbers.{last-small, last-more}
 use Rattle.lines.proofs.Decimal.{last-none}
-use Rattle.lines.proofs.OneLine.{failureText, send-text, recv-text, save-text}
+use Rattle.lines.proofs.OneLine.{failureText, send-text, recv-text, save-text, done-text}
 
 -- pieces with an LF between each two
 unfoldable pub joined : List (List ℕ) → List ℕ
@@ -111,6 +111,7 @@ unfolding plain
 plain-event (Send a b v) = rw (send-text a b v) (plain-decimal a _ (plain-decimal b _ (plain-decimal v [] refl)))
 plain-event (Recv a b) = rw (recv-text a b) (plain-decimal a _ (plain-decimal b [] refl))
 plain-event (Save a) = rw (save-text a) (plain-decimal a [] refl)
+plain-event (Done a) = rw (done-text a) (plain-decimal a [] refl)
 
 pub plain-failure : (step set : ℕ) → plain (failureText step set) ≡ true
 unfolding plain

@@ -10,7 +10,7 @@ use borrow.Author.Tests.{lt-ltb, le-ltb}
 use Rattle.words.proofs.Cases.{and-left}
 use Rattle.text.specs.Number.{decimal}
 use Rattle.trace.specs.declared.Event.{Event}
-use Rattle.trace.specs.declared.Event.the-variants.{Send, Recv, Save}
+use Rattle.trace.specs.declared.Event.the-variants.{Send, Recv, Save, Done}
 use Rattle.trace.specs.Trace.{Trace, extended}
 use Rattle.trace.specs.Fit.{wellFormed}
 use Rattle.lines.specs.declared.Line.{Line}
@@ -22,7 +22,7 @@ use Rattle.reader.specs.Inner.Reading.{judgedNumber}
 use Rattle.reader.specs.Verdict.{pieces, faultHere, judge, Scan, afterLine, linesFrom, firstLine, scanPieces, scan, Verdict, verdictOf, verdict}
 use Rattle.reader.specs.Failure.{Failing, failingOf, lastFailure}
 use Rattle.reader.specs.Meaning.{CountFault, EventFault, AtFault, FirstFault, LaterFault, PastFailure}
-use Rattle.reader.proofs.Judging.{fault-range, event-number, unfit-number}
+use Rattle.reader.proofs.Judging.{text-number, fault-range, event-number, unfit-number}
 use Rattle.reader.proofs.Turns.{with-lf, first-lf}
 use Rattle.reader.proofs.Pieces.{joined, line-piece, plain, plain-piece, plains, plain-failure}
 use Rattle.reader.proofs.Events.{Wrong, Misjudged, judge-event}
@@ -37,6 +37,7 @@ no-count l n none (line.the-variants.Procs m) s h = absurd (none m (s .1) (s .0)
 no-count l n none (line.the-variants.Send at to val) s h = h
 no-count l n none (line.the-variants.Recv at from) s h = h
 no-count l n none (line.the-variants.Save at) s h = h
+no-count l n none (line.the-variants.Done at) s h = h
 no-count l n none (line.the-variants.Failure step set) s h = h
 no-count l n none line.the-variants.Malformed s h = h
 
@@ -53,6 +54,7 @@ no-event u l none (line.the-variants.Procs m) s = refl
 no-event u l none (line.the-variants.Send at to val) s = absurd (none (Send at to val) (s .1) (s .0))
 no-event u l none (line.the-variants.Recv at from) s = absurd (none (Recv at from) (s .1) (s .0))
 no-event u l none (line.the-variants.Save at) s = absurd (none (Save at) (s .1) (s .0))
+no-event u l none (line.the-variants.Done at) s = absurd (none (Done at) (s .1) (s .0))
 no-event u l none (line.the-variants.Failure step set) s = refl
 no-event u l none line.the-variants.Malformed s = refl
 
@@ -75,6 +77,7 @@ miscount-refused (line.the-variants.Procs m) n next (e, inr high) = rw (e, le-lt
 miscount-refused (line.the-variants.Send at to val) n next h = rw h
 miscount-refused (line.the-variants.Recv at from) n next h = rw h
 miscount-refused (line.the-variants.Save at) n next h = rw h
+miscount-refused (line.the-variants.Done at) n next h = rw h
 miscount-refused (line.the-variants.Failure step set) n next h = rw h
 miscount-refused line.the-variants.Malformed n next h = rw h
 
@@ -131,7 +134,7 @@ module _ (Same : List ℕ → Type 0) (text : List ℕ) (n k : ℕ) where
         place = h .place;
         bytes = h .bytes;
         fault = at-fault (EventFault u) (Misjudged u) (λ (x : List ℕ). Same (render u ++ x)) n
-            (λ l w. event-fault u l n (ap judgedNumber w) (unfit-number u (lineSaid l) n w .0))
+            (λ l w. event-fault u l n (ap judgedNumber w) (text-number n (unfit-number u (lineSaid l) n w) .0))
             (λ l p w more. lift (render u ++ (l ++ 10 ∷ more)) (later-unfit u (h .fit) l p more n w ∙ ap (Scan.refused n) (h .place)))
             (h .rest) (h .plain) (h .wrong);
       })

@@ -93,6 +93,7 @@ first-count (line.the-variants.Procs n) next = refl
 first-count (line.the-variants.Send a b v) next = refl
 first-count (line.the-variants.Recv a b) next = refl
 first-count (line.the-variants.Save a) next = refl
+first-count (line.the-variants.Done a) next = refl
 first-count (line.the-variants.Failure k m) next = refl
 first-count line.the-variants.Malformed next = refl
 
@@ -114,14 +115,15 @@ module _ (text : List ℕ) where
         ∙ first-count (lineSaid (take i text)) rest
         ∙ ap (λ (x : Line). firstLine x rest) (sym h)
 
-    pub scan-other : OneOf (1 ∷ 2 ∷ 3 ∷ 4 ∷ 5 ∷ []) (tagOf lineType.the-type l) → scan text ≡ refused 1 1
+    pub scan-other : OneOf (1 ∷ 2 ∷ 3 ∷ 4 ∷ 5 ∷ 6 ∷ []) (tagOf lineType.the-type l) → scan text ≡ refused 1 1
     scan-other o = scan-line ∙ by-case l o
       where
-        by-case : (x : Line) → OneOf (1 ∷ 2 ∷ 3 ∷ 4 ∷ 5 ∷ []) (tagOf lineType.the-type x) → firstLine x rest ≡ refused 1 1
-        by-case (line.the-variants.Procs n) o′ = absurd (miss (1 ∷ 2 ∷ 3 ∷ 4 ∷ 5 ∷ []) 0 tt o′)
+        by-case : (x : Line) → OneOf (1 ∷ 2 ∷ 3 ∷ 4 ∷ 5 ∷ 6 ∷ []) (tagOf lineType.the-type x) → firstLine x rest ≡ refused 1 1
+        by-case (line.the-variants.Procs n) o′ = absurd (miss (1 ∷ 2 ∷ 3 ∷ 4 ∷ 5 ∷ 6 ∷ []) 0 tt o′)
         by-case (line.the-variants.Send a b v) o′ = refl
         by-case (line.the-variants.Recv a b) o′ = refl
         by-case (line.the-variants.Save a) o′ = refl
+        by-case (line.the-variants.Done a) o′ = refl
         by-case (line.the-variants.Failure k m) o′ = refl
         by-case line.the-variants.Malformed o′ = refl
 

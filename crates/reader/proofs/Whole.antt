@@ -20,6 +20,7 @@ use Rattle.reader.specs.Render.{renderEvents, render}
 use Rattle.lines.specs.Render.{renderFailure}
 use Rattle.reader.specs.Failure.{Failing, refused, failing, lastLine, failingOf, lastFailure, failureAnswerOf}
 use Rattle.reader.specs.Verdict.{pieces, judge, Scan, linesFrom, firstLine, scanPieces, scan, Verdict, verdictOf, verdict}
+use Rattle.reader.specs.Meaning.{TextNumber}
 use Rattle.reader.proofs.Turns.{with-lf}
 use Rattle.lines.proofs.OneLine.{Says, failureText, failure-text, line-says, procs-line, failure-line}
 use Rattle.reader.proofs.Pieces.{joined, joined-grow, first-piece, joined-pieces, line-piece, plain, plains, plains-pieces, plain-procs, plain-failure}
@@ -33,6 +34,7 @@ Miscount (line.the-variants.Procs m) n = (n ≡ 2) × ((m < 2) ⊎ (64 < m))
 Miscount (line.the-variants.Send at to val) n = n ≡ 1
 Miscount (line.the-variants.Recv at from) n = n ≡ 1
 Miscount (line.the-variants.Save at) n = n ≡ 1
+Miscount (line.the-variants.Done at) n = n ≡ 1
 Miscount (line.the-variants.Failure step set) n = n ≡ 1
 Miscount line.the-variants.Malformed n = n ≡ 1
 
@@ -107,6 +109,7 @@ first-taken l m ms p (line.the-variants.Procs n) e s =
 first-taken l m ms p (line.the-variants.Send at to val) e s = first-broken (l ∷ (m ∷ ms)) 1 p (rw e refl)
 first-taken l m ms p (line.the-variants.Recv at from) e s = first-broken (l ∷ (m ∷ ms)) 1 p (rw e refl)
 first-taken l m ms p (line.the-variants.Save at) e s = first-broken (l ∷ (m ∷ ms)) 1 p (rw e refl)
+first-taken l m ms p (line.the-variants.Done at) e s = first-broken (l ∷ (m ∷ ms)) 1 p (rw e refl)
 first-taken l m ms p (line.the-variants.Failure step set) e s = first-broken (l ∷ (m ∷ ms)) 1 p (rw e refl)
 first-taken l m ms p line.the-variants.Malformed e s = first-broken (l ∷ (m ∷ ms)) 1 p (rw e refl)
 
@@ -208,21 +211,22 @@ render-failing t step set w h i =
 
 -- ---- The numbers of refusals
 
-miscount-number : (x : Line) (n : ℕ) → Miscount x n → (1 ≤ n) × (n ≤ 7)
-miscount-number (line.the-variants.Procs m) n h = (omega (arith, h .0), omega (arith, h .0))
-miscount-number (line.the-variants.Send at to val) n h = (omega arith, omega arith)
-miscount-number (line.the-variants.Recv at from) n h = (omega arith, omega arith)
-miscount-number (line.the-variants.Save at) n h = (omega arith, omega arith)
-miscount-number (line.the-variants.Failure step set) n h = (omega arith, omega arith)
-miscount-number line.the-variants.Malformed n h = (omega arith, omega arith)
+miscount-number : (x : Line) (n : ℕ) → Miscount x n → TextNumber n
+miscount-number (line.the-variants.Procs m) n h = inl (omega (arith, h .0), omega (arith, h .0))
+miscount-number (line.the-variants.Send at to val) n h = inl (omega arith, omega arith)
+miscount-number (line.the-variants.Recv at from) n h = inl (omega arith, omega arith)
+miscount-number (line.the-variants.Save at) n h = inl (omega arith, omega arith)
+miscount-number (line.the-variants.Done at) n h = inl (omega arith, omega arith)
+miscount-number (line.the-variants.Failure step set) n h = inl (omega arith, omega arith)
+miscount-number line.the-variants.Malformed n h = inl (omega arith, omega arith)
 
-wrong-number : (P : List ℕ → ℕ → Type 0) (ps : List (List ℕ)) (n : ℕ) → ((l : List ℕ) → P l n → (1 ≤ n) × (n ≤ 7)) → Wrong P ps n → (1 ≤ n) × (n ≤ 7)
-wrong-number P [] n f w = (omega arith, omega arith)
-wrong-number P (l ∷ []) n f w = (omega arith, omega arith)
+wrong-number : (P : List ℕ → ℕ → Type 0) (ps : List (List ℕ)) (n : ℕ) → ((l : List ℕ) → P l n → TextNumber n) → Wrong P ps n → TextNumber n
+wrong-number P [] n f w = inl (omega arith, omega arith)
+wrong-number P (l ∷ []) n f w = inl (omega arith, omega arith)
 wrong-number P (l ∷ (m ∷ ms)) n f w = f l w
 
--- 1 to 7
-pub taken-number : (text : List ℕ) (n k : ℕ) → Taken text (Scan.refused n k) → (1 ≤ n) × (n ≤ 7)
+-- 1 to 7, or 15
+pub taken-number : (text : List ℕ) (n k : ℕ) → Taken text (Scan.refused n k) → TextNumber n
 taken-number text n k (inl h) = wrong-number _ (h .rest) n (λ l w. miscount-number (lineSaid l) n w) (h .wrong)
 taken-number text n k (inr h) = wrong-number _ (h .rest) n (λ l w. unfit-number (h .last) (lineSaid l) n w) (h .wrong)
 
@@ -243,20 +247,20 @@ last-refused ((b ∷ l) ∷ ls) k t step set n j e =
 last-refused ([] ∷ (l ∷ ls)) k t step set n j e =
     (ap number (sym e), ap place e, λ q. omega (arith, ap length q))
 
-refused-of : (text : List ℕ) (n j : ℕ) (s : Scan) → Taken text s → failingOf s ≡ refused n j → (1 ≤ n) × (n ≤ 7)
-refused-of text n j (Scan.refused m k) h e = let y : m ≡ n = cc in let r = taken-number text m k h in (omega (arith, r .0), omega (arith, r .1))
-refused-of text n j (Scan.ended u k) h e = let y : _≡_ {A = ℕ} 1 n = cc in (omega arith, omega arith)
-refused-of text n j (Scan.stopped u i m k rest) h e = let r = last-refused rest k u i m n j e in (omega (arith, r .0), omega (arith, r .0))
+refused-of : (text : List ℕ) (n j : ℕ) (s : Scan) → Taken text s → failingOf s ≡ refused n j → TextNumber n
+refused-of text n j (Scan.refused m k) h e = let y : m ≡ n = cc in subst TextNumber y (taken-number text m k h)
+refused-of text n j (Scan.ended u k) h e = let y : _≡_ {A = ℕ} 1 n = cc in inl (omega arith, omega arith)
+refused-of text n j (Scan.stopped u i m k rest) h e = let r = last-refused rest k u i m n j e in inl (omega (arith, r .0), omega (arith, r .0))
 
-pub refused-number : (text : List ℕ) (n k : ℕ) → lastFailure text ≡ refused n k → (1 ≤ n) × (n ≤ 7)
+pub refused-number : (text : List ℕ) (n k : ℕ) → lastFailure text ≡ refused n k → TextNumber n
 unfolding lastFailure
 refused-number text n k e = refused-of text n k (scan text) (scan-taken text) e
 
-numbered-of : (text : List ℕ) (n j : ℕ) (s : Scan) → Taken text s → verdictOf s ≡ Verdict.refused n j → (1 ≤ n) × (n ≤ 7)
-numbered-of text n j (Scan.refused m k) h e = let y : m ≡ n = cc in let r = taken-number text m k h in (omega (arith, r .0), omega (arith, r .1))
+numbered-of : (text : List ℕ) (n j : ℕ) (s : Scan) → Taken text s → verdictOf s ≡ Verdict.refused n j → TextNumber n
+numbered-of text n j (Scan.refused m k) h e = let y : m ≡ n = cc in subst TextNumber y (taken-number text m k h)
 numbered-of text n j (Scan.ended u k) h e = let y : _≡_ {A = ℕ} 0 1 = cc in absurd (let z : ⊥ = omega arith in z)
-numbered-of text n j (Scan.stopped u i m k rest) h e = let y : _≡_ {A = ℕ} 1 n = cc in (omega arith, omega arith)
+numbered-of text n j (Scan.stopped u i m k rest) h e = let y : _≡_ {A = ℕ} 1 n = cc in inl (omega arith, omega arith)
 
-pub verdict-number : (text : List ℕ) (n k : ℕ) → verdict text ≡ Verdict.refused n k → (1 ≤ n) × (n ≤ 7)
+pub verdict-number : (text : List ℕ) (n k : ℕ) → verdict text ≡ Verdict.refused n k → TextNumber n
 unfolding verdict
 verdict-number text n k e = numbered-of text n k (scan text) (scan-taken text) e

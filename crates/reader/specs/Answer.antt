@@ -14,7 +14,8 @@ abbrev pub verdictAnswer : Verdict → Answer
 verdictAnswer (refused n k) = record { number = n; place = k }
 verdictAnswer (accepted t) = record { number = 0; place = 0 }
 
--- "After 1 to 7 the first 16,384 words of the table area are zero"; accepted: the trace's words
+-- "After 1 to 7 the first 16,384 words of the table area are zero"; of 15, "place and table area are as for 1 to 7"
+-- (document 02, item 5); accepted: the trace's words
 abbrev pub verdictWord : Verdict → ℕ → ℕ
 verdictWord (refused n k) i = 0
 verdictWord (accepted t) i = tableWord t i

@@ -54,8 +54,8 @@ pub record CountFault (line : List ℕ) (n : ℕ) : Type 0 where
   pub range : (m : ℕ) → m ≤ most → line ≡ kProcs ++ decimal m → (n ≡ 2) × ((m < 2) ⊎ (64 < m))
   pub form : ((m : ℕ) → m ≤ most → line ≡ kProcs ++ decimal m → ⊥) → n ≡ 1
 
--- What is wrong with a line after the events of a trace: 7, 3, 4, 5 or 6 of the event that it says, or 1 where it says
--- none ("the line isn't a form due at that place", "or a number exceeds the largest its key can hold").
+-- What is wrong with a line after the events of a trace: 7, 3, 4, 5, 6 or 15 of the event that it says, or 1 where it
+-- says none ("the line isn't a form due at that place", "or a number exceeds the largest its key can hold").
 pub record EventFault (before : Trace) (line : List ℕ) (n : ℕ) : Type 0 where
   pub rule : (e : Event) → KeysHold e → line ≡ renderEvent e → (n ≡ faultHere before e) × (3 ≤ n)
   pub form : ((e : Event) → KeysHold e → line ≡ renderEvent e → ⊥) → n ≡ 1
@@ -115,12 +115,16 @@ ReadAs r text = (a : List ℕ) → areaWords ≤ length a → readAnswer text a 
 abbrev pub FailureReadAs : FailureAnswer → List ℕ → Type 0
 FailureReadAs r text = (a : List ℕ) → areaWords ≤ length a → failureAnswer text a ≡ r
 
+-- "Who writes the trace": 1 to 7, and 15 (document 02, item 5: "when a `done` finds no unfinished save")
+abbrev pub TextNumber : ℕ → Type 0
+TextNumber n = ((1 ≤ n) × (n ≤ 7)) ⊎ (n ≡ 15)
+
 -- what the number n and the place k of an answer are
 pub record Numbered (size n k : ℕ) : Type 0 where
   -- "12: a table or run area is under 16,384 words", the first in the order
   pub short : (n ≡ 12) ↔ (size < areaWords)
-  -- "Who writes the trace": 1 to 7
-  pub numbers : (n ≡ 0 → ⊥) → (n ≡ 12 → ⊥) → (1 ≤ n) × (n ≤ 7)
+  -- any other is for who writes the trace
+  pub numbers : (n ≡ 0 → ⊥) → (n ≡ 12 → ⊥) → TextNumber n
   -- "a place: the text line from 1, .. else 0"
   pub nowhere : (n ≡ 0) ⊎ (n ≡ 12) → k ≡ 0
 

@@ -1,12 +1,13 @@
 -- The reader's verdict on a text: line by line from the top, the first faulty line decides (document 01, "Numbers given
--- by whoever causes them": "for text line by line 1, 7, 2, 3, 4, 5, 6").
+-- by whoever causes them": "for text line by line 1, 7, 2, 3, 4, 5, 6"; document 02, item 5: "15 when a `done` finds no
+-- unfinished save, after 6").
 use Prim.Native.Nat.{ℕ, _+_}
 use mathlib.Core.List.{List, [], _∷_}
 use mathlib.Core.Bool.{cond}
 use lib.ListN.{length}
 use lib.Dec.{leb, ltb, eqb}
 use Rattle.trace.specs.declared.Event.{Event}
-use Rattle.trace.specs.declared.Event.the-variants.{Send, Recv, Save}
+use Rattle.trace.specs.declared.Event.the-variants.{Send, Recv, Save, Done}
 use Rattle.trace.specs.Trace.{Trace, started, extended}
 use Rattle.trace.specs.Fit.{eventFault}
 use Rattle.lines.specs.declared.Line.{Line}
@@ -27,7 +28,7 @@ pieces [] = [] ∷ []
 pieces (b ∷ bs) = cond (eqb b 10) ([] ∷ pieces bs) (grow b (pieces bs))
 
 -- what is wrong with an event as the next of a trace, or 0: a 2,049th is 7, before its processes are looked at; then 3,
--- 4, 5, 6
+-- 4, 5, 6, 15
 unfoldable pub faultHere : Trace → Event → ℕ
 faultHere t e = cond (leb 2048 (length (t .events))) 7 (eventFault (t .procs) (t .events) e)
 
@@ -40,6 +41,7 @@ judge t (line.the-variants.Procs n) = Unfit 1
 judge t (line.the-variants.Send at to val) = judgeEvent t (Send at to val)
 judge t (line.the-variants.Recv at from) = judgeEvent t (Recv at from)
 judge t (line.the-variants.Save at) = judgeEvent t (Save at)
+judge t (line.the-variants.Done at) = judgeEvent t (Done at)
 judge t (line.the-variants.Failure step set) = Fails step set
 judge t line.the-variants.Malformed = Unfit 1
 
@@ -72,6 +74,7 @@ firstLine (line.the-variants.Procs n) next = cond (ltb n 2) (refused 2 1) (cond 
 firstLine (line.the-variants.Send at to val) next = refused 1 1
 firstLine (line.the-variants.Recv at from) next = refused 1 1
 firstLine (line.the-variants.Save at) next = refused 1 1
+firstLine (line.the-variants.Done at) next = refused 1 1
 firstLine (line.the-variants.Failure step set) next = refused 1 1
 firstLine line.the-variants.Malformed next = refused 1 1
 

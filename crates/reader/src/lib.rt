@@ -12,6 +12,7 @@ ghost use Rattle.reader.specs.Failure.{lastFailure, traceOf, failureAnsw
 ghost use Rattle.reader.specs.Meaning.{ReadAccepts, ReadRefuses, FailureAccepts, FailureTold, FailureRefuses};
 ghost use Rattle.words.specs.Area.{areaWords, wordsFrom};
 ghost use Rattle.trace.specs.Trace.{Trace, started};
+ghost use Rattle.trace.specs.Inner.Tally.{countWords};
 ghost use Rattle.reader.specs.Verdict.{faultHere, judgeEvent, judge, linesFrom, pieces, scan, verdict};
 ghost use Rattle.reader.specs.Inner.Reading.{countOnly, Tallied, Opened, appended, judgedNumber, ScanOutcome, refusalOf, failureRefusal};
 use lines::Line;
@@ -61,7 +62,7 @@ fn first_line(line: &[u8]) -> Line
 
 // What is wrong with an event after n others, which are counted.
 fn fault(counts: &[u16], procs: u64, n: usize, e: Event) -> u32
-    requires { ⌜ (procs ≤ 64) × (length (now counts) ≡ 4160) ⌝ }
+    requires { ⌜ (procs ≤ 64) × (length (now counts) ≡ countWords) ⌝ }
     ensures { λ r. ⌜ ((t : Trace) → Tallied (now (counts .entry)) procs n t → r ≡ faultHere t e) ⌝ }
 {
     if n >= 2048 {
@@ -71,7 +72,7 @@ fn fault(counts: &[u16], procs: u64, n: usize, e: Event) -> u32
 }
 
 fn judge_event(counts: &[u16], procs: u64, n: usize, e: Event) -> Judged
-    requires { ⌜ (procs ≤ 64) × (length (now counts) ≡ 4160) ⌝ }
+    requires { ⌜ (procs ≤ 64) × (length (now counts) ≡ countWords) ⌝ }
     ensures { λ r. ⌜ ((t : Trace) → Tallied (now (counts .entry)) procs n t → r ≡ judgeEvent t e) ⌝ }
 {
     let f = fault(counts, procs, n, e);
@@ -84,7 +85,7 @@ fn judge_event(counts: &[u16], procs: u64, n: usize, e: Event) -> Judged
 
 // A line after the first, where n events stand before it.
 fn judge_line(counts: &[u16], procs: u64, n: usize, line: Line) -> Judged
-    requires { ⌜ (procs ≤ 64) × (length (now counts) ≡ 4160) ⌝ }
+    requires { ⌜ (procs ≤ 64) × (length (now counts) ≡ countWords) ⌝ }
     ensures { λ r. ⌜ ((t : Trace) → Tallied (now (counts .entry)) procs n t → r ≡ judge t line) ⌝ }
 {
     match line {
@@ -101,6 +102,7 @@ fn judge_line(counts: &[u16], procs: u64, n: usize, line: Line) -> Judged
         ),
         Line::Recv(a, b) => judge_event(counts, procs, n, Event::Recv { at: a, from: b }),
         Line::Save(a) => judge_event(counts, procs, n, Event::Save { at: a }),
+        Line::Done(a) => judge_event(counts, procs, n, Event::Done { at: a }),
         Line::Failure(k, m) => Judged::Fails(k, m),
         Line::Malformed => Judged::Unfit(1),
     }

@@ -11,13 +11,13 @@ use Rattle.words.specs.Halves.{half, fromHalves}
 use Rattle.words.proofs.Cases.{and-left, and-right}
 use Rattle.words.proofs.Halves.{halves-back}
 use Rattle.trace.specs.declared.Event.{Event}
-use Rattle.trace.specs.declared.Event.the-variants.{Send, Recv, Save}
+use Rattle.trace.specs.declared.Event.the-variants.{Send, Recv, Save, Done}
 use Rattle.trace.specs.Fit.{eventFault, valueFits, allFit}
 use Rattle.trace.specs.Table.{wordOf, processIn, valueWord, tableWord}
 use Rattle.trace.proofs.Places.{word-event, word-value, word-at, word-peer, word-top}
-use Rattle.trace.proofs.Faults.{send-fit, recv-fit, save-fit}
+use Rattle.trace.proofs.Faults.{send-fit, recv-fit, save-fit, done-fit}
 use Rattle.table.specs.Held.{eventOf, heldEvent, heldEvents, held}
-use Rattle.table.proofs.Turns.{event-send, event-recv, event-save}
+use Rattle.table.proofs.Turns.{event-send, event-recv, event-save, event-done}
 
 -- past the last event a column is 0
 past : (f : Event → ℕ) (es : List Event) (j : ℕ) → length es ≤ j → getD (map f es) j 0 ≡ 0
@@ -79,7 +79,12 @@ event-back n before (Save at) r z v =
     let f = save-fit n before at z in
     let w = at % 64 + 12288 in
     let p : processIn w ≡ at = omega arith in
-    sym (event-save w _ (λ k. omega arith) (λ k. omega arith)) ∙ rw p
+    sym (event-save w _ (λ k. omega arith) (λ k. omega arith) (omega arith)) ∙ rw p
+event-back n before (Done at) r z v =
+    let f = done-fit n before at z in
+    let w = at % 64 in
+    let p : processIn w ≡ at = omega arith in
+    sym (event-done w _ (λ k. omega arith) (λ k. omega arith) (λ k. omega arith)) ∙ rw p
 
 -- fit events are those that an area with their words says
 pub events-back : (n : ℕ) (before : List Event) (a : List ℕ) (i : ℕ) (es : List Event) → n ≤ 64 → allFit n before es ≡ true

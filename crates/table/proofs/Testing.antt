@@ -74,7 +74,7 @@ unfolding eventOf
 value-fits w v h =
     by-bool (eqb (topIn w) 1)
     (λ e. rw e (le-leb v 18446744073709551615 h))
-    (λ e. by-bool (eqb (topIn w) 2) (λ f. rw (e, f)) (λ f. rw (e, f)))
+    (λ e. by-bool (eqb (topIn w) 2) (λ f. rw (e, f)) (λ f. by-bool (eqb (topIn w) 3) (λ g. rw (e, f, g)) (λ g. rw (e, f, g))))
 
 -- halves that were tested: each is that of the value, and they are words
 module _ (v low high : ℕ) where

@@ -12,7 +12,7 @@ use borrow.Author.Tests.{le-leb, lt-leb, eq-eqb, ne-eqb, eqb-true}
 use Rattle.words.specs.Halves.{half, fromHalves}
 use Rattle.words.proofs.Cases.{by-eq, and-right}
 use Rattle.trace.specs.declared.Event.{Event}
-use Rattle.trace.specs.declared.Event.the-variants.{Send, Recv, Save}
+use Rattle.trace.specs.declared.Event.the-variants.{Send, Recv, Save, Done}
 use Rattle.trace.specs.Fit.{eventFault}
 use Rattle.trace.specs.Inner.Tally.{Tally, faultBy}
 use Rattle.trace.proofs.Faults.{fault-counted}
@@ -31,9 +31,19 @@ module _ (w v : ℕ) where
   unfolding eventOf
   event-recv n h = rw (ne-eqb (topIn w) 1 n, eq-eqb (topIn w) 2 h)
 
-  pub event-save : (topIn w ≡ 1 → ⊥) → (topIn w ≡ 2 → ⊥) → Save (processIn w) ≡ eventOf w v
+  pub event-save : (topIn w ≡ 1 → ⊥) → (topIn w ≡ 2 → ⊥) → topIn w ≡ 3 → Save (processIn w) ≡ eventOf w v
   unfolding eventOf
-  event-save n m = rw (ne-eqb (topIn w) 1 n, ne-eqb (topIn w) 2 m)
+  event-save n m h = rw (ne-eqb (topIn w) 1 n, ne-eqb (topIn w) 2 m, eq-eqb (topIn w) 3 h)
+
+  pub event-done : (topIn w ≡ 1 → ⊥) → (topIn w ≡ 2 → ⊥) → (topIn w ≡ 3 → ⊥) → Done (processIn w) ≡ eventOf w v
+  unfolding eventOf
+  event-done n m k = rw (ne-eqb (topIn w) 1 n, ne-eqb (topIn w) 2 m, ne-eqb (topIn w) 3 k)
+
+  -- only a send has a value of its own
+  no-value : (topIn w ≡ 1 → ⊥) → valueOf (eventOf w v) ≡ 0
+  no-value n =
+      by-eq (topIn w) 2 (λ h. rw (← event-recv n h)) (λ m.
+      by-eq (topIn w) 3 (λ h. rw (← event-save n m h)) (λ k. rw (← event-done n m k)))
 
 -- two numbers have a bit together exactly if one of them has
 or-zero : (x y : ℕ) → eqb (bitOr x y) 0 ≡ eqb x 0 && eqb y 0
@@ -70,10 +80,7 @@ module _ (p : ℕ) (counts : List ℕ) (w v : ℕ) where
   module _ (no-send : topIn w ≡ 1 → ⊥) where
     pub fits-value : (v ≡ 0 → ⊥) → false ≡ wordFits p counts w v
     unfolding wordFits
-    fits-value z =
-        by-eq (topIn w) 2
-        (λ h. rw (← event-recv w v no-send h, ne-eqb 0 v (λ q. z (sym q)), and-false))
-        (λ h. rw (← event-save w v no-send h, ne-eqb 0 v (λ q. z (sym q)), and-false))
+    fits-value z = rw (no-value w v no-send, ne-eqb 0 v (λ q. z (sym q)), and-false)
 
     module _ (zero-value : v ≡ 0) where
       pub fits-recv : topIn w ≡ 2 → (r : Bool) → r ≡ eqb (faultBy p counts (Recv (processIn w) (peerIn w))) 0 → r ≡ wordFits p counts w v
@@ -83,15 +90,24 @@ module _ (p : ℕ) (counts : List ℕ) (w v : ℕ) where
           rw (← event-recv w v no-send h, eq-eqb _ _ word, eq-eqb 0 v (sym zero-value)) e
 
       module _ (no-recv : topIn w ≡ 2 → ⊥) where
-        pub fits-none : (w / 64 ≡ 192 → ⊥) → false ≡ wordFits p counts w v
+        pub fits-none : (w / 64 ≡ 192 → ⊥) → (w / 64 ≡ 0 → ⊥) → false ≡ wordFits p counts w v
         unfolding wordFits
-        fits-none n = rw (← event-save w v no-send no-recv, ne-eqb (w % 64 % 64 + 12288) w (λ q. n (omega arith)))
+        fits-none n m =
+            by-eq (topIn w) 3
+            (λ h. rw (← event-save w v no-send no-recv h, ne-eqb (w % 64 % 64 + 12288) w (λ q. n (omega arith))))
+            (λ k. rw (← event-done w v no-send no-recv k, ne-eqb (w % 64 % 64) w (λ q. m (omega arith))))
 
         pub fits-save : w / 64 ≡ 192 → (r : Bool) → r ≡ eqb (faultBy p counts (Save (processIn w))) 0 → r ≡ wordFits p counts w v
         unfolding wordFits
         fits-save h r e =
             let word : w % 64 % 64 + 12288 ≡ w = omega arith in
-            rw (← event-save w v no-send no-recv, eq-eqb _ _ word, eq-eqb 0 v (sym zero-value)) e
+            rw (← event-save w v no-send no-recv (omega arith), eq-eqb _ _ word, eq-eqb 0 v (sym zero-value)) e
+
+        pub fits-done : w / 64 ≡ 0 → (r : Bool) → r ≡ eqb (faultBy p counts (Done (processIn w))) 0 → r ≡ wordFits p counts w v
+        unfolding wordFits
+        fits-done h r e =
+            let word : w % 64 % 64 ≡ w = omega arith in
+            rw (← event-done w v no-send no-recv (λ q. omega arith), eq-eqb _ _ word, eq-eqb 0 v (sym zero-value)) e
 
 -- a word that fits is that of an event without a fault
 pub fits-fault : (p : ℕ) (counts : List ℕ) (w v : ℕ) → wordFits p counts w v ≡ true → faultBy p counts (eventOf w v) ≡ 0
@@ -122,9 +138,7 @@ module _ (low high : ℕ) (is-low : half 0 (fromHalves low high) ≡ low) (is-hi
   unfolding eventOf
   halves-event w = by-eq (topIn w) 1
       (λ e. rw (eq-eqb (topIn w) 1 e) own-halves)
-      (λ n. by-eq (topIn w) 2
-      (λ e. rw (ne-eqb (topIn w) 1 n, eq-eqb (topIn w) 2 e) no-halves)
-      (λ m. rw (ne-eqb (topIn w) 1 n, ne-eqb (topIn w) 2 m) no-halves))
+      (λ n. rw (no-value w v n) no-halves)
 
 and-four : (a b c d : Bool) → a && (b && (c && d)) ≡ (a && (b && c)) && d
 and-four true true c d = refl

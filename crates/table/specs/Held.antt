@@ -8,18 +8,20 @@ use lib.Dec.{leb, eqb}
 use Rattle.words.specs.Area.{areaWords}
 use Rattle.words.specs.Halves.{fromHalves}
 use Rattle.trace.specs.declared.Event.{Event}
-use Rattle.trace.specs.declared.Event.the-variants.{Send, Recv, Save}
+use Rattle.trace.specs.declared.Event.the-variants.{Send, Recv, Save, Done}
 use Rattle.trace.specs.Trace.{Trace}
 use Rattle.trace.specs.Fit.{wellFormed}
 use Rattle.trace.specs.Table.{topIn, processIn, peerIn, eventBase, valueBase, tableWord}
 
--- The event that a word and a value say: above the peer the word has 1 for a send, 2 for a receive; every other word is
--- read as a save's. A word that is no event's is told by its not being the word of the event read from it.
+-- The event that a word and a value say: above the peer the word has 1 for a send, 2 for a receive, 3 for a save; every
+-- other word is read as a done's, which has 0. A word that is no event's is told by its not being the word of the event
+-- read from it.
 unfoldable pub eventOf : ℕ → ℕ → Event
 eventOf w v =
     cond (eqb (topIn w) 1) (Send (processIn w) (peerIn w) v)
     (cond (eqb (topIn w) 2) (Recv (processIn w) (peerIn w))
-    (Save (processIn w)))
+    (cond (eqb (topIn w) 3) (Save (processIn w))
+    (Done (processIn w))))
 
 -- event number i of an area, and its value, the one whose halves stand there
 abbrev pub heldValue : List ℕ → ℕ → ℕ

@@ -35,7 +35,10 @@ pub fn event(word: u32, value: u64) -> Event
     if kind == 2 {
         return Event::Recv { at: at, from: peer };
     }
-    Event::Save { at: at }
+    if kind == 3 {
+        return Event::Save { at: at };
+    }
+    Event::Done { at: at }
 }
 
 // Whether the words from a place up to another are 0. They are looked at together, with no way out between, so that the
@@ -66,8 +69,11 @@ fn counted(counts: &mut [u16], procs: u64, e: Event) -> bool
     true
 }
 
-// What the word of a checkpoint has above its process: kind 3, and no peer, in one test.
+// What stands above the process in the word of a checkpoint, kind 3 and no peer in one number, and in that of the end of
+// one, kind 0 and no peer.
 const CHECKPOINT_WORD: u32 = 192;
+
+const DONE_WORD: u32 = 0;
 
 // Whether a word and a value are those of an event that is fit after those that were counted; then counts it. One test
 // for each kind of word, so that the event's kind is asked once.
@@ -96,10 +102,14 @@ fn word_fits(counts: &mut [u16], procs: u64, w: u32, v: u64) -> bool
     if top == 2 {
         return counted(counts, procs, Event::Recv { at: at, from: peer });
     }
-    if trace::above(w) != CHECKPOINT_WORD {
+    let above = trace::above(w);
+    if above == CHECKPOINT_WORD {
+        return counted(counts, procs, Event::Save { at: at });
+    }
+    if above != DONE_WORD {
         return false;
     }
-    counted(counts, procs, Event::Save { at: at })
+    counted(counts, procs, Event::Done { at: at })
 }
 
 // Whether the first n events are fit one after another and have the words that the area has.

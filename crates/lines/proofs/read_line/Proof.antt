@@ -32,8 +32,8 @@ returns-3 c =
     let if2 = c .before .before .before .before .if2 in
     let key3 = c .before .before .key3 in
     let if3 = c .before .if3 in
-    let save-line = c .save-line in
-    rw (sym (key .ensures) ∙ (if1 .left), sym (key2 .ensures) ∙ (if2 .left), sym (key3 .ensures) ∙ (if3 .taken)) (save-line .ensures)
+    let process-line = c .process-line in
+    rw (sym (key .ensures) ∙ (if1 .left), sym (key2 .ensures) ∙ (if2 .left), sym (key3 .ensures) ∙ (if3 .taken)) (process-line .ensures)
 
 returns-4 : tie.Need-returns-4
 unfolding lineSaid
@@ -46,8 +46,8 @@ returns-4 c =
     let if3 = c .before .before .before .before .if3 in
     let key4 = c .before .before .key4 in
     let if4 = c .before .if4 in
-    let procs-line = c .procs-line in
-    rw (sym (key .ensures) ∙ (if1 .left), sym (key2 .ensures) ∙ (if2 .left), sym (key3 .ensures) ∙ (if3 .left), sym (key4 .ensures) ∙ (if4 .taken)) (procs-line .ensures)
+    let process-line2 = c .process-line2 in
+    rw (sym (key .ensures) ∙ (if1 .left), sym (key2 .ensures) ∙ (if2 .left), sym (key3 .ensures) ∙ (if3 .left), sym (key4 .ensures) ∙ (if4 .taken)) (process-line2 .ensures)
 
 returns-5 : tie.Need-returns-5
 unfolding lineSaid
@@ -62,25 +62,45 @@ returns-5 c =
     let if4 = c .before .before .before .before .if4 in
     let key5 = c .before .before .key5 in
     let if5 = c .before .if5 in
-    let fail-line = c .fail-line in
-    rw (sym (key .ensures) ∙ (if1 .left), sym (key2 .ensures) ∙ (if2 .left), sym (key3 .ensures) ∙ (if3 .left), sym (key4 .ensures) ∙ (if4 .left), sym (key5 .ensures) ∙ (if5 .taken)) (fail-line .ensures)
+    let procs-line = c .procs-line in
+    rw (sym (key .ensures) ∙ (if1 .left), sym (key2 .ensures) ∙ (if2 .left), sym (key3 .ensures) ∙ (if3 .left), sym (key4 .ensures) ∙ (if4 .left), sym (key5 .ensures) ∙ (if5 .taken)) (procs-line .ensures)
 
 returns-6 : tie.Need-returns-6
 unfolding lineSaid
 returns-6 c =
-    let key = c .before .before .before .before .before .before .before .before .before .before .before .before .before .key in
-    let if1 = c .before .before .before .before .before .before .before .before .before .before .before .before .if1 in
-    let key2 = c .before .before .before .before .before .before .before .before .before .before .key2 in
-    let if2 = c .before .before .before .before .before .before .before .before .before .if2 in
-    let key3 = c .before .before .before .before .before .before .before .key3 in
-    let if3 = c .before .before .before .before .before .before .if3 in
-    let key4 = c .before .before .before .before .key4 in
-    let if4 = c .before .before .before .if4 in
-    let key5 = c .before .key5 in
-    let if5 = c .if5 in
-    rw (sym (key .ensures) ∙ (if1 .left), sym (key2 .ensures) ∙ (if2 .left), sym (key3 .ensures) ∙ (if3 .left), sym (key4 .ensures) ∙ (if4 .left), sym (key5 .ensures) ∙ (if5 .left))
+    let key = c .before .before .before .before .before .before .before .before .before .before .before .before .before .before .before .before .before .key in
+    let if1 = c .before .before .before .before .before .before .before .before .before .before .before .before .before .before .before .before .if1 in
+    let key2 = c .before .before .before .before .before .before .before .before .before .before .before .before .before .before .key2 in
+    let if2 = c .before .before .before .before .before .before .before .before .before .before .before .before .before .if2 in
+    let key3 = c .before .before .before .before .before .before .before .before .before .before .before .key3 in
+    let if3 = c .before .before .before .before .before .before .before .before .before .before .if3 in
+    let key4 = c .before .before .before .before .before .before .before .before .key4 in
+    let if4 = c .before .before .before .before .before .before .before .if4 in
+    let key5 = c .before .before .before .before .before .key5 in
+    let if5 = c .before .before .before .before .if5 in
+    let key6 = c .before .before .key6 in
+    let if6 = c .before .if6 in
+    let fail-line = c .fail-line in
+    rw (sym (key .ensures) ∙ (if1 .left), sym (key2 .ensures) ∙ (if2 .left), sym (key3 .ensures) ∙ (if3 .left), sym (key4 .ensures) ∙ (if4 .left), sym (key5 .ensures) ∙ (if5 .left), sym (key6 .ensures) ∙ (if6 .taken)) (fail-line .ensures)
+
+returns-7 : tie.Need-returns-7
+unfolding lineSaid
+returns-7 c =
+    let key = c .before .before .before .before .before .before .before .before .before .before .before .before .before .before .before .before .key in
+    let if1 = c .before .before .before .before .before .before .before .before .before .before .before .before .before .before .before .if1 in
+    let key2 = c .before .before .before .before .before .before .before .before .before .before .before .before .before .key2 in
+    let if2 = c .before .before .before .before .before .before .before .before .before .before .before .before .if2 in
+    let key3 = c .before .before .before .before .before .before .before .before .before .before .key3 in
+    let if3 = c .before .before .before .before .before .before .before .before .before .if3 in
+    let key4 = c .before .before .before .before .before .before .before .key4 in
+    let if4 = c .before .before .before .before .before .before .if4 in
+    let key5 = c .before .before .before .before .key5 in
+    let if5 = c .before .before .before .if5 in
+    let key6 = c .before .key6 in
+    let if6 = c .if6 in
+    rw (sym (key .ensures) ∙ (if1 .left), sym (key2 .ensures) ∙ (if2 .left), sym (key3 .ensures) ∙ (if3 .left), sym (key4 .ensures) ∙ (if4 .left), sym (key5 .ensures) ∙ (if5 .left), sym (key6 .ensures) ∙ (if6 .left))
 
 pub read-line-spec : {M : Type 1} → statement M
 read-line-spec =
     tie.close
-    (tie.spec (λ c. search needs) (λ c κs. search needs) (λ c κs. search needs) returns (λ c. search needs) (λ c κs. search needs) (λ c κs. search needs) returns-2 (λ c. search needs) (λ c κs. search needs) (λ c κs. search needs) returns-3 (λ c. search needs) (λ c κs. search needs) (λ c κs. search needs) returns-4 (λ c. search needs) (λ c κs. search needs) (λ c κs. search needs) returns-5 returns-6)
+    (tie.spec (λ c. search needs) (λ c κs. search needs) (λ c κs. search needs) returns (λ c. search needs) (λ c κs. search needs) (λ c κs. search needs) returns-2 (λ c. search needs) (λ c κs. search needs) (λ c κs. search needs) returns-3 (λ c. search needs) (λ c κs. search needs) (λ c κs. search needs) returns-4 (λ c. search needs) (λ c κs. search needs) (λ c κs. search needs) returns-5 (λ c. search needs) (λ c κs. search needs) (λ c κs. search needs) returns-6 returns-7)

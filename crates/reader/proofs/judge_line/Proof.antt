@@ -34,16 +34,23 @@ returns-4 c =
 returns-5 : tie.Need-returns-5
 unfolding judge
 returns-5 c =
-    let line4 = c .before .line4 in
-    λ t h. rw (line4 .given .1)
+    let line4 = c .before .before .line4 in
+    let judge-event4 = c .judge-event4 in
+    λ t h. rw (line4 .given .1) ((judge-event4 .ensures) t h)
 
 returns-6 : tie.Need-returns-6
 unfolding judge
 returns-6 c =
+    let line5 = c .before .line5 in
+    λ t h. rw (line5 .given .1)
+
+returns-7 : tie.Need-returns-7
+unfolding judge
+returns-7 c =
     let enum-told2 = c .enum-told2 in
     λ t h. rw (enum-told2 .given .1)
 
 pub judge-line-spec : {M : Type 1} → statement M
 judge-line-spec =
     tie.close
-    (tie.spec (λ c. search needs) (λ c. search needs) (λ c κs. search needs) (λ c. search needs) (λ c κs. search needs) (λ c. search needs) (λ c κs. search needs) (λ c. search needs) (λ c. search needs) returns returns-2 returns-3 returns-4 returns-5 returns-6)
+    (tie.spec (λ c. search needs) (λ c. search needs) (λ c κs. search needs) (λ c. search needs) (λ c κs. search needs) (λ c. search needs) (λ c κs. search needs) (λ c. search needs) (λ c κs. search needs) (λ c. search needs) (λ c. search needs) returns returns-2 returns-3 returns-4 returns-5 returns-6 returns-7)

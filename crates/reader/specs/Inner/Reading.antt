@@ -10,7 +10,7 @@ use Rattle.trace.specs.Trace.{Trace, started}
 use Rattle.trace.specs.Inner.Tally.{Tally}
 use Rattle.trace.specs.Table.{wordOf, valueWord, eventBase, valueBase, tableWord}
 use Rattle.lines.specs.declared.Line.{Line}
-use Rattle.lines.specs.declared.Line.the-variants.{Procs, Send, Recv, Save, Failure, Malformed}
+use Rattle.lines.specs.declared.Line.the-variants.{Procs, Send, Recv, Save, Done, Failure, Malformed}
 use Rattle.reader.specs.declared.Judged.{Judged}
 use Rattle.reader.specs.declared.Judged.the-variants.{Fit, Fails, Unfit}
 use Rattle.reader.specs.declared.Answer.{Answer}
@@ -25,6 +25,7 @@ countOnly (Procs n) = Procs n
 countOnly (Send a b v) = Malformed
 countOnly (Recv a b) = Malformed
 countOnly (Save a) = Malformed
+countOnly (Done a) = Malformed
 countOnly (Failure k m) = Malformed
 countOnly Malformed = Malformed
 
