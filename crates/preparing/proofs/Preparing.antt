@@ -19,7 +19,7 @@ use Rattle.theory.specs.Inner.Refusals.{FitLine}
 use Rattle.theory.proofs.Refusals.{failure-fit, line-fit}
 use Rattle.theory.proofs.Epochs.{laws}
 use Rattle.theory.proofs.Lines.{number-of}
-use Rattle.theory.proofs.Claims.{reached-usable}
+use Rattle.theory.proofs.Claims.{finished-usable}
 use Rattle.columns.specs.Inner.Columns.{fullWords, Columns, Flagged, Tabled}
 use Rattle.columns.specs.Inner.Given.{Marked, Gated, Given}
 use Rattle.columns.proofs.Full.{fit}
@@ -124,7 +124,7 @@ module _ (t : Trace) (full : List ℕ) (line : Line) (cut : ℕ) (P : Takeable t
         within = P .within;
         linked = L;
         count-is = P .count-is;
-        numbers = number-of t (ruleOf t) (fit t full G) cut (P .within) (usableAt t cut) (reached-usable t (G .formed) (ruleOf t) cut (P .within)) (inSet (P .failed)) (lineIn line) (P .permitted);
+        numbers = number-of t (ruleOf t) (fit t full G) cut (P .within) (usableAt t cut) (finished-usable t (G .formed) (ruleOf t) cut (P .within)) (inSet (P .failed)) (lineIn line) (P .permitted);
       }
 
   -- the full table tells the trace's own run

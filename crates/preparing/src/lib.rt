@@ -58,7 +58,7 @@ pub fn gates_of(full: &[u32], line: Line, cut: usize, gates: &mut [u32])
 }
 
 // Checks the areas, a failure and a line: 12, 13, 8, 9, 10, or 0. Where nothing is wrong, fills the full table of the
-// trace and the gates of the line. The events are linked once for both, the epochs of the line and its gates.
+// trace and the gates of the line.
 pub fn prepare(
     table: &[u32],
     room: usize,
@@ -76,12 +76,9 @@ pub fn prepare(
     if failure != 0 {
         return failure;
     }
-    let mut earlier = [0u16; LINKS];
-    let mut latest = [0u16; 64];
-    positions::link(full, step as usize, &mut earlier, &mut latest);
-    let fault = faults::line_fault(full, &latest, set, line);
+    let fault = faults::line_fault(full, step as usize, set, line);
     if fault == 0 {
-        gates::gates(full, &earlier, &latest, line, step as usize, gates);
+        gates_of(full, line, step as usize, gates);
     }
     fault
 }

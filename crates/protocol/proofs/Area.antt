@@ -15,7 +15,7 @@ use Rattle.trace.specs.Table.{tableWord}
 use Rattle.table.specs.Held.{held, holdsTrace}
 use Rattle.theory.specs.Events.{Kind, size, at, kind, sent, rcvd, sendOf, recvOf}
 use Rattle.theory.specs.Epochs.{epochAt, phaseAt, loggedBy, ruleOf}
-use Rattle.theory.proofs.Events.{sends-is, recvs-is, checkpoints-is}
+use Rattle.theory.proofs.Events.{sends-is, recvs-is}
 use Rattle.columns.specs.Inner.Columns.{fullWords, Columns, Flagged, Others}
 use Rattle.columns.proofs.Others.{same-table}
 use Rattle.protocol.specs.Inner.Area.{numberWord, matchWord, columnWord, fullWord, fullArea}
@@ -108,8 +108,8 @@ module _ (t : Trace) (few : size t ≤ 2048) (before : List ℕ) where
 
   pub table-others : length before ≡ fullWords → Others t (size t) before table
   table-others long = record {
-    number-checkpoint = λ z e s h l. number-of e _ (checkpoints-is t z e s .1) h l;
-    match-checkpoint = λ z e s h l. match-of e _ (checkpoints-is t z e s .1) h l;
+    number-other = λ e s h l. number-of e _ s h l;
+    match-other = λ e s h l. match-of e _ s h l;
     number-none = none-word;
     after-number = λ k h m. number-word k (omega arith) m ∙ as-was 6163 k numbers h;
     after-epoch = λ k h m. epoch-word k (omega arith) m ∙ as-was 8212 k epochs h;

@@ -14,7 +14,7 @@ use Rattle.theory.specs.Events.{size}
 use Rattle.theory.specs.Epochs.{ruleOf}
 use Rattle.theory.specs.Line.{inSet, staysIn, current, Greatest, usableAt, engineLine}
 use Rattle.theory.specs.Refusals.{failureFault}
-use Rattle.theory.proofs.Claims.{floor-failed}
+use Rattle.theory.proofs.Claims.{floor-finished, none-done}
 use Rattle.recovery_line.specs.declared.Line.{Line}
 use Rattle.columns.specs.Inner.Given.{Marked}
 use Rattle.columns.proofs.Full.{fit}
@@ -47,7 +47,8 @@ module _ (t : Trace) (full : List ℕ) (G : Marked t (ruleOf t) full) (cut set :
   means s b x p g hs bits hb hn =
       record {
         greatest = g;
-        floor = λ y ly fy least z lz. floor-failed t (G .tabled .formed) cut cl (inSet set) y ly fy least (lineIn l) g z lz;
+        floor = λ y least z lz. floor-finished t (G .tabled .formed) cut cl (inSet set) y least (lineIn l) g z lz;
+        none-done = λ h z lz back. none-done t (G .tabled .formed) cut cl (inSet set) h (lineIn l) (g .permitted) z lz back;
         goes = λ z. bits z ∙ ap (λ (n : ℕ). ltb z n && not (staysIn (lineIn l) z)) places-are;
         ones-are = hb ∙ ap ones (sym hs);
         numbers-are = hn;

@@ -1,7 +1,7 @@
 -- What `restart` answers: the engine's line for a failure, who goes back, and what the program prints of each process.
 use Prim.Native.Nat.{ℕ, _<_, _≤_}
 use mathlib.Core.Path.{_≡_}
-use mathlib.Core.Bool.{true, _&&_, not, cond}
+use mathlib.Core.Bool.{true, false, _&&_, _||_, not, cond}
 use mathlib.Core.List.{List}
 use lib.Count.{ones}
 use lib.ListN.{length, replicate}
@@ -9,8 +9,9 @@ use lib.Dec.{ltb, eqb}
 use Rattle.words.specs.Area.{wordsFrom}
 use Rattle.trace.specs.Trace.{Trace}
 use Rattle.table.specs.Held.{held}
-use Rattle.theory.specs.Epochs.{ruleOf}
-use Rattle.theory.specs.Line.{inSet, staysIn, current, Greatest, usableAt, engineLine}
+use Rattle.theory.specs.Events.{finishes}
+use Rattle.theory.specs.Epochs.{ruleOf, finishedAt}
+use Rattle.theory.specs.Line.{inSet, staysIn, current, Greatest, usableAt, unfinishedAt, engineLine}
 use Rattle.recovery_line.specs.declared.Line.{Line}
 use Rattle.recovery_line.specs.Given.{each, lineIn, lineTo, restartPhaseIn, numbersOf, backOf, backOnes}
 use Rattle.restart.specs.declared.Restarted.{Restarted}
@@ -60,13 +61,15 @@ restartAnswer a step set =
     cond (eqb (failureFaultOf a step set) 0) (restartOf (held a) step set) (restartRefusal (failureFaultOf a step set))
 
 -- Demand 2, of an answer that is no refusal: permitted, loss-free, at or above every permitted line without loss, for
--- every process; "No zone in it restarts in an epoch below the smallest current epoch of a failed zone"; the set of
--- those that go back, and its size twice over.
+-- every process. Of document 02, item 5: "The floor becomes the smallest, over the failed zones and those with an
+-- unfinished save, of the latest finished epoch at the cut." (y's, where none of them has a smaller); "In a trace with no
+-- `done`, each zone that goes back goes to epoch 1." The set of those that go back, and its size twice over.
 pub record Restarts (t : Trace) (step set : ℕ) (r : Restarted) : Type 0 where
   pub greatest : Greatest t (ruleOf t) step (usableAt t step) (inSet set) (lineIn (r .line))
-  pub floor : (y : ℕ) → y < t .procs → inSet set y ≡ true
-      → ((z : ℕ) → z < t .procs → inSet set z ≡ true → current t (ruleOf t) step y ≤ current t (ruleOf t) step z)
-      → (z : ℕ) → z < t .procs → current t (ruleOf t) step y ≤ lineIn (r .line) z
+  pub floor : (y : ℕ)
+      → ((z : ℕ) → z < t .procs → (inSet set z || unfinishedAt t step z) ≡ true → finishedAt t y step ≤ finishedAt t z step)
+      → (z : ℕ) → z < t .procs → finishedAt t y step ≤ lineIn (r .line) z
+  pub none-done : ((z e : ℕ) → finishes t z e ≡ false) → (z : ℕ) → z < t .procs → staysIn (lineIn (r .line)) z ≡ false → lineIn (r .line) z ≡ 1
   pub goes : (z : ℕ) → inSet (r .going) z ≡ (ltb z (t .procs) && not (staysIn (lineIn (r .line)) z))
   pub ones-are : r .back ≡ ones (r .going)
   pub numbers-are : r .back ≡ length (backOnes (numbersOf (r .line)))
