@@ -1,6 +1,6 @@
 // What one line of text says: a process count, a send, a receive, a checkpoint, the end of one or a failure, each with
-// its numbers, or none of these. specs/Line says it for every line, specs/Render the text of an event and of a failure; proofs/OneLine
-// that a line says it exactly if it is that text. No public function has a `requires`. Assumes nothing.
+// its numbers, or none of these. specs/Line says it for every line, specs/Render the text of an event and of a failure;
+// proofs/OneLine that a line says it exactly if it is that text. No public function has a `requires`. Assumes nothing.
 ghost use mathlib.Core.Path.{_≡_};
 ghost use lib.Dec.{eqb};
 ghost use lib.ListN.{length};

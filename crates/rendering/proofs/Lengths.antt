@@ -8,9 +8,9 @@ use lib.Dec.{eqb}
 use lib.ListN.{length, length-append, getD}
 use Rattle.words.proofs.Cases.{by-bool}
 use Rattle.text.specs.Number.{decimal}
-use Rattle.trace.specs.declared.Event.the-variants.{Send, Recv, Save}
+use Rattle.trace.specs.declared.Event.the-variants.{Send, Recv}
 use Rattle.trace.specs.Table.{topIn, processIn, peerIn, eventBase}
-use Rattle.lines.specs.Line.{kProcs, kSend, kTo, kVal, kRecv, kFrom, kSave}
+use Rattle.lines.specs.Line.{kProcs, kSend, kTo, kVal, kRecv, kFrom, kSave, kDone}
 use Rattle.lines.specs.Render.{renderEvent}
 use Rattle.reader.specs.Render.{renderEvents, render}
 use Rattle.table.specs.Held.{eventOf, heldValue, heldEvent, heldEvents, held, holdsTrace}
@@ -35,18 +35,19 @@ recv-few a b ha hb =
     after-few (kRecv ++ decimal a) kFrom (decimal b) 13 2 (omega (arith, length-append kRecv (decimal a), small-few a ha)) (small-few b hb) in
     omega arith
 
-save-few : (a : ℕ) → a < 100 → length (renderEvent (Save a)) ≤ 44
-unfolding renderEvent
-save-few a ha = omega (arith, length-append kSave (decimal a), small-few a ha)
+process-few : (key : List ℕ) (a : ℕ) → length key ≤ 11 → a < 100 → length (key ++ decimal a) ≤ 44
+process-few key a hk ha = omega (arith, length-append key (decimal a), small-few a ha)
 
 event-few : (w v : ℕ) → length (renderEvent (eventOf w v)) ≤ 44
-unfolding eventOf
+unfolding eventOf renderEvent
 event-few w v =
     by-bool (eqb (topIn w) 1)
     (λ e. rw e (send-few (processIn w) (peerIn w) v (omega arith) (omega arith)))
     (λ e. by-bool (eqb (topIn w) 2)
     (λ f. rw (e, f) (recv-few (processIn w) (peerIn w) (omega arith) (omega arith)))
-    (λ f. rw (e, f) (save-few (processIn w) (omega arith))))
+    (λ f. by-bool (eqb (topIn w) 3)
+    (λ g. rw (e, f, g) (process-few kSave (processIn w) (omega arith) (omega arith)))
+    (λ g. rw (e, f, g) (process-few kDone (processIn w) (omega arith) (omega arith)))))
 
 events-few : (a : List ℕ) (i n : ℕ) → length (renderEvents (heldEvents a i n)) ≤ 45 * n
 unfolding renderEvents heldEvents

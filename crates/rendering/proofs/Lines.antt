@@ -7,10 +7,10 @@ use native.Mathlib.Numerals.{add-one}
 use lib.ListN.{getD}
 use Rattle.text.specs.Number.{decimal}
 use Rattle.trace.specs.declared.Event.{Event}
-use Rattle.trace.specs.declared.Event.the-variants.{Send, Recv, Save}
+use Rattle.trace.specs.declared.Event.the-variants.{Send, Recv}
 use Rattle.words.specs.Halves.{fromHalves}
 use Rattle.trace.specs.Table.{eventBase, valueBase}
-use Rattle.lines.specs.Line.{kProcs, kSend, kTo, kVal, kRecv, kFrom, kSave}
+use Rattle.lines.specs.Line.{kProcs, kSend, kTo, kVal, kRecv, kFrom}
 use Rattle.lines.specs.Render.{renderEvent}
 use Rattle.reader.specs.Render.{renderEvents, render}
 use Rattle.table.specs.Held.{eventOf, heldEvent, heldEvents, held}
@@ -43,11 +43,6 @@ unfolding renderEvent
 recv-put a b o₀ o₁ o₂ o₃ p₀ p₁ p₂ p₃ ha hb he =
     let tb = then-pair (kRecv ++ decimal a) kFrom (decimal b) o₀ o₁ o₂ p₀ p₁ p₂ ha hb in
     then _ lf o₀ o₂ o₃ p₀ p₂ p₃ tb he
-
-pub save-put : (a : ℕ) (o₀ o₁ o₂ : List ℕ) (p₀ p₁ p₂ : ℕ)
-    → Puts (kSave ++ decimal a) o₀ p₀ o₁ p₁ → Puts lf o₁ p₁ o₂ p₂ → Puts (renderEvent (Save a) ++ lf) o₀ p₀ o₂ p₂
-unfolding renderEvent
-save-put a o₀ o₁ o₂ p₀ p₁ p₂ ha he = then (kSave ++ decimal a) lf o₀ o₁ o₂ p₀ p₁ p₂ ha he
 
 -- ---- Line after line
 

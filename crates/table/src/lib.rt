@@ -69,8 +69,8 @@ fn counted(counts: &mut [u16], procs: u64, e: Event) -> bool
     true
 }
 
-// What stands above the process in the word of a checkpoint, kind 3 and no peer in one number, and in that of the end of
-// one, kind 0 and no peer.
+// What stands above the process in the word of a checkpoint, kind 3 and no peer in one number, and in that of the end
+// of one, kind 0 and no peer.
 const CHECKPOINT_WORD: u32 = 192;
 
 const DONE_WORD: u32 = 0;

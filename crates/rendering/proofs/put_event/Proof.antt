@@ -1,4 +1,5 @@
 -- `rendering::put_event` meets its contract: the line of its kind.
+use Rattle.lines.specs.Render.{renderEvent}
 use borrow.Author.Needs.{needs}
 use Rattle.rendering.proofs.put_event.Statement.{statement}
 use Rattle.rendering.proofs.put_event.Tie as tie
@@ -16,12 +17,20 @@ returns-2 c =
     rw (e2 .given .1) (put-recv .ensures)
 
 returns-3 : tie.Need-returns-3
+unfolding renderEvent
 returns-3 c =
-    let e3 = c .before .before .before .before .before .e3 in
-    let put-save = c .before .before .put-save in
-    rw (e3 .given .1) (put-save .ensures)
+    let e3 = c .before .before .before .before .before .before .e3 in
+    let put-process = c .before .before .put-process in
+    rw ((e3 .given .1)) (put-process .ensures)
+
+returns-4 : tie.Need-returns-4
+unfolding renderEvent
+returns-4 c =
+    let e4 = c .before .before .before .before .before .before .e4 in
+    let put-process2 = c .before .before .put-process2 in
+    rw ((e4 .given .1)) (put-process2 .ensures)
 
 pub put-event-spec : {M : Type 1} → statement M
 put-event-spec =
     tie.close
-    (tie.spec (λ c. search needs) (λ c κs. search needs) (λ c. search needs) (λ c κs. search needs) (λ c. search needs) (λ c κs. search needs) (λ c. search needs) returns (λ c. search needs) returns-2 (λ c. search needs) returns-3)
+    (tie.spec (λ c. search needs) (λ c κs. search needs) (λ c. search needs) (λ c κs. search needs) (λ c. search needs) (λ c κs. search needs) (λ c. search needs) (λ c κs. search needs) (λ c. search needs) returns (λ c. search needs) returns-2 (λ c. search needs) returns-3 (λ c. search needs) returns-4)
