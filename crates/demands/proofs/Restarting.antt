@@ -20,7 +20,7 @@ use Rattle.theory.specs.Inner.Refusals.{FitFailure}
 use Rattle.theory.proofs.WellFormed.{valid}
 use Rattle.theory.proofs.Epochs.{laws}
 use Rattle.theory.proofs.Classes.{lost-within}
-use Rattle.theory.proofs.Claims.{reached-usable, greatest-line, greatest-work, floor-failed}
+use Rattle.theory.proofs.Claims.{finished-usable, greatest-line, greatest-work, floor-finished, none-done}
 use Rattle.protocol.proofs.Passes.{held-formed}
 use Rattle.recovery_line.specs.declared.Line.{Line}
 use Rattle.recovery_line.specs.Given.{each, lineIn, lineTo, restartPhaseIn, numbersOf, backOf}
@@ -57,7 +57,7 @@ module _ (t : Trace) (w : wellFormed t ≡ true) (cut set : ℕ) (cl : cut ≤ s
   same = line-same t few (engineLine t cut set)
 
   top : Greatest t (ruleOf t) cut (usableAt t cut) (inSet set) (engineLine t cut set)
-  top = greatest-line t w (ruleOf t) cut cl (usableAt t cut) (reached-usable t w (ruleOf t) cut cl) (inSet set)
+  top = greatest-line t w (ruleOf t) cut cl (usableAt t cut) (finished-usable t w (ruleOf t) cut cl) (inSet set)
 
   loses-nothing : LossFree (runAt t cut (lineIn made))
   loses-nothing p q k = by-bool (lost (runAt t cut (lineIn made)) p q k)
@@ -76,7 +76,8 @@ module _ (t : Trace) (w : wellFormed t ≡ true) (cut set : ℕ) (cl : cut ≤ s
   pub restarts : Restarts t cut set (restartBy t cut made)
   restarts = record {
     greatest = greatest-made;
-    floor = λ y ly fy least z lz. floor-failed t w cut cl (inSet set) y ly fy least (lineIn made) greatest-made z lz;
+    floor = λ y least z lz. floor-finished t w cut cl (inSet set) y least (lineIn made) greatest-made z lz;
+    none-done = λ h z lz back. none-done t w cut cl (inSet set) h (lineIn made) (greatest-made .permitted) z lz back;
     goes = λ z.
         let places : min (t .procs) 64 ≡ t .procs = omega (arith, few) in
         back-bits made (length-words (each t (engineLine t cut set)) 0 64) (backOf (numbersOf made)) refl z
@@ -128,4 +129,4 @@ module _ (a : List ℕ) (step set : ℕ) (ok : restartAnswer a step set .number 
       → (z : ℕ) → z < t .procs → restartIn t step m z ≤ restartIn t step (lineIn (restartAnswer a step set .line)) z
   keeps-most m =
       let cl = fit .1 .step-most in
-      greatest-work t formed (ruleOf t) step cl (usableAt t step) (reached-usable t formed (ruleOf t) step cl) (inSet set) (lineIn (restartAnswer a step set .line)) m (restart-promised .greatest)
+      greatest-work t formed (ruleOf t) step cl (usableAt t step) (finished-usable t formed (ruleOf t) step cl) (inSet set) (lineIn (restartAnswer a step set .line)) m (restart-promised .greatest)

@@ -17,7 +17,7 @@ use Rattle.theory.proofs.Base.{all-same}
 use Rattle.theory.proofs.Refusals.{set-shifted}
 use Rattle.columns.specs.Inner.Columns.{Tabled}
 use Rattle.columns.specs.Inner.Full.{procsW, eventsW}
-use Rattle.positions.specs.Inner.Positions.{Finished}
+use Rattle.positions.specs.Inner.Positions.{FinishedEpochs}
 use Rattle.faults.specs.Inner.Permitted.{usableW, mayStayW, mayW}
 use Rattle.columns.proofs.Full.{fit, procs-is, size-is}
 
@@ -94,7 +94,7 @@ module _ (t : Trace) (full : List ℕ) (G : Tabled t full) (cut : ℕ) (cl : cut
   pub fault-count : (n ≡ count → ⊥) → 10 ≡ numbersFault t cut set n line
   fault-count h = let s : eqb n (t .procs) ≡ false = ne-eqb n (t .procs) (λ q. h (q ∙ sym count-is)) in rw s
 
-  module _ (en : n ≡ count) (finished numbers : List ℕ) (N : Finished full cut finished)
+  module _ (en : n ≡ count) (finished numbers : List ℕ) (N : FinishedEpochs full cut finished)
       (ln : (z : ℕ) → z < t .procs → line z ≡ getD numbers z 0) (r : Bool) (er : r ≡ all-below count (mayW set finished numbers)) where
     n-is : eqb n (t .procs) ≡ true
     n-is = eq-eqb n (t .procs) (en ∙ count-is)

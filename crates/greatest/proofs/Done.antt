@@ -19,7 +19,7 @@ use Rattle.columns.proofs.Full.{fit, procs-is}
 use Rattle.recovery_line.specs.declared.Line.{Line}
 use Rattle.recovery_line.specs.Given.{each, lineIn, lineTo, restartPhaseIn}
 use Rattle.recovery_line.proofs.Lines.{line-at}
-use Rattle.positions.specs.Inner.Positions.{Finished, Linked, Before, afterW, restartPhase}
+use Rattle.positions.specs.Inner.Positions.{FinishedEpochs, Linked, Before, afterW, restartPhase}
 use Rattle.positions.proofs.Newest.{epochs-made, phases-made}
 use Rattle.lowering.specs.Inner.Lowering.{Lowered}
 use Rattle.columns.specs.Inner.Given.{Marked}
@@ -34,7 +34,7 @@ pub record Done (full : List ℕ) (cut set count : ℕ) (earlier latest d f m r 
   pub epochs-long : length d ≡ 64
   pub epochs : (z : ℕ) → z < 64 → getD d z 0 ≡ cond (ltb z count) (afterW full epochBase (getD latest z 0)) 0
   pub first-long : length m ≡ 64
-  pub finished : Finished full cut f
+  pub finished : FinishedEpochs full cut f
   pub first : (z : ℕ) → z < count → getD m z 0 ≡ cond (inSet set z) (getD f z 0) 32
   pub others : (z : ℕ) → count ≤ z → getD m z 0 ≡ 0
   pub lowered : Lowered full f cut m r

@@ -28,7 +28,7 @@ use Rattle.recovery_line.specs.declared.Line.{Line}
 use Rattle.columns.specs.Inner.Columns.{Tabled, Flagged}
 use Rattle.recovery_line.specs.Given.{each, lineIn, lineTo}
 use Rattle.columns.specs.Inner.Full.{procsW, atW, peerW, kindW, epochW, matchW, loggedW}
-use Rattle.positions.specs.Inner.Positions.{Finished}
+use Rattle.positions.specs.Inner.Positions.{FinishedEpochs}
 use Rattle.lowering.specs.Inner.Lowering.{lostE, lostW, lowerAt, Lowers, Rising, Lowered}
 use Rattle.lowering.specs.Inner.Lowering.Lowers.{same, more}
 use Rattle.columns.proofs.Full.{fit, procs-is, at-is, kind-receive, receive-kind, recv-match}
@@ -41,7 +41,7 @@ not-true true h = clash {b = false} h refl
 not-true false h = refl
 
 module _ (t : Trace) (full : List ℕ) (G : Tabled t full) (rule : Rule) (F : Flagged t (loggedBy t rule) full) (cut : ℕ) (cl : cut ≤ size t)
-    (f : List ℕ) (N : Finished full cut f) where
+    (f : List ℕ) (N : FinishedEpochs full cut f) where
   -- ---- A receive up to the cut, by words
 
   module _ (e p q : ℕ) (a : 0 < e) (b : e ≤ cut) (r : recvs t p q e ≡ true) where
@@ -267,7 +267,7 @@ module _ (t : Trace) (full : List ℕ) (G : Tabled t full) (rule : Rule) (F : Fl
 -- ---- `greatest`: the latest finished epochs f, the first line m, the last line r
 
 module _ (t : Trace) (rule : Rule) (full : List ℕ) (cut set count : ℕ) (f m r : List ℕ) (M : Marked t rule full) (cl : cut ≤ size t) (ec : count ≡ procsW full)
-    (N : Finished full cut f) (len : length m ≡ 64)
+    (N : FinishedEpochs full cut f) (len : length m ≡ 64)
     (below : (z : ℕ) → z < count → getD m z 0 ≡ cond (inSet set z) (getD f z 0) 32) (others : (z : ℕ) → count ≤ z → getD m z 0 ≡ 0) (L : Lowered full f cut m r) where
   count-is : count ≡ t .procs
   count-is = ec ∙ procs-is t full (M .tabled)

@@ -18,9 +18,9 @@ use Rattle.theory.proofs.Base.{cnt-suc, cnt-skip, cnt-bound}
 use Rattle.columns.specs.Inner.Columns.{Tabled}
 use Rattle.columns.specs.Inner.Full.{atW, kindW}
 use Rattle.columns.proofs.Full.{few, finishes-is}
-use Rattle.positions.specs.Inner.Positions.{Uncounted, Finished}
+use Rattle.positions.specs.Inner.Positions.{Uncounted, FinishedEpochs}
 
-pub none-finished : (full f : List ℕ) → ((z : ℕ) → z < 64 → getD f z 0 ≡ 1) → Finished full 0 f
+pub none-finished : (full f : List ℕ) → ((z : ℕ) → z < 64 → getD f z 0 ≡ 1) → FinishedEpochs full 0 f
 unfolding cnt
 none-finished full f h = record { counts = λ t G l z lz. h z lz }
 
@@ -38,12 +38,12 @@ pub cut-few : (t : Trace) (full : List ℕ) (cut : ℕ) (f : List ℕ) → Uncou
 cut-few t full cut f U = omega (arith, U .within, few t full (U .tabled))
 
 -- no count is past its range
-pub finished-most : (t : Trace) (full : List ℕ) (G : Tabled t full) (x : ℕ) (f : List ℕ) → Finished full x f → x ≤ size t → (z : ℕ) → z < 64 → getD f z 0 ≤ 2049
+pub finished-most : (t : Trace) (full : List ℕ) (G : Tabled t full) (x : ℕ) (f : List ℕ) → FinishedEpochs full x f → x ≤ size t → (z : ℕ) → z < 64 → getD f z 0 ≤ 2049
 finished-most t full G x f F l z lz = omega (arith, F .counts t G l z lz, cnt-bound (finishes t z) x, few t full G)
 
-module _ (full : List ℕ) (x : ℕ) (f : List ℕ) (F : Finished full x f) (k : ℕ) (ek : k ≡ kindW full (x + 1)) where
+module _ (full : List ℕ) (x : ℕ) (f : List ℕ) (F : FinishedEpochs full x f) (k : ℕ) (ek : k ≡ kindW full (x + 1)) where
   -- an event that finishes no checkpoint
-  pub next-unfinished : (k ≡ 0 → ⊥) → Finished full (x + 1) f
+  pub next-unfinished : (k ≡ 0 → ⊥) → FinishedEpochs full (x + 1) f
   next-unfinished n = record {
     counts = λ t G l z lz.
         let no : eqb (kindW full (x + 1)) 0 ≡ false = ne-eqb (kindW full (x + 1)) 0 (λ q. n (ek ∙ q)) in
@@ -52,7 +52,7 @@ module _ (full : List ℕ) (x : ℕ) (f : List ℕ) (F : Finished full x f) (k :
   }
 
   -- one that finishes a checkpoint of y
-  pub next-finished : k ≡ 0 → (y : ℕ) → y ≡ atW full (x + 1) → length f ≡ 64 → Finished full (x + 1) (set f y (getD f y 0 + 1))
+  pub next-finished : k ≡ 0 → (y : ℕ) → y ≡ atW full (x + 1) → length f ≡ 64 → FinishedEpochs full (x + 1) (set f y (getD f y 0 + 1))
   next-finished e y ey len = record {
     counts = λ t G l z lz.
         let yes : eqb (kindW full (x + 1)) 0 ≡ true = eq-eqb (kindW full (x + 1)) 0 (sym ek ∙ e) in

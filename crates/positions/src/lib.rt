@@ -11,7 +11,7 @@ ghost use lib.ListN.{length, getD};
 ghost use Rattle.trace.specs.Trace.{Trace};
 ghost use Rattle.columns.specs.Inner.Columns.{epochBase, fullWords};
 ghost use Rattle.columns.specs.Inner.Full.{phaseW};
-ghost use Rattle.positions.specs.Inner.Positions.{Uncounted, Finished, Unlinked, Linked, Newest, NewestRanged, afterW, restartPhase, PhasesFew, Walkable, Walked};
+ghost use Rattle.positions.specs.Inner.Positions.{Uncounted, FinishedEpochs, Unlinked, Linked, Newest, NewestRanged, afterW, restartPhase, PhasesFew, Walkable, Walked};
 use columns::EPOCH_BASE;
 use columns::PHASE_BASE;
 use recovery_line::STAYS;
@@ -39,7 +39,7 @@ pub fn link(full: &[u32], cut: usize, earlier: &mut [u16], latest: &mut [u16])
 // The latest finished epoch of each process at the cut: 1, and one more for each checkpoint that is finished by then.
 pub fn finished_at(full: &[u32], cut: usize, finished: &mut [u32])
     requires { ⌜ ((t : Trace) × Uncounted t (now full) cut (now finished)) ⌝ }
-    ensures { λ _. ⌜ Finished (now (full .entry)) cut (now (finished .exit)) ⌝ }
+    ensures { λ _. ⌜ FinishedEpochs (now (full .entry)) cut (now (finished .exit)) ⌝ }
 {
     let mut e: usize = 0;
     while e < cut {

@@ -2,7 +2,7 @@
 use mathlib.Core.Path.{_≡_, sym, _∙_}
 use Prim.Native.Nat.{_-_, _≤_}
 use lib.ListN.{length, length-set}
-use Rattle.positions.specs.Inner.Positions.{Finished}
+use Rattle.positions.specs.Inner.Positions.{FinishedEpochs}
 use Rattle.positions.proofs.Finishing.{cut-few, none-finished, finished-most, next-unfinished, next-finished}
 use native.Mathlib.Omega.{arith}
 use borrow.Author.Needs.{needs}
@@ -10,7 +10,7 @@ use Rattle.positions.proofs.finished_at.Statement.{statement}
 use Rattle.positions.proofs.finished_at.Tie as tie
 
 abbrev Inv-loop : tie.InvT-loop
-Inv-loop full cut finished₀ e₀ finished e = (e ≤ cut) × (length finished ≡ 64) × Finished full e finished
+Inv-loop full cut finished₀ e₀ finished e = (e ≤ cut) × (length finished ≡ 64) × FinishedEpochs full e finished
 
 abbrev μ-loop : tie.MeasureT-loop
 μ-loop full cut finished₀ e₀ finished e = cut - e

@@ -26,7 +26,7 @@ pub record Uncounted (t : Trace) (full : List ℕ) (cut : ℕ) (finished : List 
   pub ones : (z : ℕ) → z < 64 → getD finished z 0 ≡ 1
 
 -- the latest finished epoch of each process after event x
-pub record Finished (full : List ℕ) (x : ℕ) (finished : List ℕ) : Type 0 where
+pub record FinishedEpochs (full : List ℕ) (x : ℕ) (finished : List ℕ) : Type 0 where
   pub counts : (t : Trace) → Tabled t full → x ≤ size t → (z : ℕ) → z < 64 → getD finished z 0 ≡ finishedAt t z x
 
 -- what `link` is given: room for the links, and no event linked yet
