@@ -6,11 +6,11 @@ use lib.Dec.{eqb, leb}
 use lib.ListN.{getD}
 use Rattle.bruteforce.specs.declared.events.Failure.{Failure}
 
--- at most three processes and six events: what the arrays have room for
+-- at most three processes and seven events: what the arrays have room for
 pub record SmallRun (f : Failure) : Type 0 where
   pub count : f .count ≤ 3
-  pub size : f .size ≤ 6
-  pub cut : f .cut ≤ 6
+  pub size : f .size ≤ 7
+  pub cut : f .cut ≤ 7
 
 -- how many of the first events are this one
 unfoldable pub timesOf : List ℕ → ℕ → ℕ → ℕ

@@ -11,13 +11,15 @@ pub const SEND: u32 = 1;
 
 pub const RECEIVE: u32 = 2;
 
+pub const DONE: u32 = 3;
+
 // In a line: the process stays as it was at the cut.
 pub const STAYS: u32 = 32;
 
 // A trace of `size` events of `count` processes, and a failure of the processes of a set right after event `cut`.
 pub struct Failure {
     pub count: u32,
-    pub events: [u32; 6],
+    pub events: [u32; 7],
     pub size: u32,
     pub cut: u32,
     pub set: u64,
@@ -56,8 +58,8 @@ pub fn one_if(yes: bool) -> u32
 }
 
 // How many of the first `upto` events are this one.
-pub(crate) fn times(events: &[u32; 6], upto: u32, w: u32) -> u32
-    requires { ⌜ upto ≤ 6 ⌝ }
+pub(crate) fn times(events: &[u32; 7], upto: u32, w: u32) -> u32
+    requires { ⌜ upto ≤ 7 ⌝ }
     ensures { λ r. ⌜ r ≡ timesOf (now (events .entry)) w upto ⌝ }
     ensures { λ r. ⌜ r ≤ upto ⌝ }
 {
@@ -71,8 +73,8 @@ pub(crate) fn times(events: &[u32; 6], upto: u32, w: u32) -> u32
 }
 
 // Right after which event this one has come so many times; not past `upto`.
-pub(crate) fn after(events: &[u32; 6], upto: u32, w: u32, number: u32) -> u32
-    requires { ⌜ upto ≤ 6 ⌝ }
+pub(crate) fn after(events: &[u32; 7], upto: u32, w: u32, number: u32) -> u32
+    requires { ⌜ upto ≤ 7 ⌝ }
     ensures { λ r. ⌜ r ≡ afterOf (now (events .entry)) w number upto ⌝ }
     ensures { λ r. ⌜ r ≤ upto ⌝ }
 {

@@ -1,9 +1,10 @@
-// Document 01's rules by brute force, for traces of at most 6 events: what a line loses, which phases and steps there
-// are, worked out from the few events alone, by counting them anew in the document's words. It names nothing of the
-// engine: gate programs hold the engine to it. Assumes nothing.
+// The rules of documents 01 and 02 by brute force, for traces of at most 7 events: which are fit, which epochs are
+// finished, what a line loses, which phases and steps there are, worked out from the few events alone, by counting them
+// anew in the documents' words. It names nothing of the engine: gate programs hold the engine to it. Assumes nothing.
 mod events;
 mod rules;
 
+pub use events::DONE;
 pub use events::Failure;
 pub use events::RECEIVE;
 pub use events::SAVE;
@@ -14,9 +15,10 @@ pub use events::kind;
 pub use events::one_if;
 pub use events::peer;
 pub use events::process;
-pub use rules::epoch;
+pub use rules::Refusal;
+pub use rules::epoch_by;
 pub use rules::loses;
 pub use rules::phases_at;
 pub use rules::record;
 pub use rules::steps;
-pub use rules::unfit;
+pub use rules::verdict;

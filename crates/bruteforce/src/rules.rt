@@ -1,8 +1,9 @@
-// Epochs, phases, restarts, and what a line loses and keeps, in document 01's words.
+// Epochs, phases, restarts, and what a line loses and keeps, in the words of document 01 and of request 5.
 ghost use mathlib.Core.Bool.{false};
 ghost use mathlib.Core.Path.{_≡_};
-ghost use Prim.Native.Nat.{_+_, _*_, _≤_, _<_};
+ghost use Prim.Native.Nat.{_+_, _*_, _%_, _≤_, _<_};
 ghost use Rattle.bruteforce.specs.Counts.{SmallRun, timesOf, spare, firstWord};
+use crate::events::DONE;
 use crate::events::Failure;
 use crate::events::RECEIVE;
 use crate::events::SAVE;
@@ -19,20 +20,22 @@ use crate::events::times;
 // Where the run area has the values of the messages received.
 const VALUES: usize = 2049;
 
-// The epoch of a process right after event e: "its initial state counts as save 1. A save raises both by one."
-pub fn epoch(events: &[u32; 6], e: u32, z: u32) -> u32
-    requires { ⌜ (e ≤ 6) × (z < 4) ⌝ }
-    ensures { λ r. ⌜ r ≡ 1 + timesOf (now (events .entry)) (z * 4) e ⌝ }
-    ensures { λ r. ⌜ r ≤ 7 ⌝ }
+// The epoch of a process right after event e, counted by its saves: "its initial state counts as save 1. A save raises
+// both by one." Counted by its dones, the latest that is finished: "A `done` finishes the oldest unfinished save", so
+// that so many dones finish the first so many saves, "epoch 1 being always finished".
+pub fn epoch_by(kind: u32, events: &[u32; 7], e: u32, z: u32) -> u32
+    requires { ⌜ (e ≤ 7) × (z < 4) ⌝ }
+    ensures { λ r. ⌜ r ≡ 1 + timesOf (now (events .entry)) (kind % 4 * 16 + z * 4) e ⌝ }
+    ensures { λ r. ⌜ r ≤ 8 ⌝ }
 {
-    1 + times(events, e, event(SAVE, z, 0))
+    1 + times(events, e, event(kind, z, 0))
 }
 
 // The event that sent what event e receives: channels are first-in first-out, so that the message has the receive's
 // number.
-fn sent(events: &[u32; 6], e: u32, w: u32) -> u32
-    requires { ⌜ e ≤ 6 ⌝ }
-    ensures { λ r. ⌜ r ≤ 6 ⌝ }
+fn sent(events: &[u32; 7], e: u32, w: u32) -> u32
+    requires { ⌜ e ≤ 7 ⌝ }
+    ensures { λ r. ⌜ r ≤ 7 ⌝ }
 {
     after(
         events,
@@ -43,43 +46,72 @@ fn sent(events: &[u32; 6], e: u32, w: u32) -> u32
 }
 
 // Is the message that event e receives logged: "when send epoch < receive epoch".
-fn logged(events: &[u32; 6], e: u32, w: u32) -> bool
-    requires { ⌜ e ≤ 6 ⌝ }
+fn logged(events: &[u32; 7], e: u32, w: u32) -> bool
+    requires { ⌜ e ≤ 7 ⌝ }
 {
-    epoch(events, sent(events, e, w), peer(w)) < epoch(events, e, process(w))
+    let from = epoch_by(SAVE, events, sent(events, e, w), peer(w));
+    from < epoch_by(SAVE, events, e, process(w))
 }
 
-// Is event e a receive with nothing in transit: more receives than sends so far.
-fn starves(events: &[u32; 6], e: u32, w: u32) -> bool
-    requires { ⌜ e ≤ 6 ⌝ }
+// Whether event e comes more often, so far, than the event that it needs.
+fn exceeds(events: &[u32; 7], e: u32, w: u32, needed: u32) -> bool
+    requires { ⌜ e ≤ 7 ⌝ }
 {
-    if kind(w) != RECEIVE {
-        return false;
+    times(events, e, w) > times(events, e, needed)
+}
+
+// What is wrong with event e: 5, "a receive with nothing in transit"; 15, "when a `done` finds no unfinished save"; or
+// nothing, 0. So few events have no 31st save.
+fn fault(events: &[u32; 7], e: u32, w: u32) -> u32
+    requires { ⌜ e ≤ 7 ⌝ }
+{
+    if kind(w) == RECEIVE {
+        if exceeds(events, e, w, event(SEND, peer(w), process(w))) {
+            return 5;
+        }
     }
-    times(events, e, w) > times(events, e, event(SEND, peer(w), process(w)))
-}
-
-// The first receive with nothing in transit, or 0.
-pub fn unfit(events: &[u32; 6], size: u32) -> u32
-    requires { ⌜ size ≤ 6 ⌝ }
-    ensures { λ r. ⌜ r ≤ size ⌝ }
-{
-    let mut i: u32 = 0;
-    while i < size {
-        let w = events[i as usize];
-        i += 1;
-        if starves(events, i, w) {
-            return i;
+    if kind(w) == DONE {
+        if exceeds(events, e, w, event(SAVE, process(w), 0)) {
+            return 15;
         }
     }
     0
 }
 
+// What reading the text of some events is to answer: where nothing is refused, 0 and 0.
+pub struct Refusal {
+    pub number: u32,
+    pub place: u32,
+}
+
+// "The first faulty line decides the refusal and its place." Event e stands in line e + 1.
+pub fn verdict(events: &[u32; 7], size: u32) -> Refusal
+    requires { ⌜ size ≤ 7 ⌝ }
+    ensures { λ r. ⌜ r .place ≤ size + 1 ⌝ }
+{
+    let mut i: u32 = 0;
+    while i < size {
+        let w = events[i as usize];
+        i += 1;
+        let number = fault(events, i, w);
+        if number != 0 {
+            return Refusal {
+                number: number,
+                place: i + 1,
+            };
+        }
+    }
+    Refusal {
+        number: 0,
+        place: 0,
+    }
+}
+
 // "A restart in an epoch is right after the save that raised the zone to it, in epoch 1 at the zone's start. For a zone
-// that stays, the cut takes the place of its restart."
+// that stays, the cut takes the place of its restart." Where the save's `done` stands does not matter for it.
 fn restart(f: Failure, line: &[u32; 4], z: u32) -> u32
-    requires { ⌜ (f .cut ≤ 6) × (z < 4) ⌝ }
-    ensures { λ r. ⌜ r ≤ 6 ⌝ }
+    requires { ⌜ (f .cut ≤ 7) × (z < 4) ⌝ }
+    ensures { λ r. ⌜ r ≤ 7 ⌝ }
 {
     let number = line[z as usize];
     if number == STAYS {
@@ -94,7 +126,7 @@ fn restart(f: Failure, line: &[u32; 4], z: u32) -> u32
 
 // Does event e receive a message that the line loses: "undone, sent before its sender's restart, and not logged".
 fn loses_at(f: Failure, line: &[u32; 4], e: u32, w: u32) -> bool
-    requires { ⌜ (f .cut ≤ 6) × (e ≤ 6) ⌝ }
+    requires { ⌜ (f .cut ≤ 7) × (e ≤ 7) ⌝ }
 {
     if kind(w) != RECEIVE {
         return false;
@@ -128,7 +160,7 @@ pub fn loses(f: Failure, line: &[u32; 4]) -> bool
 // Is event e a send whose message the line keeps: "sent before its sender's restart, and either undone and logged, or
 // not yet received at the cut".
 fn keeps_at(f: Failure, line: &[u32; 4], e: u32, w: u32) -> bool
-    requires { ⌜ (f .cut ≤ 6) × (e ≤ 6) ⌝ }
+    requires { ⌜ (f .cut ≤ 7) × (e ≤ 7) ⌝ }
 {
     if kind(w) != SEND {
         return false;
@@ -171,8 +203,8 @@ fn larger(a: u32, b: u32) -> u32 {
 }
 
 // The phase of a process right after event e; `phases` has, for each event up to e, the phase of its process after it.
-fn phase(events: &[u32; 6], phases: &[u32; 6], e: u32, z: u32) -> u32
-    requires { ⌜ e ≤ 6 ⌝ }
+fn phase(events: &[u32; 7], phases: &[u32; 7], e: u32, z: u32) -> u32
+    requires { ⌜ e ≤ 7 ⌝ }
 {
     let mut p: u32 = 1;
     let mut i: u32 = 0;
@@ -188,14 +220,14 @@ fn phase(events: &[u32; 6], phases: &[u32; 6], e: u32, z: u32) -> u32
 // The phase of its process after event e, from those of the events before. "A save raises both by one." "At a receive
 // the phase becomes the larger of the zone's own and the message's, or, if logged, of the zone's own and the message's
 // plus 1."
-fn next_phase(events: &[u32; 6], phases: &[u32; 6], e: u32, w: u32) -> u32
-    requires { ⌜ (1 ≤ e) × (e ≤ 6) ⌝ }
+fn next_phase(events: &[u32; 7], phases: &[u32; 7], e: u32, w: u32) -> u32
+    requires { ⌜ (1 ≤ e) × (e ≤ 7) ⌝ }
 {
     let own = phase(events, phases, e - 1, process(w));
     if kind(w) == SAVE {
         return std::num::wrapping_add_u32(own, 1);
     }
-    if kind(w) == SEND {
+    if kind(w) != RECEIVE {
         return own;
     }
     let carried = phase(events, phases, sent(events, e, w), peer(w));
@@ -204,8 +236,8 @@ fn next_phase(events: &[u32; 6], phases: &[u32; 6], e: u32, w: u32) -> u32
 }
 
 // The phase of its process after each event. None reaches 2^32.
-fn phases_of(events: &[u32; 6], size: u32, phases: &mut [u32; 6])
-    requires { ⌜ size ≤ 6 ⌝ }
+fn phases_of(events: &[u32; 7], size: u32, phases: &mut [u32; 7])
+    requires { ⌜ size ≤ 7 ⌝ }
 {
     let mut i: u32 = 0;
     while i < size {
@@ -221,7 +253,7 @@ pub fn phases_at(f: Failure, line: &[u32; 4], at: &mut [u32; 4])
     ensures { λ _. ⌜ spare (now (at .exit)) ≡ spare (now (at .entry)) ⌝ }
 {
     let events = f.events;
-    let mut phases = [0u32; 6];
+    let mut phases = [0u32; 7];
     phases_of(&events, f.cut, &mut phases);
     let mut z: u32 = 0;
     while z < f.count {
@@ -232,8 +264,8 @@ pub fn phases_at(f: Failure, line: &[u32; 4], at: &mut [u32; 4])
 
 // The record of the run without failure, as the run area has it: a message's value is the number of the event that sent
 // it. The area's first word stays.
-pub fn record(events: &[u32; 6], size: u32, run: &mut [u32; 16384])
-    requires { ⌜ size ≤ 6 ⌝ }
+pub fn record(events: &[u32; 7], size: u32, run: &mut [u32; 16384])
+    requires { ⌜ size ≤ 7 ⌝ }
     ensures { λ _. ⌜ firstWord (now (run .exit)) ≡ firstWord (now (run .entry)) ⌝ }
 {
     let mut i: u32 = 0;

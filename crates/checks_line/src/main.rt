@@ -1,10 +1,15 @@
-// Recovery lines by brute force. Every sequence of at most 6 events of two processes, and of at most 4 events of three,
+// Recovery lines by brute force. Every sequence of at most 5 events of two processes, and of at most 4 events of three,
 // is written as a trace text and read. Where it is fit, then for every cut and every failed set the engine's answer is
-// compared with the greatest of all lines that lose no message; and orders are replayed from lines: the record that is
-// left must be that of the run without failure exactly if the line loses none. What a line may hold, what it loses, and
-// which phases and steps there are is worked out by crate `bruteforce` from the few events alone; none of the engine's
-// tables or definitions is used. Printed: how much was compared, and how much of it differs; the file `stdout` has 0.
-// Proved safe and ending. Assumes what `libc` assumes.
+// compared with the greatest of all lines that name finished epochs and lose no message; and orders are replayed from
+// lines: the record that is left must be that of the run without failure exactly if the line loses none. Among them are
+// checkpoints unfinished at the cut, of failed processes and of others, several of one process, messages sent between a
+// checkpoint and its done, and dones after the cut. Sequences of 6 and 7 events of two processes are many: they are
+// compared where they are fit, at their last cut, and not replayed. They are there because it takes 7 until a process
+// that is lowered below its message's epoch, to one that is finished, lowers another, and until a logged message raises
+// a phase that an answer shows. What is fit, what a line may hold, what it loses, and which phases and steps there are
+// is worked out by crate `bruteforce` from the few events alone; none of the engine's tables or definitions is used.
+// Printed: how much was compared, and how much of it differs; the file `stdout` has 0. Proved safe and ending. Assumes
+// what `libc` assumes.
 ghost use Prim.Native.Nat.{_≤_, _<_};
 ghost use Rattle.bruteforce.specs.Counts.{SmallRun};
 use answers::right_replay;
@@ -86,8 +91,9 @@ fn replay_all(
     requires { ⌜ SmallRun f ⌝ }
 {
     let mut line = [0u32; 4];
+    let end = bestline::codes(f.count);
     let mut x = 0;
-    while x < 64 {
+    while x < end {
         if bestline::may_replay(f, x, &mut line) {
             replay(f, &line, table, faultless, run, tally);
         }
@@ -125,8 +131,14 @@ fn replay_some(
     }
 }
 
-// One failure. Traces of 6 events are compared and not replayed: they are many, and are there because it takes so many
-// until a logged message raises a phase that an answer shows.
+// Whether sequences of so many events are many: more than 5 of two processes, more than 4 of three.
+fn long(count: u32, size: u32) -> bool
+    requires { ⌜ (count ≤ 3) × (size ≤ 7) ⌝ }
+{
+    count + size > 7
+}
+
+// One failure.
 fn check_failure(
     f: Failure,
     table: &[u32; 16384],
@@ -137,7 +149,7 @@ fn check_failure(
     requires { ⌜ SmallRun f ⌝ }
 {
     let b = compare(f, table, tally);
-    if f.size == 6 {
+    if long(f.count, f.size) {
         return;
     }
     if f.count == 2 {
@@ -151,7 +163,7 @@ fn check_failure(
 // Every failed set at a cut.
 fn check_sets(
     count: u32,
-    events: &[u32; 6],
+    events: &[u32; 7],
     size: u32,
     cut: u32,
     table: &[u32; 16384],
@@ -159,7 +171,7 @@ fn check_sets(
     run: &mut [u32; 16384],
     tally: &mut [u64; 6],
 )
-    requires { ⌜ (count ≤ 3) × (size ≤ 6) × (cut ≤ 6) ⌝ }
+    requires { ⌜ (count ≤ 3) × (size ≤ 7) × (cut ≤ 7) ⌝ }
 {
     let all = everyone(count);
     let mut set: u64 = 0;
@@ -176,14 +188,22 @@ fn check_sets(
     }
 }
 
-// Every cut of a trace.
-fn check_cuts(count: u32, events: &[u32; 6], size: u32, table: &[u32; 16384], tally: &mut [u64; 6])
-    requires { ⌜ (count ≤ 3) × (size ≤ 6) ⌝ }
+// The first cut that is looked at: the cuts before the last are those of shorter traces.
+fn first_cut(count: u32, size: u32) -> u32
+    requires { ⌜ (count ≤ 3) × (size ≤ 7) ⌝ }
+    ensures { λ r. ⌜ r ≤ size ⌝ }
+{
+    if long(count, size) { size } else { 0 }
+}
+
+// The cuts of a trace.
+fn check_cuts(count: u32, events: &[u32; 7], size: u32, table: &[u32; 16384], tally: &mut [u64; 6])
+    requires { ⌜ (count ≤ 3) × (size ≤ 7) ⌝ }
 {
     let mut faultless = [0u32; 16384];
     bruteforce::record(events, size, &mut faultless);
     let mut run = [0u32; 16384];
-    let mut cut: u32 = 0;
+    let mut cut = first_cut(count, size);
     while cut <= size {
         check_sets(count, events, size, cut, table, &faultless, &mut run, tally);
         cut += 1;
@@ -191,42 +211,52 @@ fn check_cuts(count: u32, events: &[u32; 6], size: u32, table: &[u32; 16384], ta
 }
 
 // Writes the text of a sequence of events and reads it.
-fn read(count: u32, events: &[u32; 6], size: u32, table: &mut [u32; 16384]) -> reader::Answer
-    requires { ⌜ size ≤ 6 ⌝ }
+fn read(count: u32, events: &[u32; 7], size: u32, table: &mut [u32; 16384]) -> reader::Answer
+    requires { ⌜ size ≤ 7 ⌝ }
 {
-    let mut text = [0u8; 160];
+    let mut text = [0u8; 192];
     let n = put_trace(&mut text, count, events, size);
     reader::read(&text[..n], table)
 }
 
 // Whether the text of a sequence of events is what writing the area that it was read into gives.
-fn comes_back(count: u32, events: &[u32; 6], size: u32, table: &[u32; 16384]) -> bool
-    requires { ⌜ size ≤ 6 ⌝ }
+fn comes_back(count: u32, events: &[u32; 7], size: u32, table: &[u32; 16384]) -> bool
+    requires { ⌜ size ≤ 7 ⌝ }
 {
-    let mut text = [0u8; 160];
+    let mut text = [0u8; 192];
     let n = put_trace(&mut text, count, events, size);
-    let mut out = [roundtrip::BEFORE; 160];
+    let mut out = [roundtrip::BEFORE; 192];
     roundtrip::comes_back(table, &text[..n], &mut out)
 }
 
-// One sequence of events: the reader is to refuse it, with 5 at the line of the first receive with nothing in transit,
-// or to accept it, and then its text is to come back.
+// A trace that is fit: its text is to come back.
+fn check_trace(count: u32, events: &[u32; 7], size: u32, table: &[u32; 16384], tally: &mut [u64; 6])
+    requires { ⌜ (count ≤ 3) × (size ≤ 7) ⌝ }
+{
+    add(tally, TRACES, 1);
+    expect(tally, comes_back(count, events, size, table));
+    check_cuts(count, events, size, table, tally);
+}
+
+// One sequence of events: the reader is to accept it, or to refuse it, with 5 or 15 at the line of the first event that
+// is unfit. Of long ones, those that are unfit are passed over.
 fn check_sequence(count: u32, x: u32, table: &mut [u32; 16384], tally: &mut [u64; 6])
     requires { ⌜ (2 ≤ count) × (count ≤ 3) ⌝ }
 {
-    let mut events = [0u32; 6];
+    let mut events = [0u32; 7];
     let size = sequence(count, x, &mut events);
-    let r = read(count, &events, size, table);
-    let e = bruteforce::unfit(&events, size);
-    if e == 0 {
-        add(tally, TRACES, 1);
-        expect(tally, r.number == 0);
-        expect(tally, comes_back(count, &events, size, table));
-        check_cuts(count, &events, size, table, tally);
-    } else {
+    let v = bruteforce::verdict(&events, size);
+    if v.number != 0 {
+        if long(count, size) {
+            return;
+        }
         add(tally, REFUSED, 1);
-        expect(tally, r.number == 5);
-        expect(tally, r.place == e as usize + 1);
+    }
+    let r = read(count, &events, size, table);
+    expect(tally, r.number == v.number);
+    expect(tally, r.place == v.place as usize);
+    if v.number == 0 {
+        check_trace(count, &events, size, table, tally);
     }
 }
 
@@ -252,8 +282,8 @@ fn check_processes(count: u32, end: u32)
     print_tally(&tally);
 }
 
-// Two processes can do 6 things: 1 + 6 + .. + 6^6 sequences; three can do 15: 1 + 15 + .. + 15^4.
+// Two processes can do 8 things: 1 + 8 + .. + 8^7 sequences; three can do 18: 1 + 18 + .. + 18^4.
 fn main() {
-    check_processes(2, 55987);
-    check_processes(3, 54241);
+    check_processes(2, 2396745);
+    check_processes(3, 111151);
 }

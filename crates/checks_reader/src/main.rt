@@ -185,6 +185,9 @@ fn malformed_lines() {
         00-for-lf:ev=save at=0\x00ev=save at=0\n;\
         ff-for-lf:ev=save at=0\xffev=save at=0\n;\
         unknown-kind:ev=stop at=0\n;\
+        done-without-at:ev=done\n;\
+        done-with-a-value:ev=done at=0 val=5\n;\
+        done-no-lf:ev=done at=0;\
         capital:EV=save at=0\n;\
         count-again:procs=2\n;\
         failure:fail=1 set=1\n;\
@@ -206,6 +209,7 @@ fn leading_zeros() {
         zero-recv-at:ev=recv at=01 from=0\n;\
         zero-recv-from:ev=recv at=1 from=00\n;\
         zero-save-at:ev=save at=00\n;\
+        zero-done-at:ev=done at=01\n;\
         zero-itself:ev=send at=0 to=1 val=0\n;",
     );
 }
@@ -242,7 +246,11 @@ fn largest_numbers() {
         save-at-largest:ev=save at=4294967295\n;\
         save-at-over:ev=save at=4294967296\n;\
         save-at-64-bits:ev=save at=18446744073709551615\n;\
-        save-at-wraps-to-0:ev=save at=18446744073709551616\n;",
+        save-at-wraps-to-0:ev=save at=18446744073709551616\n;\
+        done-at-largest:ev=done at=4294967295\n;\
+        done-at-over:ev=done at=4294967296\n;\
+        done-at-64-bits:ev=done at=18446744073709551615\n;\
+        done-at-wraps-to-0:ev=done at=18446744073709551616\n;",
     );
 }
 
@@ -268,7 +276,7 @@ fn values() {
     halves(b"send-val-largest", b"18446744073709551615");
 }
 
-// 3, 4, 5, which comes first, and that the first faulty line decides.
+// 3, 4, 5, 15, which comes first, and that the first faulty line decides.
 fn faults() {
     rows(
         b"procs=3\nev=send at=0 to=1 val=5\n",
@@ -289,20 +297,31 @@ fn faults() {
         send-again-recv-twice:ev=send at=0 to=1 val=5\nev=recv at=1 from=0\nev=recv at=1 from=0\n;\
         fault-4-before-line-of-3:ev=send at=2 to=2 val=5\nev=save at=3\n;\
         fault-5-before-line-of-1:ev=recv at=2 from=0\nx\n;\
-        fault-3-before-line-without-lf:ev=save at=3\nx;",
+        fault-3-before-line-without-lf:ev=save at=3\nx;\
+        done-at-3:ev=done at=3\n;\
+        done-without-save:ev=done at=2\n;\
+        done-of-0:ev=save at=0\nev=done at=0\n;\
+        done-of-another:ev=save at=1\nev=done at=2\n;\
+        done-twice:ev=save at=1\nev=done at=1\nev=done at=1\n;\
+        two-saves-two-dones:ev=save at=2\nev=save at=2\nev=done at=2\nev=done at=2\n;\
+        fault-15-before-line-of-1:ev=done at=0\nx\n;",
     );
 }
 
-fn first_receive() {
+// 5 and 15 at line 2, and the largest process.
+fn first_events() {
     rows(
         b"",
         b"recv-first:procs=2\nev=recv at=1 from=0\n;\
+        done-first:procs=2\nev=done at=0\n;\
+        save-done-done:procs=2\nev=save at=0\nev=done at=0\nev=done at=0\n;\
         procs-64-at-63:procs=64\nev=save at=63\n;\
-        procs-64-at-64:procs=64\nev=save at=64\n;",
+        procs-64-at-64:procs=64\nev=save at=64\n;\
+        procs-64-done-at-63:procs=64\nev=save at=63\nev=done at=63\n;",
     );
 }
 
-// 6: the 30th and the 31st checkpoint of a process, and then another's.
+// 6: the 30th and the 31st checkpoint of a process, and then another's; the same with dones, and a done too many.
 fn saves() {
     let mut text = [0u8; 512];
     let at = repeat(&mut text, 0, b"procs=2\n", 1);
@@ -310,6 +329,13 @@ fn saves() {
     rows(
         &text[..n],
         b"saves-30:;saves-31:ev=save at=1\n;saves-30-and-1:ev=save at=0\n;",
+    );
+    let mut done = [0u8; 1024];
+    let to = repeat(&mut done, 0, b"procs=2\n", 1);
+    let m = repeat(&mut done, to, b"ev=save at=1\nev=done at=1\n", 30);
+    rows(
+        &done[..m],
+        b"saves-30-done:;saves-31-done:ev=save at=1\n;dones-31:ev=done at=1\n;",
     );
 }
 
@@ -324,6 +350,7 @@ fn events() {
         &text[..n],
         b"events-2049:ev=send at=0 to=1 val=0\n;\
         events-2049-out-of-range:ev=save at=9\n;\
+        events-2049-done:ev=done at=0\n;\
         line-2050-malformed:ev=send\n;\
         line-2050-no-lf:ev=save at=0;\
         line-2050-failure:fail=1 set=1\n;",
@@ -343,14 +370,15 @@ fn largest_text() {
     case(b"largest-text", &text[..n]);
 }
 
-// 12, before anything else, and the words of document 01's trace H.
+// 12, before anything else, and the words of document 01's trace H, with a done after each checkpoint: that of process
+// 1 is word 20, and that of process 0, word 24, is 0.
 fn areas() {
     small(b"small-fit", b"procs=2\n");
     small(b"small-malformed", b"x");
     table(
         b"trace-h",
-        b"procs=3\nev=send at=0 to=1 val=5\nev=recv at=1 from=0\nev=save at=1\n\
-        ev=send at=1 to=2 val=7\nev=recv at=2 from=1\nev=save at=0\n\
+        b"procs=3\nev=send at=0 to=1 val=5\nev=recv at=1 from=0\nev=save at=1\nev=done at=1\n\
+        ev=send at=1 to=2 val=7\nev=recv at=2 from=1\nev=save at=0\nev=done at=0\n\
         ev=send at=0 to=1 val=9\nev=recv at=1 from=0\nev=send at=1 to=2 val=4\n",
         0,
     );
@@ -364,7 +392,7 @@ fn main() {
     largest_numbers();
     values();
     faults();
-    first_receive();
+    first_events();
     saves();
     events();
     largest_text();

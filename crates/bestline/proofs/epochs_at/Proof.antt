@@ -9,10 +9,10 @@ use Rattle.bestline.proofs.epochs_at.Statement.{statement}
 use Rattle.bestline.proofs.epochs_at.Tie as tie
 
 abbrev Inv-loop : tie.InvT-loop
-Inv-loop f epochs₀ events z₀ epochs z = (z ≤ f .count) × (spare epochs ≡ spare epochs₀)
+Inv-loop f kind epochs₀ events z₀ epochs z = (z ≤ f .count) × (spare epochs ≡ spare epochs₀)
 
 abbrev μ-loop : tie.MeasureT-loop
-μ-loop f epochs₀ events z₀ epochs z = f .count - z
+μ-loop f kind epochs₀ events z₀ epochs z = f .count - z
 
 loop-holds : tie.Need-loop-holds Inv-loop μ-loop
 loop-holds c = (omega arith, refl)

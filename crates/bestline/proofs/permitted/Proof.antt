@@ -5,10 +5,10 @@ use Rattle.bestline.proofs.permitted.Statement.{statement}
 use Rattle.bestline.proofs.permitted.Tie as tie
 
 abbrev Inv-loop : tie.InvT-loop
-Inv-loop f epochs line z₀ z = z ≤ f .count
+Inv-loop f finished line z₀ z = z ≤ f .count
 
 abbrev μ-loop : tie.MeasureT-loop
-μ-loop f epochs line z₀ z = f .count - z
+μ-loop f finished line z₀ z = f .count - z
 
 pub permitted-spec : {M : Type 1} → statement M
 permitted-spec =

@@ -5,10 +5,10 @@ use Rattle.bestline.proofs.try_lines.Statement.{statement}
 use Rattle.bestline.proofs.try_lines.Tie as tie
 
 abbrev Inv-loop : tie.InvT-loop
-Inv-loop f epochs best₀ line₀ end judged₀ x₀ best line judged x = (judged ≤ x) × (x ≤ end)
+Inv-loop f finished best₀ line₀ end judged₀ x₀ best line judged x = (judged ≤ x) × (x ≤ end)
 
 abbrev μ-loop : tie.MeasureT-loop
-μ-loop f epochs best₀ line₀ end judged₀ x₀ best line judged x = end - x
+μ-loop f finished best₀ line₀ end judged₀ x₀ best line judged x = end - x
 
 pub try-lines-spec : {M : Type 1} → statement M
 try-lines-spec =

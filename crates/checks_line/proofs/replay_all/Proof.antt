@@ -5,12 +5,12 @@ use Rattle.checks_line.proofs.replay_all.Statement.{statement}
 use Rattle.checks_line.proofs.replay_all.Tie as tie
 
 abbrev Inv-loop : tie.InvT-loop
-Inv-loop f table faultless run₀ tally₀ line₀ x₀ run tally line x = x ≤ 64
+Inv-loop f table faultless run₀ tally₀ line₀ end x₀ run tally line x = x ≤ end
 
 abbrev μ-loop : tie.MeasureT-loop
-μ-loop f table faultless run₀ tally₀ line₀ x₀ run tally line x = 64 - x
+μ-loop f table faultless run₀ tally₀ line₀ end x₀ run tally line x = end - x
 
 pub replay-all-spec : {M : Type 1} → statement M
 replay-all-spec =
     tie.close
-    (tie.spec Inv-loop μ-loop (λ c. search needs) (λ c κs. search needs) (λ c κs. search needs) (λ c. search needs) (λ c. search needs) (λ c. search needs) (λ c. search needs))
+    (tie.spec Inv-loop μ-loop (λ c κs. search needs) (λ c. search needs) (λ c κs. search needs) (λ c κs. search needs) (λ c. search needs) (λ c. search needs) (λ c. search needs) (λ c. search needs))
