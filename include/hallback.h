@@ -7,10 +7,17 @@
    answer every other number is 0.
 
    A table area holds a trace that was read, a run area what a call leaves of a replay or a list; both have at least
-   16,384 words (HALLBACK_WORDS), laid out as docs/LAYOUT.md says. Words past 16,384 are never touched. A line is given
-   by its numbers: an epoch for each process, or 32 (HALLBACK_STAYS) for one that stays as it was at the cut, the moment
-   of the failure. A slice is passed as its pointer and its length; a pointer must not be null, not even where the
-   length is 0. No two slices of a call may overlap, except two that are only read.
+   16,384 words (HALLBACK_WORDS), laid out as docs/LAYOUT.md says. Words past 16,384 are never touched. A slice is
+   passed as its pointer and its length; a pointer must not be null, not even where the length is 0. No two slices of a
+   call may overlap, except two that are only read.
+
+   A line is given by its numbers, one for each process: an epoch that is finished at the cut, the moment of the
+   failure, or 32 (HALLBACK_STAYS) for a process that stays as it was at the cut, which a failed one may not. A save
+   (`ev=save`) begins an epoch; both are unfinished, the save still being written, until a done (`ev=done`) of that
+   process. Each done finishes the oldest unfinished save, so that the finished epochs are those from 1 to the latest
+   finished one. Epoch 1, the start, is always finished. A line with any other number, that of an unfinished epoch too,
+   is refused with 10. A trace from before there were dones still reads, but no save in it is finished: each process
+   that goes back goes back to its start.
 
    Values, the `val` of a send, have 64 bits, and an area has each as two words, its low and its high half:
    hallback_value, hallback_set_value and hallback_taken_value take and give them whole. A program from before that
@@ -46,7 +53,8 @@ enum {
     HALLBACK_TAKEN_HIGH_BASE = 4098, /* ... and word 4098 + e the high half */
     HALLBACK_SEND = 1,              /* the kind of an event, bits 12 and 13 of its word: a send, ... */
     HALLBACK_RECV = 2,              /* ... a receive, ... */
-    HALLBACK_SAVE = 3,              /* ... a save */
+    HALLBACK_SAVE = 3,              /* ... a save, ... */
+    HALLBACK_DONE = 0,              /* ... a done (a word past the last event is 0 too: word 1 counts the events) */
     HALLBACK_STAYS = 32,            /* in a line: the process stays */
     HALLBACK_RESTART_NUMBERS = 196, /* of the answer of hallback_restart */
     HALLBACK_REPORT_BYTES = 262144, /* a buffer of so many bytes holds every report */
@@ -64,9 +72,9 @@ static inline uint64_t hallback_from_halves(uint32_t low, uint32_t high) {
     return (uint64_t)high << 32 | low;
 }
 
-/* The value of an event of a table area: what a send sends, 0 for a receive, a save, or past the last event. Here and
-   below `event` is 1 to 2,048, and nothing is checked: another one stands for other words of the area, or for words
-   past it. */
+/* The value of an event of a table area: what a send sends, 0 for a receive, a save, a done, or past the last event.
+   Here and below `event` is 1 to 2,048, and nothing is checked: another one stands for other words of the area, or for
+   words past it. */
 static inline uint64_t hallback_value(const uint32_t *table, size_t event) {
     return hallback_from_halves(table[HALLBACK_VALUE_BASE + event], table[HALLBACK_HIGH_BASE + event]);
 }
@@ -85,8 +93,9 @@ static inline uint64_t hallback_taken_value(const uint32_t *run, size_t event) {
     return hallback_from_halves(run[HALLBACK_TAKEN_BASE + event], run[HALLBACK_TAKEN_HIGH_BASE + event]);
 }
 
-/* Reads a trace text without a failure line into the table area. Answer: place. Refusals: 12, then 1 to 7; after 1 to 7
-   the first 16,384 words of the table area are zero, 12 changes nothing. */
+/* Reads a trace text without a failure line into the table area. Answer: place. Refusals: 12, then 1 to 7 and 15, a
+   done of a process that has no unfinished save, all with the line of the text as their place; after these the first
+   16,384 words of the table area are zero, 12 changes nothing. */
 uint32_t hallback_read(const uint8_t *text, size_t text_len, uint32_t *table, size_t table_len, uint64_t *answer,
                        size_t answer_len);
 
@@ -114,11 +123,11 @@ uint32_t hallback_read_failure(const uint8_t *text, size_t text_len, uint32_t *t
 uint32_t hallback_write(const uint32_t *table, size_t table_len, uint8_t *out, size_t out_len, uint64_t *answer,
                         size_t answer_len);
 
-/* The greatest restart line that loses no message: in no other such line does any process keep more of its work. For a
-   failure right after event `step` (the cut) of the processes in `set` (bit z is process z). Answer: place, count of
-   processes, how many go back, the set of those; then 64 numbers each: the line, the epochs at the cut, the phases at
-   the restart or, for a process that stays, at the cut; 0 past the last process. Refusals: 12, 13, 8, 9. Changes only
-   `answer`. */
+/* The greatest restart line that loses no message: of all lines that may be given, in no other such one does any
+   process keep more of its work. For a failure right after event `step` (the cut) of the processes in `set` (bit z is
+   process z). Answer: place, count of processes, how many go back, the set of those; then 64 numbers each: the line,
+   the epochs at the cut, finished or not, the phases at the restart or, for a process that stays, at the cut; 0 past
+   the last process. Refusals: 12, 13, 8, 9. Changes only `answer`. */
 uint32_t hallback_restart(const uint32_t *table, size_t table_len, uint64_t step, uint64_t set, uint64_t *answer,
                           size_t answer_len);
 
@@ -146,11 +155,11 @@ uint32_t hallback_messages(const uint32_t *table, size_t table_len, uint64_t ste
 
    Steps are the choices carried out. From a line that loses no message (that of hallback_restart, or any of which
    hallback_messages counts none lost) every complete order has exactly the same number: one for each event (send,
-   receive or save) of each process after its restart, that is after the save that began its epoch, or from its start
-   for epoch 1, or after the cut if it stays, to the end of the trace; and one for each kept message, as many as
-   hallback_messages counts, also those that nobody receives. From a line that loses a message an order has at most that
-   number, and at most twice as many steps as the trace has events. That a complete order has that number does not show
-   that its line loses nothing. */
+   receive, save or done) of each process after its restart, that is after the save that began its epoch (not after its
+   done, which is one of these events), or from its start for epoch 1, or after the cut if it stays, to the end of the
+   trace; and one for each kept message, as many as hallback_messages counts, also those that nobody receives. From a
+   line that loses a message an order has at most that number, and at most twice as many steps as the trace has events.
+   That a complete order has that number does not show that its line loses nothing. */
 uint32_t hallback_replay(const uint32_t *table, size_t table_len, uint64_t step, uint64_t set, const uint32_t *line,
                          size_t line_len, const uint16_t *order, size_t order_len, uint32_t *run, size_t run_len,
                          uint64_t *answer, size_t answer_len);

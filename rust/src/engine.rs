@@ -10,7 +10,7 @@ fn accepted(number: u32, place: u64) -> Result<(), Refusal> {
     match number {
         0 => Ok(()),
         _ => Err(Refusal {
-            cause: Cause::from_number(number).expect("the archive gives numbers 0 to 14"),
+            cause: Cause::from_number(number).expect("the archive gives numbers 0 to 15"),
             place,
         }),
     }
@@ -23,7 +23,7 @@ fn small(word: u64) -> u32 {
 
 /// Reads a trace text without a failure line into the table area.
 ///
-/// After a refusal 1 to 7 the area is zero; after 12, the area being too short, it is as it was.
+/// After a refusal 1 to 7 or 15 the area is zero; after 12, the area being too short, it is as it was.
 ///
 /// ```
 /// use hallback::{Cause, AREA_WORDS};
@@ -34,6 +34,9 @@ fn small(word: u64) -> u32 {
 ///
 /// let refusal = hallback::read(b"procs=2\nev=recv at=1 from=0\n", &mut table).unwrap_err();
 /// assert_eq!((refusal.cause, refusal.place), (Cause::NothingInTransit, 2));
+///
+/// let refusal = hallback::read(b"procs=2\nev=done at=1\n", &mut table).unwrap_err();
+/// assert_eq!((refusal.cause, refusal.place), (Cause::NothingUnfinished, 2));
 /// ```
 pub fn read(text: &[u8], table: &mut [u32]) -> Result<(), Refusal> {
     let mut answer = [0; 1];
@@ -94,17 +97,28 @@ pub fn write<'a>(table: &[u32], out: &'a mut [u8]) -> Result<&'a [u8], Refusal> 
     Ok(&out[..length])
 }
 
-/// Finds the greatest restart line without a lost message.
+/// Finds the greatest restart line without a lost message. A process that goes back goes to an epoch
+/// that is finished at the cut.
 ///
 /// ```
 /// use hallback::{Failure, AREA_WORDS, STAY};
 ///
 /// let mut table = vec![0; AREA_WORDS];
-/// let text = b"procs=2\nev=save at=0\nev=send at=0 to=1 val=3\nev=recv at=1 from=0\n";
+/// let text = b"procs=2
+/// ev=save at=0
+/// ev=send at=0 to=1 val=3
+/// ev=recv at=1 from=0
+/// ev=done at=0
+/// ";
 /// hallback::read(text, &mut table)?;
-/// let restart = hallback::restart(&table, Failure { step: 3, set: 1 })?;
+/// let restart = hallback::restart(&table, Failure { step: 4, set: 1 })?;
 /// assert_eq!(restart.line(), [2, STAY]);
 /// assert_eq!((restart.back, restart.going), (1, 1));
+///
+/// // a step earlier the save is still being written
+/// let restart = hallback::restart(&table, Failure { step: 3, set: 1 })?;
+/// assert_eq!(restart.line(), [1, STAY]);
+/// assert_eq!(restart.epochs[0], 2);
 /// # Ok::<(), hallback::Refusal>(())
 /// ```
 pub fn restart(table: &[u32], failure: Failure) -> Result<Restart, Refusal> {
@@ -131,9 +145,14 @@ pub fn restart(table: &[u32], failure: Failure) -> Result<Restart, Refusal> {
 /// use hallback::{Counts, Failure, AREA_WORDS};
 ///
 /// let (mut table, mut run) = (vec![0; AREA_WORDS], vec![0; AREA_WORDS]);
-/// let text = b"procs=2\nev=save at=0\nev=send at=0 to=1 val=3\nev=recv at=1 from=0\n";
+/// let text = b"procs=2
+/// ev=save at=0
+/// ev=done at=0
+/// ev=send at=0 to=1 val=3
+/// ev=recv at=1 from=0
+/// ";
 /// hallback::read(text, &mut table)?;
-/// let failure = Failure { step: 3, set: 1 };
+/// let failure = Failure { step: 4, set: 1 };
 /// let counts = hallback::messages(&table, failure, &[2, 32], &mut run)?;
 /// assert_eq!(counts, Counts { orphans: 1, kept: 0, lost: 0 });
 /// # Ok::<(), hallback::Refusal>(())

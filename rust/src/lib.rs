@@ -15,6 +15,11 @@
 //! Values have 64 bits, which an area has as two words: [`value`], [`set_value`] and [`taken_value`]
 //! take and give them whole.
 //!
+//! A restart line has a number for each process: an epoch that is finished at the cut, the moment of
+//! the failure, or [`STAY`]. A save begins an epoch, which is unfinished, the save still being
+//! written, until a done; a done finishes the oldest unfinished save of its process. Epoch 1, the
+//! start, is always finished.
+//!
 #![cfg_attr(
     hallback_archive,
     doc = r#"
@@ -113,7 +118,8 @@ pub enum Cause {
     Step = 8,
     /// 9: the set of failed processes is empty or names one that is not there.
     Set = 9,
-    /// 10: the line has a wrong count of numbers, or one that is not permitted.
+    /// 10: the line has a wrong count of numbers, or one that is not permitted: neither a finished
+    /// epoch of its process nor, if that did not fail, [`STAY`].
     Line = 10,
     /// 11: a choice is not allowed where it comes in the order.
     Choice = 11,
@@ -123,13 +129,15 @@ pub enum Cause {
     Table = 13,
     /// 14: the byte buffer is shorter than the text.
     Buffer = 14,
+    /// 15: a done of a process that has no unfinished save.
+    NothingUnfinished = 15,
 }
 
 impl Cause {
     /// The cause with this number, if there is one.
     pub fn from_number(number: u32) -> Option<Cause> {
         use Cause::*;
-        const ALL: [Cause; 14] = [
+        const ALL: [Cause; 15] = [
             Form,
             ProcessCount,
             Process,
@@ -144,11 +152,12 @@ impl Cause {
             Area,
             Table,
             Buffer,
+            NothingUnfinished,
         ];
         ALL.into_iter().find(|cause| cause.number() == number)
     }
 
-    /// The number of this cause, 1 to 14.
+    /// The number of this cause, 1 to 15.
     pub fn number(self) -> u32 {
         self as u32
     }
@@ -159,7 +168,7 @@ impl Cause {
 pub struct Refusal {
     /// Why.
     pub cause: Cause,
-    /// The text line from 1 for causes 1 to 7, the place in the order from 1 for 11, else 0.
+    /// The text line from 1 for causes 1 to 7 and 15, the place in the order from 1 for 11, else 0.
     pub place: u64,
 }
 
@@ -198,9 +207,9 @@ pub struct Restart {
     pub back: u64,
     /// Bit z says that process z goes back.
     pub going: u64,
-    /// The line: an epoch, or [`STAY`]; 0 past the last process.
+    /// The line: an epoch that is finished at the cut, or [`STAY`]; 0 past the last process.
     pub numbers: [u32; MAX_PROCS],
-    /// The epoch of each process at the cut; 0 past the last.
+    /// The epoch of each process at the cut, finished or not; 0 past the last.
     pub epochs: [u32; MAX_PROCS],
     /// The phase of each process at its restart, or at the cut if it stays; 0 past the last.
     pub phases: [u32; MAX_PROCS],

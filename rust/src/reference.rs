@@ -41,6 +41,7 @@ const ROW_NUMBER_BASE: usize = 2_065;
 const ROW_PHASE_BASE: usize = 4_114;
 
 /// The kinds of events, as in a table area.
+const DONE: u8 = 0;
 const SEND: u8 = 1;
 const RECEIVE: u8 = 2;
 const SAVE: u8 = 3;

@@ -74,6 +74,11 @@ pub enum Event {
         /// The process.
         at: usize,
     },
+    /// The oldest unfinished save of process `at` is finished.
+    Done {
+        /// The process.
+        at: usize,
+    },
 }
 
 /// A trace: how many processes, and what they do.
@@ -96,6 +101,7 @@ impl Trace {
                 }
                 Event::Recv { at, from } => writeln!(text, "ev=recv at={at} from={from}"),
                 Event::Save { at } => writeln!(text, "ev=save at={at}"),
+                Event::Done { at } => writeln!(text, "ev=done at={at}"),
             }
             .expect("a vector takes all bytes");
         }
@@ -124,6 +130,47 @@ impl Trace {
             }
         }
     }
+
+    /// Puts dones in as `dones` says, and leaves out as many events at the end, so that the trace has
+    /// its length of before.
+    pub fn finish_saves(&mut self, dones: Dones, random: &mut Random) {
+        let count = self.events.len();
+        let mut events = Vec::with_capacity(count);
+        let mut unfinished = Vec::new();
+        for &event in &self.events {
+            events.push(event);
+            if let Event::Save { at } = event {
+                if random.percent(dones.at_once) {
+                    // the oldest one, which may be another than this
+                    events.push(Event::Done { at });
+                } else {
+                    unfinished.push(at);
+                }
+            } else if !unfinished.is_empty() && random.percent(dones.later) {
+                let at = unfinished.swap_remove(random.below(unfinished.len()));
+                events.push(Event::Done { at });
+            }
+        }
+        events.truncate(count);
+        self.events = events;
+    }
+}
+
+/// When saves are finished.
+#[derive(Clone, Copy, Debug)]
+pub struct Dones {
+    /// How many saves in a hundred are followed by a done.
+    pub at_once: usize,
+    /// How many of the other events in a hundred are, while a save is unfinished.
+    pub later: usize,
+}
+
+impl Dones {
+    /// A done after each save.
+    pub const AT_ONCE: Dones = Dones {
+        at_once: 100,
+        later: 0,
+    };
 }
 
 /// Visits all traces of so many processes with at most so many events; a value has the place of its
@@ -133,15 +180,16 @@ pub fn each_trace(procs: usize, events: usize, mut visit: impl FnMut(&Trace)) {
         procs,
         events: Vec::new(),
     };
-    let mut in_transit = vec![0; procs * procs];
-    each_longer(&mut trace, &mut in_transit, events, &mut visit);
+    let mut waiting = vec![0; procs * procs];
+    each_longer(&mut trace, &mut waiting, events, &mut visit);
 }
 
-/// Visits all traces that go on from this one with at most so many events. `in_transit` has how many
-/// messages are in transit from each process to each.
+/// Visits all traces that go on from this one with at most so many events. `waiting` has how many
+/// messages are in transit from each process to each, and how many saves of each are unfinished, as
+/// if from it to itself.
 fn each_longer(
     trace: &mut Trace,
-    in_transit: &mut [usize],
+    waiting: &mut [usize],
     more: usize,
     visit: &mut impl FnMut(&Trace),
 ) {
@@ -155,22 +203,22 @@ fn each_longer(
         for peer in 0..trace.procs {
             let to_peer = at * trace.procs + peer;
             let from_peer = peer * trace.procs + at;
-            if at == peer {
-                trace.events.push(Event::Save { at });
-                each_longer(trace, in_transit, more - 1, visit);
-                trace.events.pop();
-                continue;
-            }
-            trace.events.push(Event::Send { at, to: peer, val });
-            in_transit[to_peer] += 1;
-            each_longer(trace, in_transit, more - 1, visit);
-            in_transit[to_peer] -= 1;
+            let (begins, ends) = if at == peer {
+                (Event::Save { at }, Event::Done { at })
+            } else {
+                let send = Event::Send { at, to: peer, val };
+                (send, Event::Recv { at, from: peer })
+            };
+            trace.events.push(begins);
+            waiting[to_peer] += 1;
+            each_longer(trace, waiting, more - 1, visit);
+            waiting[to_peer] -= 1;
             trace.events.pop();
-            if in_transit[from_peer] > 0 {
-                trace.events.push(Event::Recv { at, from: peer });
-                in_transit[from_peer] -= 1;
-                each_longer(trace, in_transit, more - 1, visit);
-                in_transit[from_peer] += 1;
+            if waiting[from_peer] > 0 {
+                trace.events.push(ends);
+                waiting[from_peer] -= 1;
+                each_longer(trace, waiting, more - 1, visit);
+                waiting[from_peer] += 1;
                 trace.events.pop();
             }
         }

@@ -22,8 +22,8 @@ fn checked(event: usize) -> usize {
     event
 }
 
-/// The value of an event in a table area: what a send sends, 0 for a receive, a save, or past the
-/// last event.
+/// The value of an event in a table area: what a send sends, 0 for a receive, a save, a done, or past
+/// the last event.
 ///
 /// Looks at these two words and at nothing else of the area, which may hold no trace.
 ///
@@ -48,8 +48,8 @@ pub fn value(table: &[u32], event: usize) -> u64 {
 
 /// Gives an event of a table area another value.
 ///
-/// Only a send has one: with anything but 0 at a receive, at a save, or past the last event, every
-/// call that takes the area refuses it with [`Cause::Table`](crate::Cause::Table).
+/// Only a send has one: with anything but 0 at a receive, a save or a done, or past the last event,
+/// every call that takes the area refuses it with [`Cause::Table`](crate::Cause::Table).
 ///
 /// ```
 /// use hallback::{reference, AREA_WORDS, TEXT_BYTES};

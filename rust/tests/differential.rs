@@ -36,7 +36,7 @@ fn main() {
 
 #[cfg(hallback_archive)]
 mod compare {
-    use hallback::shapes::{each_trace, Event, Random, Shape, Trace, LONG_VALUES};
+    use hallback::shapes::{each_trace, Dones, Event, Random, Shape, Trace, LONG_VALUES};
     use hallback::{raw, reference, set_value};
     use hallback::{Failure, Refusal, Replayed, Restart, STAY};
     use hallback::{AREA_WORDS, EVENT_BASE, HIGH_BASE, VALUE_BASE};
@@ -103,6 +103,7 @@ mod compare {
             comparison.fixed_texts();
             comparison.bounds_of_keys();
             comparison.halves();
+            comparison.unfinished();
             comparison.small_traces();
         }
         for round in rounds {
@@ -475,6 +476,8 @@ mod compare {
             let send = "ev=send at=0 to=1 val=18446744073709551615\n";
             let receive = "ev=recv at=1 from=0\n";
             let save = "ev=save at=1\n";
+            let done = "ev=done at=1\n";
+            let save_done = format!("{save}{done}");
             let failures = [
                 "",
                 "fail=0 set=1\n",
@@ -504,6 +507,13 @@ mod compare {
                         format!("{send}{receive}{receive}"),
                         save.repeat(30),
                         save.repeat(31),
+                        done.to_string(),
+                        format!("{save_done}{done}"),
+                        format!("{save}ev=done at=0\n"),
+                        save_done.repeat(30),
+                        save_done.repeat(31),
+                        format!("{}{}", save.repeat(30), done.repeat(30)),
+                        format!("{}{}", save.repeat(30), done.repeat(31)),
                         send.repeat(2_047),
                         send.repeat(2_048),
                         send.repeat(2_049),
@@ -511,6 +521,9 @@ mod compare {
                         format!("{}{}", send.repeat(1_024), receive.repeat(1_025)),
                         format!("{}ev=save at=99\n", send.repeat(2_048)),
                         format!("{}ev=save at=99", send.repeat(2_048)),
+                        format!("{}{done}", send.repeat(2_048)),
+                        format!("{save}{}{done}", send.repeat(2_046)),
+                        format!("{save}{}{done}", send.repeat(2_047)),
                         format!("{}{}", save.repeat(30), send.repeat(2_018)),
                         longest.clone(),
                     ] {
@@ -552,6 +565,8 @@ mod compare {
                     format!("procs=2\nev=recv at={number} from=0\nfail=0 set=1\n"),
                     format!("procs=2\nev=recv at=1 from={number}\nfail=0 set=1\n"),
                     format!("procs=2\nev=save at={number}\nfail=0 set=1\n"),
+                    format!("procs=2\nev=done at={number}\nfail=0 set=1\n"),
+                    format!("procs=2\nev=save at=1\nev=done at={number}\nfail=2 set=2\n"),
                     format!("procs=2\nev=save at=1\nfail={number} set=1\n"),
                     format!("procs=2\nev=save at=1\nfail=1 set={number}\n"),
                 ] {
@@ -572,7 +587,7 @@ mod compare {
                 events.push(Event::Send { at: 1, to: 0, val });
             }
             events.extend([(0, 1), (1, 0), (0, 1)].map(|(at, from)| Event::Recv { at, from }));
-            events.push(Event::Save { at: 0 });
+            events.extend([Event::Save { at: 0 }, Event::Done { at: 0 }]);
             events.extend([(1, 0), (0, 1), (1, 0)].map(|(at, from)| Event::Recv { at, from }));
             let trace = Trace { procs: 2, events };
             let count = trace.events.len();
@@ -589,7 +604,7 @@ mod compare {
                     self.line(&table, Failure { step, set }, &line);
                 }
             }
-            let failure = Failure { step: 20, set: 3 };
+            let failure = Failure { step: 21, set: 3 };
             let run = self.area();
             let events = (1..=count + 1).chain([MAX_EVENTS - 1, MAX_EVENTS]);
             let planes = events.flat_map(|event| [VALUE_BASE + event, HIGH_BASE + event]);
@@ -611,7 +626,65 @@ mod compare {
             }
         }
 
-        /// All traces of two processes with few events, each with all failures and all lines.
+        /// A trace whose saves are finished late or never, with messages between a save and its done
+        /// and several saves of a process unfinished at a time: every failure, with every line up to
+        /// an epoch that there is not; and its table area with the word of each event changed to that
+        /// of a save or a done, or in one bit.
+        fn unfinished(&mut self) {
+            let text = b"procs=2
+ev=save at=0
+ev=send at=0 to=1 val=6
+ev=done at=0
+ev=save at=1
+ev=recv at=1 from=0
+ev=save at=0
+ev=send at=1 to=0 val=7
+ev=save at=0
+ev=recv at=0 from=1
+ev=send at=0 to=1 val=8
+ev=done at=1
+ev=recv at=1 from=0
+ev=done at=0
+ev=save at=1
+ev=send at=1 to=0 val=9
+ev=done at=0
+ev=recv at=0 from=1
+";
+            let mut table = self.area();
+            reference::read(text, &mut table).expect("the trace is fit");
+            let events = table[1] as usize;
+            let numbers = [0, 1, 2, 3, 4, 5, STAY];
+            let lines = numbers.map(|first| numbers.map(|second| [first, second]));
+            for step in 0..=events as u64 {
+                for set in 1..4 {
+                    for line in lines.concat() {
+                        self.line(&table, Failure { step, set }, &line);
+                    }
+                }
+            }
+            let run = self.area();
+            for event in 1..=events + 1 {
+                let word = table[EVENT_BASE + event];
+                let bits = (0..32).map(|bit| word ^ 1 << bit);
+                for word in bits.chain([0, 1, 2, 63, 0x40, 0x41, 0x3000, 0x3001, 0x4000]) {
+                    let mut changed = table.clone();
+                    changed[EVENT_BASE + event] = word;
+                    self.write(&changed);
+                    for step in [0, events as u64] {
+                        self.table(Input {
+                            table: &changed,
+                            failure: Failure { step, set: 3 },
+                            line: &[1, 1],
+                            order: &[0, 1],
+                            run: &run,
+                        });
+                    }
+                }
+            }
+        }
+
+        /// All traces of two processes with few events, each with all failures and all lines, those
+        /// that name an unfinished epoch too.
         fn small_traces(&mut self) {
             let run = self.area_of(AREA_WORDS);
             let mut table = run.clone();
@@ -669,6 +742,13 @@ mod compare {
             let mut trace = shape.trace_with(habits, procs, events, random);
             if random.percent(70) {
                 trace.lengthen_values(random);
+            }
+            if random.percent(90) {
+                let dones = Dones {
+                    at_once: random.pick(&[0, 0, 50, 90, 100]),
+                    later: random.pick(&[0, 1, 5, 30, 100]),
+                };
+                trace.finish_saves(dones, random);
             }
             let failure = shape.failure(&trace, random);
             self.texts(&trace, failure);
@@ -758,7 +838,7 @@ mod compare {
             }
             let length = self.random.below(60);
             let letters: &[u8] = self.random.pick(&[
-                b"procs=2\nev=send at=0 to=1 val=5\nfail=0 set=1\n" as &[u8],
+                b"procs=2\nev=send at=0 to=1 val=5\nev=done at=0\nfail=0 set=1\n" as &[u8],
                 b"0123456789\n =",
             ]);
             let from_letters: Vec<u8> = (0..length).map(|_| self.random.pick(letters)).collect();
@@ -779,17 +859,17 @@ mod compare {
         /// The greatest line of a failure and others, each with several orders.
         fn lines(&mut self, table: &[u32], failure: Failure) {
             let restart = reference::restart(table, failure).expect("the failure is fit");
+            let finished = finished(table, failure.step);
             self.line(table, failure, restart.line());
             for _ in 0..2 {
                 let mut line = restart.line().to_vec();
                 let changed = self.random.pick(&[10, 50, 100]);
                 for (z, number) in line.iter_mut().enumerate() {
                     if self.random.percent(changed) {
-                        let epochs = restart.epochs[z] as usize;
                         let stays = failure.set >> z & 1 == 0 && self.random.percent(30);
                         *number = match stays {
                             true => STAY,
-                            false => 1 + self.random.below(epochs) as u32,
+                            false => 1 + self.random.below(finished[z] as usize) as u32,
                         };
                     }
                 }
@@ -797,12 +877,15 @@ mod compare {
             }
             let mut line = restart.line().to_vec();
             let z = self.random.below(line.len());
-            match self.random.below(6) {
+            match self.random.below(8) {
                 0 => line.push(1),
                 1 => line.truncate(z),
                 2 => line[z] = restart.epochs[z] + 1,
                 3 => line[z] = STAY,
                 4 => line[z] = 0,
+                // the latest finished one, the first that is not, the one at the cut
+                5 => line[z] = self.random.pick(&[finished[z], finished[z] + 1]),
+                6 => line[z] = restart.epochs[z],
                 _ => line[z] = self.random.pick(&[31, 33, 1 << 16 | 1, u32::MAX]),
             }
             self.line(table, failure, &line);
@@ -940,6 +1023,18 @@ mod compare {
         })
     }
 
+    /// The latest finished epoch of each process after so many events, by the words of a table area.
+    fn finished(table: &[u32], step: u64) -> [u32; MAX_PROCS] {
+        let mut finished = [1; MAX_PROCS];
+        for &word in &table[EVENT_BASE + 1..][..step as usize] {
+            // the word of a done is its process
+            if let Some(epoch) = finished.get_mut(word as usize) {
+                *epoch += 1;
+            }
+        }
+        finished
+    }
+
     /// The numbers of an answer after its place.
     fn replayed_words(replayed: Replayed) -> Vec<u64> {
         vec![replayed.steps, u64::from(replayed.complete)]
@@ -1055,8 +1150,12 @@ mod compare {
                 text.splice(at..at, copied);
             }
             7 => {
-                let lines: [&[u8]; 8] = [
+                let lines: [&[u8]; 12] = [
                     b"ev=save at=1\n",
+                    b"ev=done at=1\n",
+                    b"ev=done at=0\n",
+                    b"ev=save at=0\nev=done at=0\n",
+                    b"ev=done at=64\n",
                     b"ev=recv at=0 from=1\n",
                     b"ev=send at=1 to=0 val=18446744073709551615\n",
                     b"ev=send at=1 to=1 val=1\n",
@@ -1070,7 +1169,8 @@ mod compare {
             }
             8 => {
                 let at = random.pick(&starts(text));
-                let more = "ev=save at=0\n".repeat(1 + random.below(40));
+                let line = random.pick(&["ev=save at=0\n", "ev=done at=0\n"]);
+                let more = line.repeat(1 + random.below(40));
                 text.splice(at..at, more.bytes());
             }
             _ => {
@@ -1113,19 +1213,22 @@ mod compare {
         let at = random.below(procs);
         let to = (at + 1 + random.below(procs - 1)) % procs;
         let save = 0x3000 | at as u32;
+        let done = at as u32;
         let send = 0x1000 | (to << 6 | at) as u32;
         let put = |table: &mut [u32], event: usize, word: u32, value: u64| {
             table[EVENT_BASE + event] = word;
             set_value(table, event, value);
         };
         let is_send = table[EVENT_BASE + event] >> 12 == 1;
-        match random.below(8) {
+        match random.below(9) {
             // another value of a send, if it is one, or another half of it
             0 if is_send => set_value(table, event, new),
             1 if is_send => table[HIGH_BASE + event] = bits as u32,
             2 if is_send => table[VALUE_BASE + event] = bits as u32,
-            // another event in its place, which may leave a receive without its message
+            // another event in its place, which may leave a receive without its message or a done
+            // without its save
             3 if events > 0 => put(table, event, save, 0),
+            8 if events > 0 => put(table, event, done, 0),
             4 if events > 0 => put(table, event, send, new),
             // one event less at the end
             5 if events > 0 => {
@@ -1135,7 +1238,7 @@ mod compare {
             // one event more, or one process
             6 if events < MAX_EVENTS => {
                 table[1] += 1;
-                let (word, value) = random.pick(&[(save, 0), (send, new)]);
+                let (word, value) = random.pick(&[(save, 0), (done, 0), (send, new)]);
                 put(table, events + 1, word, value);
             }
             _ => table[0] = MAX_PROCS.min(procs + 1) as u32,
@@ -1147,7 +1250,7 @@ mod compare {
         let events = table[1] as usize;
         let event = 1 + random.below(events.max(1));
         let values = random.pick(&[VALUE_BASE, HIGH_BASE]);
-        match random.below(12) {
+        match random.below(13) {
             0 => table[0] = random.pick(&[0, 1, 2, 3, 63, 64, 65, u32::MAX]),
             1 => table[1] = random.pick(&[0, 1, 2_048, 2_049, events as u32 + 1, u32::MAX]),
             2 => table[1] = table[1].saturating_sub(1),
@@ -1164,6 +1267,8 @@ mod compare {
                 table[random.pick(&gaps)] ^= 1 << random.below(32);
             }
             9 => table[values + events + 1] ^= 1,
+            // the word of a done, with a peer or without
+            11 => table[EVENT_BASE + event] = random.bits() as u32 & random.pick(&[0x3f, 0xfff]),
             10 => table[random.below(AREA_WORDS)] = random.bits() as u32,
             _ => {
                 // one more event than there was, which may be fit

@@ -1,8 +1,8 @@
 /* The library from C: reads the trace H of document 01, finds the restart line after its failure, carries out the
    lowest order from it, and compares the record with that of the line on which every process goes back to its start.
-   Then it changes the value of the first send and writes the trace back, and finds that value in the record of another
-   replay; and it writes back and reports the longest text that there is. Prints what it finds; 1 if that is not as
-   expected. */
+   It finds the line of a failure while a save is being written, too, and has one that names this save refused. Then it
+   changes the value of the first send and writes the trace back, and finds that value in the record of another replay;
+   and it writes back and reports the longest text that there is. Prints what it finds; 1 if that is not as expected. */
 #include <stdio.h>
 #include <string.h>
 
@@ -13,15 +13,18 @@ static const char text[] =
     "ev=send at=0 to=1 val=5\n"
     "ev=recv at=1 from=0\n"
     "ev=save at=1\n"
+    "ev=done at=1\n"
     "ev=send at=1 to=2 val=7\n"
     "ev=recv at=2 from=1\n"
     "ev=save at=0\n"
+    "ev=done at=0\n"
     "ev=send at=0 to=1 val=9\n"
     "ev=recv at=1 from=0\n"
     "ev=send at=1 to=2 val=4\n"
-    "fail=9 set=2\n";
+    "fail=11 set=2\n";
 
 static uint32_t table[HALLBACK_WORDS], run[HALLBACK_WORDS], whole[HALLBACK_WORDS];
+static uint32_t line[64];
 static uint64_t failure[3], restart[HALLBACK_RESTART_NUMBERS], answer[3];
 static uint8_t out[HALLBACK_TEXT_BYTES];
 
@@ -34,6 +37,22 @@ static int refused(const char *call, uint32_t number, uint64_t place) {
 /* The kind of an event of the table. */
 static uint32_t kind(size_t e) {
     return table[HALLBACK_EVENT_BASE + e] >> 12;
+}
+
+/* The line for a failure, left in `line` and printed; gives how many processes there are, 0 if it is refused. */
+static size_t find_line(uint64_t step, uint64_t set) {
+    uint32_t number = hallback_restart(table, HALLBACK_WORDS, step, set, restart, HALLBACK_RESTART_NUMBERS);
+    if (number != 0) {
+        refused("restart", number, restart[0]);
+        return 0;
+    }
+    printf("after event %llu: line", (unsigned long long)step);
+    for (size_t z = 0; z < restart[1]; z++) {
+        line[z] = restart[4 + z];
+        printf(" %u", (unsigned)line[z]);
+    }
+    printf(", %llu go back\n", (unsigned long long)restart[2]);
+    return restart[1];
 }
 
 /* The sum of the values that were received, by the words of a delivery record. */
@@ -66,17 +85,16 @@ int main(void) {
     if (number != 0) return refused("read", number, failure[0]);
     uint64_t step = failure[1], set = failure[2];
 
-    number = hallback_restart(table, HALLBACK_WORDS, step, set, restart, HALLBACK_RESTART_NUMBERS);
-    if (number != 0) return refused("restart", number, restart[0]);
-    uint32_t line[64];
-    size_t count = restart[1];
-    printf("line");
-    for (size_t z = 0; z < count; z++) {
-        line[z] = restart[4 + z];
-        printf(" %u", (unsigned)line[z]);
-    }
-    printf(", %llu go back\n", (unsigned long long)restart[2]);
+    /* Event 3 is a save of process 1, event 4 its done. In between a line may not name its epoch, 2. */
+    size_t count = find_line(3, set);
+    if (count != 3 || line[1] != 1) return 1;
+    line[1] = 2;
+    if (hallback_messages(table, HALLBACK_WORDS, 3, set, line, count, run, HALLBACK_WORDS, answer, 3) != 10) return 1;
+    count = find_line(4, set);
+    if (count != 3 || line[1] != 2) return 1;
 
+    count = find_line(step, set);
+    if (count != 3) return 1;
     number = hallback_lowest(table, HALLBACK_WORDS, step, set, line, count, run, HALLBACK_WORDS, answer, 3);
     if (number != 0) return refused("lowest", number, answer[0]);
     printf("%llu steps, %s\n", (unsigned long long)answer[1], answer[2] ? "complete" : "not complete");
@@ -90,7 +108,8 @@ int main(void) {
     if (!same) return 1;
 
     /* Event 1 is a send; it gets another value. All else comes back as it was read. */
-    if (kind(1) != HALLBACK_SEND || kind(2) != HALLBACK_RECV || kind(3) != HALLBACK_SAVE) return 1;
+    if (kind(1) != HALLBACK_SEND || kind(2) != HALLBACK_RECV || kind(3) != HALLBACK_SAVE || kind(4) != HALLBACK_DONE)
+        return 1;
     const uint64_t edited_value = 12345678901234567890u;
     if (hallback_value(table, 1) != 5) return 1;
     hallback_set_value(table, 1, edited_value);
@@ -104,7 +123,7 @@ int main(void) {
     printf("the text %s back, edited: %llu bytes\n", back ? "comes" : "does not come", (unsigned long long)answer[1]);
     if (!back) return 1;
 
-    /* The record has all that was received: by events 2, 5 and 8, and not the last message, which nobody receives. */
+    /* The record has all that was received: by events 2, 6 and 10, and not the last message, which nobody receives. */
     number = hallback_lowest(table, HALLBACK_WORDS, step, set, line, count, run, HALLBACK_WORDS, answer, 3);
     if (number != 0) return refused("lowest", number, answer[0]);
     uint64_t sum = sum_received(run, table[1]);

@@ -15,6 +15,7 @@ static const char text[] =
     "ev=send at=0 to=1 val=5\n"
     "ev=recv at=1 from=0\n"
     "ev=save at=1\n"
+    "ev=done at=1\n"
     "ev=send at=1 to=2 val=7\n"
     "ev=recv at=2 from=1\n"
     "ev=save at=0\n"
@@ -22,7 +23,7 @@ static const char text[] =
     "ev=send at=0 to=2 val=9\n"
     "ev=recv at=1 from=0\n"
     "ev=send at=1 to=2 val=4\n"
-    "fail=10 set=2\n";
+    "fail=11 set=2\n";
 
 static const uint8_t *const bytes = (const uint8_t *)text;
 static const size_t length = sizeof text - 1;
@@ -35,7 +36,7 @@ static uint8_t out[HALLBACK_REPORT_BYTES];
 /* How many calls were refused. */
 static uint32_t refused;
 
-enum { STEP = 10, SET = 2, NUMBERS = HALLBACK_RESTART_NUMBERS };
+enum { STEP = 11, SET = 2, NUMBERS = HALLBACK_RESTART_NUMBERS };
 
 static void *read_text(void *unused) {
     static const char last[] = "fail=";

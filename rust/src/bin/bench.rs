@@ -7,7 +7,10 @@
 //! the median of 31 times of the engine, what it was given, and the reference's there.
 //!
 //! `bench once engine|reference CALL SHAPE EVENTS` does one call once, inside the function
-//! `bench_engine_once` or `bench_reference_once`, so that its instructions can be counted:
+//! `bench_engine_once` or `bench_reference_once`, so that its instructions can be counted. In a trace
+//! each save is followed by a done; `SHAPE-unfinished` is the same without dones, as shapes were
+//! before there were any, and `SHAPE-unsaved` has no saves either, so that it can be read, and has the
+//! same line, whether saves need dones or not:
 //!
 //! ```text
 //! valgrind --tool=callgrind --callgrind-out-file=/dev/null \
@@ -46,7 +49,7 @@ fn main() {
 
 #[cfg(hallback_archive)]
 mod bench {
-    use hallback::shapes::{Habits, Random, Shape, Trace};
+    use hallback::shapes::{Dones, Event, Habits, Random, Shape, Trace};
     use hallback::{raw, reference};
     use hallback::{Failure, Replayed, AREA_WORDS, MAX_PROCS, REPORT_BYTES, TEXT_BYTES};
     use std::hint::black_box;
@@ -57,6 +60,52 @@ mod bench {
 
     /// Words of the longest answer.
     const ANSWER_WORDS: usize = 4 + 3 * MAX_PROCS;
+
+    /// What becomes of the saves of a trace.
+    #[derive(Clone, Copy)]
+    enum Saves {
+        /// Each is followed by a done.
+        Finished,
+        /// There are no dones.
+        Unfinished,
+        /// They are left out.
+        LeftOut,
+    }
+
+    /// The shape of this name, and what its ending says of the saves.
+    fn named(name: &str) -> Option<(Shape, Saves)> {
+        let (name, saves) = match name.split_once('-') {
+            None => (name, Saves::Finished),
+            Some((name, "unfinished")) => (name, Saves::Unfinished),
+            Some((name, "unsaved")) => (name, Saves::LeftOut),
+            Some(_) => return None,
+        };
+        let shape = Shape::ALL.into_iter().find(|s| s.name() == name)?;
+        Some((shape, saves))
+    }
+
+    /// A trace of this shape.
+    fn trace(shape: Shape, saves: Saves, procs: usize, events: usize) -> Trace {
+        let mut random = Random::new(events as u64);
+        let habits = shape.habits(procs, events);
+        let mut made = |events| shape.trace_with(habits, procs, events, &mut random);
+        match saves {
+            Saves::Finished => {
+                let mut trace = made(events);
+                trace.finish_saves(Dones::AT_ONCE, &mut random);
+                trace
+            }
+            Saves::Unfinished => made(events),
+            Saves::LeftOut => {
+                // under half of its events are saves
+                let mut trace = made(2 * events);
+                let saved = |event: &Event| matches!(event, Event::Save { .. });
+                trace.events.retain(|event| !saved(event));
+                trace.events.truncate(events);
+                trace
+            }
+        }
+    }
 
     #[derive(Clone, Copy, Debug, PartialEq, Eq)]
     enum Call {
@@ -120,9 +169,8 @@ mod bench {
 
     impl Input {
         /// A trace of this shape that fails with a quarter to come, its greatest line and lowest order.
-        fn new(shape: Shape, procs: usize, events: usize) -> Input {
-            let mut random = Random::new(events as u64);
-            let trace = shape.trace(procs, events, &mut random);
+        fn new(shape: Shape, saves: Saves, procs: usize, events: usize) -> Input {
+            let trace = trace(shape, saves, procs, events);
             let half = procs / 2;
             let set = match shape {
                 Shape::Orphans => u64::MAX >> (MAX_PROCS - half),
@@ -253,7 +301,7 @@ mod bench {
         );
         for shape in Shape::ALL {
             for (events, procs) in SIZES {
-                let mut input = Input::new(shape, procs, events);
+                let mut input = Input::new(shape, Saves::Finished, procs, events);
                 println!(
                     "{}, {events} events, {procs} processes, {} bytes, {} steps",
                     shape.name(),
@@ -292,7 +340,12 @@ mod bench {
                 receives: random.pick(&[30, 45, 60, 100]),
                 in_transit: random.pick(&[0, 8, 32, 128, 512]),
             };
-            let trace = shape.trace_with(habits, procs, events, &mut random);
+            let dones = Dones {
+                at_once: random.pick(&[0, 100, 100]),
+                later: random.pick(&[0, 3, 30]),
+            };
+            let mut trace = shape.trace_with(habits, procs, events, &mut random);
+            trace.finish_saves(dones, &mut random);
             let failure = shape.failure(&trace, &mut random);
             let from_start = random.percent(25);
             let mut input = Input::of(&trace, failure, from_start);
@@ -306,7 +359,7 @@ mod bench {
                     *most = time;
                     *reference = median(bench_reference_once, *call, &mut input, SURE);
                     *what = format!(
-                        "round {round}, {} {habits:?}, fail={} set={}, {} steps",
+                        "round {round}, {} {habits:?} {dones:?}, fail={} set={}, {} steps",
                         shape.name(),
                         failure.step,
                         failure.set,
@@ -329,12 +382,12 @@ mod bench {
             _ => return None,
         };
         let call = Call::ALL.into_iter().find(|c| c.name() == call)?;
-        let shape = Shape::ALL.into_iter().find(|s| s.name() == shape)?;
+        let (kind, saves) = named(shape)?;
         let events: usize = events.parse().ok()?;
         let (_, procs) = SIZES.into_iter().find(|size| size.0 == events)?;
-        let mut input = Input::new(shape, procs, events);
+        let mut input = Input::new(kind, saves, procs, events);
         let answer = black_box(implementation)(call, &mut input);
-        println!("{who} {} {} {events}: {answer}", call.name(), shape.name());
+        println!("{who} {} {shape} {events}: {answer}", call.name());
         Some(())
     }
 }

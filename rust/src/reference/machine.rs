@@ -1,7 +1,7 @@
 //! Replay: which choices are allowed, and what each does.
 
-use super::recorded::{Class, Event, Recorded, Restarts};
-use super::{RECEIVE, SAVE, SEND};
+use super::recorded::{Class, Event, Recorded, Restarts, NO_KIND};
+use super::{RECEIVE, SEND};
 use crate::MAX_PROCS;
 
 /// The number of the first choice that hands over a kept message.
@@ -101,7 +101,7 @@ impl<'a> Machine<'a> {
         match event.kind {
             SEND => self.channels[usize::from(event.channel)].first_kept == 0,
             RECEIVE => self.channels[usize::from(event.channel)].oldest != 0,
-            kind => kind == SAVE,
+            kind => kind != NO_KIND,
         }
     }
 

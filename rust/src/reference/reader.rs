@@ -1,6 +1,6 @@
 //! The trace text, read in one pass.
 
-use super::{MAX_SAVES, RECEIVE, SAVE, SEND};
+use super::{DONE, MAX_SAVES, RECEIVE, SAVE, SEND};
 use crate::values::halves;
 use crate::{Cause, Failure, Refusal};
 use crate::{AREA_WORDS, EVENT_BASE, HIGH_BASE, MAX_EVENTS, MAX_PROCS, VALUE_BASE};
@@ -93,39 +93,8 @@ impl Cursor<'_> {
     /// An event line, or a failure line where that is due.
     #[inline]
     fn line(&mut self, failure_due: bool) -> Option<Line> {
-        if self.bytes(b"ev=send at=").is_some() {
-            let at = self.word()?;
-            self.bytes(b" to=")?;
-            let peer = self.word()?;
-            self.bytes(b" val=")?;
-            let value = self.two_words()?;
-            self.bytes(b"\n")?;
-            Some(Line::Event {
-                kind: SEND,
-                at,
-                peer,
-                value,
-            })
-        } else if self.bytes(b"ev=recv at=").is_some() {
-            let at = self.word()?;
-            self.bytes(b" from=")?;
-            let peer = self.word()?;
-            self.bytes(b"\n")?;
-            Some(Line::Event {
-                kind: RECEIVE,
-                at,
-                peer,
-                value: 0,
-            })
-        } else if self.bytes(b"ev=save at=").is_some() {
-            let at = self.word()?;
-            self.bytes(b"\n")?;
-            Some(Line::Event {
-                kind: SAVE,
-                at,
-                peer: 0,
-                value: 0,
-            })
+        if self.bytes(b"ev=").is_some() {
+            self.event()
         } else if failure_due {
             self.bytes(b"fail=")?;
             let step = u64::from(self.word()?);
@@ -136,6 +105,34 @@ impl Cursor<'_> {
         } else {
             None
         }
+    }
+
+    /// An event line after its `ev=`. Eight bytes tell the kinds apart.
+    #[inline]
+    fn event(&mut self) -> Option<Line> {
+        let (kind, at, peer, value) = if self.bytes(b"send at=").is_some() {
+            let at = self.word()?;
+            self.bytes(b" to=")?;
+            let peer = self.word()?;
+            self.bytes(b" val=")?;
+            (SEND, at, peer, self.two_words()?)
+        } else if self.bytes(b"recv at=").is_some() {
+            let at = self.word()?;
+            self.bytes(b" from=")?;
+            (RECEIVE, at, self.word()?, 0)
+        } else if self.bytes(b"save at=").is_some() {
+            (SAVE, self.word()?, 0, 0)
+        } else {
+            self.bytes(b"done at=")?;
+            (DONE, self.word()?, 0, 0)
+        };
+        self.bytes(b"\n")?;
+        Some(Line::Event {
+            kind,
+            at,
+            peer,
+            value,
+        })
     }
 
     fn ended(&self) -> bool {
@@ -169,6 +166,7 @@ fn read_lines(
     let mut in_transit = vec![0u16; (procs * procs) as usize];
     let channel = |from: u32, to: u32| (from * procs + to) as usize;
     let mut saves = [0; MAX_PROCS];
+    let mut unfinished = [0u8; MAX_PROCS];
     let mut events = 0;
     table[0] = procs;
     loop {
@@ -198,10 +196,8 @@ fn read_lines(
         if at >= procs || peer >= procs {
             return refused(Cause::Process);
         }
-        if at == peer && kind != SAVE {
-            return refused(Cause::Itself);
-        }
         match kind {
+            SEND | RECEIVE if at == peer => return refused(Cause::Itself),
             SEND => in_transit[channel(at, peer)] += 1,
             RECEIVE => {
                 let waiting = &mut in_transit[channel(peer, at)];
@@ -210,12 +206,20 @@ fn read_lines(
                 }
                 *waiting -= 1;
             }
-            _ => {
+            SAVE => {
                 let saves = &mut saves[at as usize];
                 if *saves == MAX_SAVES {
                     return refused(Cause::Saves);
                 }
                 *saves += 1;
+                unfinished[at as usize] += 1;
+            }
+            _ => {
+                let unfinished = &mut unfinished[at as usize];
+                if *unfinished == 0 {
+                    return refused(Cause::NothingUnfinished);
+                }
+                *unfinished -= 1;
             }
         }
         events += 1;

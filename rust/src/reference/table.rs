@@ -76,8 +76,9 @@ impl<'a> Words<'a> {
 
     /// Whether all events are fit, each after those before it.
     ///
-    /// What is left for a receive or a save to take says most of it: nothing is in transit from a
-    /// process to itself, nor to or from one that is not there, and that one has no saves left.
+    /// What is left for a receive, a save or a done to take says most of it: nothing is in transit from
+    /// a process to itself, nor to or from one that is not there, and that one has no saves left and
+    /// none unfinished.
     #[inline]
     pub fn hold_trace(&self) -> bool {
         let procs = self.procs;
@@ -86,6 +87,7 @@ impl<'a> Words<'a> {
         let channel = |from: usize, to: usize| to << 6 | from;
         let mut saves = [u16::from(MAX_SAVES); MAX_PROCS];
         let saves = &mut saves[..procs];
+        let mut unfinished = [0; MAX_PROCS];
         self.events().all(|(word, value)| {
             let (kind, at, peer) = unpack(word);
             if kind == u32::from(SEND) {
@@ -93,12 +95,16 @@ impl<'a> Words<'a> {
                 at < procs && at != peer && count.map(|count| *count += 1).is_some()
             } else if kind == u32::from(RECEIVE) {
                 value == 0 && take(in_transit.get_mut(channel(peer, at)))
-            } else if kind == u32::from(SAVE) {
-                // with a peer this is no process that there is
-                let process = word - (u32::from(SAVE) << 12);
-                value == 0 && take(saves.get_mut(process as usize))
-            } else {
+            } else if value != 0 {
                 false
+            } else if let Some(process) = word.checked_sub(u32::from(SAVE) << 12) {
+                // a save; with a peer, or of a higher kind, this is no process that there is
+                let process = process as usize;
+                let count = unfinished.get_mut(process);
+                take(saves.get_mut(process)) && count.map(|count| *count += 1).is_some()
+            } else {
+                // a done; with a peer its word is no process that there is
+                take(unfinished.get_mut(word as usize))
             }
         })
     }

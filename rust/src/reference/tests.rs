@@ -1,7 +1,7 @@
 //! The runs of the requirements, and a slow implementation to compare with on small traces.
 
 use super::*;
-use crate::shapes::{each_trace, Event, Random, Shape, Trace, LONG_VALUES};
+use crate::shapes::{each_trace, Dones, Event, Random, Shape, Trace, LONG_VALUES};
 use crate::{set_value, taken_value, value};
 use crate::{EVENT_BASE, HIGH_BASE, MAX_EVENTS, STAY, TEXT_BYTES, VALUE_BASE};
 use std::collections::{BTreeMap, VecDeque};
@@ -10,15 +10,27 @@ const H: &str = "procs=3
 ev=send at=0 to=1 val=5
 ev=recv at=1 from=0
 ev=save at=1
+ev=done at=1
 ev=send at=1 to=2 val=7
 ev=recv at=2 from=1
 ev=save at=0
+ev=done at=0
 ev=send at=0 to=1 val=9
 ev=recv at=1 from=0
 ev=send at=1 to=2 val=4
 ";
-const L: &str = "procs=2\nev=send at=0 to=1 val=3\nev=save at=1\nev=recv at=1 from=0\n";
-const S: &str = "procs=2\nev=save at=0\nev=send at=0 to=1 val=3\nev=recv at=1 from=0\n";
+const L: &str = "procs=2
+ev=send at=0 to=1 val=3
+ev=save at=1
+ev=done at=1
+ev=recv at=1 from=0
+";
+const S: &str = "procs=2
+ev=save at=0
+ev=done at=0
+ev=send at=0 to=1 val=3
+ev=recv at=1 from=0
+";
 const T: &str = "procs=2\nev=send at=0 to=1 val=3\nev=recv at=1 from=0\n";
 
 fn table_of(text: &str) -> Vec<u32> {
@@ -99,10 +111,10 @@ fn r1_report_of_h() {
 out=proc at=1 epoch=2 restart=2 phase=2
 out=proc at=2 epoch=1 restart=32 phase=2
 out=orphan from=1 to=2 no=1 phase=2
-out=total back=2 orphans=1 kept=0 steps=4
+out=total back=2 orphans=1 kept=0 steps=6
 ";
-    assert_eq!(report_of(format!("{H}fail=9 set=2\n").as_bytes()), wanted);
-    let restart = restart(&table_of(H), failure(9, 2)).unwrap();
+    assert_eq!(report_of(format!("{H}fail=11 set=2\n").as_bytes()), wanted);
+    let restart = restart(&table_of(H), failure(11, 2)).unwrap();
     assert_eq!(restart.line(), [2, 2, 32]);
     assert_eq!(restart.epochs[..4], [2, 2, 1, 0]);
     assert_eq!(restart.phases[..4], [2, 2, 2, 0]);
@@ -112,54 +124,57 @@ out=total back=2 orphans=1 kept=0 steps=4
 #[test]
 fn r2_r3_other_lines_of_h() {
     let mut run = new_run();
-    let counts = messages(&table_of(H), failure(9, 2), &[32, 2, 32], &mut run).unwrap();
+    let counts = messages(&table_of(H), failure(11, 2), &[32, 2, 32], &mut run).unwrap();
     assert_eq!(counts.lost, 1);
     let row = ROW_BASE + counts.orphans as usize + counts.kept as usize + 1;
     assert_eq!(run[row], 64 | 3 << 12);
     assert_eq!(run[row + ROW_NUMBER_BASE - ROW_BASE], 2);
-    assert_eq!(counts_of(H, failure(9, 2), &[1, 1, 32]).2, 0);
-    assert_ne!(line_of(H, failure(9, 2)), [1, 1, 32]);
+    assert_eq!(counts_of(H, failure(11, 2), &[1, 1, 32]).2, 0);
+    assert_ne!(line_of(H, failure(11, 2)), [1, 1, 32]);
 }
 
 #[test]
 fn steps_of_lines_of_h() {
-    let exact = |line: &[u32]| exact_steps(&table_of(H), failure(9, 2), line).unwrap();
-    assert_eq!(exact(&[2, 2, 32]), 4);
-    assert_eq!(exact(&[1, 1, 32]), 8);
-    assert_eq!(steps_of(H, failure(9, 2), &[1, 1, 32]), 8);
-    // the second of the 3 events waits for the lost message
-    assert_eq!(exact(&[32, 2, 32]), 3);
-    assert_eq!(steps_of(H, failure(9, 2), &[32, 2, 32]), 1);
+    let exact = |line: &[u32]| exact_steps(&table_of(H), failure(11, 2), line).unwrap();
+    assert_eq!(exact(&[2, 2, 32]), 6);
+    assert_eq!(exact(&[1, 1, 32]), 10);
+    assert_eq!(steps_of(H, failure(11, 2), &[1, 1, 32]), 10);
+    // the third of the 4 events waits for the lost message
+    assert_eq!(exact(&[32, 2, 32]), 4);
+    assert_eq!(steps_of(H, failure(11, 2), &[32, 2, 32]), 2);
 }
 
 #[test]
 fn r4_before_all() {
     assert_eq!(line_of(H, failure(0, 1)), [1, 32, 32]);
-    assert_eq!(steps_of(H, failure(0, 1), &[1, 32, 32]), 9);
+    assert_eq!(steps_of(H, failure(0, 1), &[1, 32, 32]), 11);
 }
 
 #[test]
 fn r5_r6_a_logged_message() {
-    let failure = failure(3, 2);
+    let failure = failure(4, 2);
     assert_eq!(line_of(L, failure), [32, 2]);
     let mut run = new_run();
     messages(&table_of(L), failure, &[32, 2], &mut run).unwrap();
     assert_eq!(run[..3], [0, 1, 0]);
     assert_eq!(run[ROW_BASE + 1], 64 | 2 << 12);
     assert_eq!((run[ROW_NUMBER_BASE + 1], run[ROW_PHASE_BASE + 1]), (1, 1));
-    assert_eq!(replay_of(L, failure, &[32, 2], &[65, 1]), Ok(true));
-    assert_eq!(replay_of(L, failure, &[32, 2], &[1]), not_allowed(1));
+    assert_eq!(replay_of(L, failure, &[32, 2], &[65, 1, 1]), Ok(true));
+    assert_eq!(replay_of(L, failure, &[32, 2], &[1, 65, 1]), Ok(true));
+    assert_eq!(replay_of(L, failure, &[32, 2], &[65, 1]), Ok(false));
+    assert_eq!(replay_of(L, failure, &[32, 2], &[1, 1]), not_allowed(2));
 }
 
 #[test]
 fn r7_r8_a_message_not_logged() {
-    assert_eq!(line_of(S, failure(3, 2)), [2, 1]);
-    assert_eq!(line_of(S, failure(3, 1)), [2, 32]);
+    assert_eq!(line_of(S, failure(4, 2)), [2, 1]);
+    assert_eq!(replay_of(S, failure(4, 2), &[2, 1], &[0, 0, 1]), Ok(true));
+    assert_eq!(line_of(S, failure(4, 1)), [2, 32]);
     let mut run = new_run();
-    messages(&table_of(S), failure(3, 1), &[2, 32], &mut run).unwrap();
+    messages(&table_of(S), failure(4, 1), &[2, 32], &mut run).unwrap();
     assert_eq!(run[..3], [1, 0, 0]);
     assert_eq!(run[ROW_PHASE_BASE + 1], 2);
-    assert_eq!(steps_of(S, failure(3, 1), &[2, 32]), 1);
+    assert_eq!(steps_of(S, failure(4, 1), &[2, 32]), 2);
 }
 
 #[test]
@@ -175,9 +190,9 @@ fn r9_r10_a_message_in_transit() {
 #[test]
 fn r11_r12_refusals() {
     for set in [0, 8] {
-        let refusal = restart(&table_of(H), failure(9, set)).unwrap_err();
+        let refusal = restart(&table_of(H), failure(11, set)).unwrap_err();
         assert_eq!(refusal, Refusal::new(Cause::Set, 0));
-        let text = format!("{H}fail=9 set={set}\n");
+        let text = format!("{H}fail=11 set={set}\n");
         assert_eq!(report_of(text.as_bytes()), "refused=9 place=0\n");
     }
     let mut table = vec![5; AREA_WORDS];
@@ -198,6 +213,15 @@ fn limits() {
     let saves = |count: usize| format!("procs=2\n{}", "ev=save at=1\n".repeat(count));
     assert_eq!(refusal(&saves(30)), None);
     assert_eq!(refusal(&saves(31)), Some((6, 32)));
+    let by_turns = |count: usize| {
+        let save_done = "ev=save at=1\nev=done at=1\n";
+        format!("procs=2\n{}", save_done.repeat(count))
+    };
+    assert_eq!(refusal(&by_turns(30)), None);
+    assert_eq!(refusal(&by_turns(31)), Some((6, 62)));
+    let then_dones = |count: usize| saves(30) + &"ev=done at=1\n".repeat(count);
+    assert_eq!(refusal(&then_dones(30)), None);
+    assert_eq!(refusal(&then_dones(31)), Some((15, 62)));
     let sends = |count: usize| {
         let send = "ev=send at=0 to=1 val=1\n";
         format!("procs=2\n{}", send.repeat(count))
@@ -208,13 +232,10 @@ fn limits() {
     assert_eq!(refusal("procs=2\n"), None);
     assert_eq!(refusal("procs=64\n"), None);
     assert_eq!(refusal("procs=65\n"), Some((2, 1)));
-    let mut text = sends(2_048).into_bytes();
-    text.extend(b"ev=recv at=9 from=9\n");
+    for unfit in ["ev=recv at=9 from=9\n", "ev=done at=9\n", "ev=done at=1\n"] {
+        assert_eq!(refusal(&(sends(2_048) + unfit)), Some((7, 2_050)));
+    }
     let mut table = vec![0; AREA_WORDS];
-    assert_eq!(
-        read(&text, &mut table),
-        Err(Refusal::new(Cause::Events, 2_050))
-    );
     let with_failure = format!("{}fail=2048 set=1\n", sends(2_048));
     assert_eq!(
         read_failure(with_failure.as_bytes(), &mut table),
@@ -248,6 +269,18 @@ fn forms() {
         ("procs=2\nev=save at=2\n", (3, 2), (3, 2)),
         ("procs=2\nev=save at=00\n", (1, 2), (1, 2)),
         ("procs=2\nev=save at=0", (1, 2), (1, 2)),
+        ("procs=2\nev=done at=0\n", (15, 2), (15, 2)),
+        ("procs=2\nev=done at=2\n", (3, 2), (3, 2)),
+        ("procs=2\nev=done at=00\n", (1, 2), (1, 2)),
+        ("procs=2\nev=done at=0", (1, 2), (1, 2)),
+        ("procs=2\nev=done at=0 to=1\n", (1, 2), (1, 2)),
+        ("procs=2\nev=save at=0\nev=done at=1\n", (15, 3), (15, 3)),
+        ("procs=2\nev=save at=0\nev=done at=0\n", (0, 0), (1, 4)),
+        (
+            "procs=2\nev=save at=0\nev=done at=0\nev=done at=0\n",
+            (15, 4),
+            (15, 4),
+        ),
         ("procs=2\nev=send at=5 to=5 val=1\n", (3, 2), (3, 2)),
         ("procs=2\nev=send at=0 to=0 val=1\n", (4, 2), (4, 2)),
         ("procs=2\nev=send at=0 to=1 val=01\n", (1, 2), (1, 2)),
@@ -302,6 +335,7 @@ fn bounds_of_keys() {
         ("procs=2\nev=recv at=", " from=1\nfail=0 set=1\n", WORD, 3),
         ("procs=2\nev=recv at=0 from=", "\nfail=0 set=1\n", WORD, 3),
         ("procs=2\nev=save at=", "\nfail=0 set=1\n", WORD, 3),
+        ("procs=2\nev=done at=", "\nfail=0 set=1\n", WORD, 3),
         ("procs=2\nfail=", " set=1\n", WORD, 0),
         ("procs=2\nfail=0 set=", "\n", u64::MAX, 0),
     ];
@@ -357,27 +391,29 @@ fn values_of_events_that_cannot_be() {
 /// Where no value can be, there is none of its halves.
 #[test]
 fn halves_where_no_value_is() {
-    let table = table_of(H); // 9 events, of which 2, 5 and 8 are receives, 3 and 6 saves
+    // 11 events, of which 2, 6 and 10 are receives, 3 and 7 saves, 4 and 8 dones
+    let table = table_of(H);
     let past_values = HIGH_BASE + MAX_EVENTS + 1;
     let gaps = [VALUE_BASE, HIGH_BASE, past_values, AREA_WORDS - 1];
-    let events = [2, 3, 5, 6, 8, 10, MAX_EVENTS];
+    let events = [2, 3, 4, 6, 7, 8, 10, 12, MAX_EVENTS];
     let halves = events.map(|event| [VALUE_BASE + event, HIGH_BASE + event]);
     for word in gaps.into_iter().chain(halves.concat()) {
         for bit in [0, 31] {
             let mut changed = table.clone();
             changed[word] = 1 << bit;
             let refusal = Refusal::new(Cause::Table, 0);
-            assert_eq!(restart(&changed, failure(9, 2)), Err(refusal), "{word}");
+            assert_eq!(restart(&changed, failure(11, 2)), Err(refusal), "{word}");
             assert_eq!(written(&changed, 0).0, Err(refusal), "{word}");
         }
     }
-    for send in [1, 4, 7, 9] {
+    for send in [1, 5, 9, 11] {
         let mut changed = table.clone();
         changed[HIGH_BASE + send] = 1;
         let (answer, out) = written(&changed, TEXT_BYTES);
         let val = (1 << 32) + value(&table, send);
         assert!(out[..answer.unwrap()].contains(&format!(" val={val}\n")));
-        assert_eq!(restart(&changed, failure(9, 2)).unwrap().line(), [2, 2, 32]);
+        let restart = restart(&changed, failure(11, 2)).unwrap();
+        assert_eq!(restart.line(), [2, 2, 32]);
     }
 }
 
@@ -428,7 +464,7 @@ fn writes_what_was_read() {
         let lines = text.lines().count();
         writes_back(text, (0..=40 * lines).chain([TEXT_BYTES]));
     }
-    let with_failure = format!("{H}fail=9 set=2\n");
+    let with_failure = format!("{H}fail=11 set=2\n");
     let mut table = vec![3; AREA_WORDS];
     read_failure(with_failure.as_bytes(), &mut table).unwrap();
     assert_eq!(table[..], table_of(H)[..AREA_WORDS]);
@@ -444,7 +480,10 @@ fn writes_all_numbers() {
     let send = |at: u64, to: u64, val: u64| format!("ev=send at={at} to={to} val={val}\n");
     let sends = values.iter().map(|&val| send(63, 9, val));
     let processes = (0..63).map(|z| send(z, z + 1, z) + &send(z + 1, z, 7));
-    let others = (1..64).map(|z| format!("ev=recv at={z} from={}\nev=save at={z}\n", z - 1));
+    let others = (1..64).map(|z| {
+        let from = z - 1;
+        format!("ev=recv at={z} from={from}\nev=save at={z}\nev=done at={z}\n")
+    });
     let text: String = ["procs=64\n".to_string()]
         .into_iter()
         .chain(sends)
@@ -473,6 +512,7 @@ fn writes_random_traces() {
         let events = random.below(200);
         let mut trace = shape.trace(procs, events, &mut random);
         trace.lengthen_values(&mut random);
+        trace.finish_saves(random_dones(&mut random), &mut random);
         let text = trace.text();
         let length = text.len();
         let rooms = [length - 1, length, length + random.below(99), TEXT_BYTES];
@@ -503,6 +543,57 @@ fn writes_no_other_area() {
     refused(&one_more, TEXT_BYTES, Cause::Table);
 }
 
+/// The word of a done: its process, and no bit beside it.
+#[test]
+fn words_of_dones() {
+    let text = "procs=2\nev=save at=1\nev=save at=0\nev=done at=0\nev=done at=1\n";
+    let table = table_of(text);
+    assert_eq!(table[EVENT_BASE + 1..][..5], [0x3001, 0x3000, 0, 1, 0]);
+    writes_back(text, [text.len() - 1, text.len(), TEXT_BYTES]);
+    let answer = |event: usize, word: u32| {
+        let mut changed = table.clone();
+        changed[EVENT_BASE + event] = word;
+        let answer = restart(&changed, failure(4, 1)).map(|restart| restart.line().to_vec());
+        let (written, out) = written(&changed, TEXT_BYTES);
+        assert_eq!(written.map(|_| ()), answer.clone().map(|_| ()));
+        answer
+            .ok()
+            .map(|line| (line, out.lines().nth(event).unwrap().to_string()))
+    };
+    // a second done of a process, a done before its save, a done of a process that there is not
+    for (event, word) in [(4, 0), (3, 1), (1, 1), (2, 0), (3, 2), (3, 63)] {
+        assert_eq!(answer(event, word), None, "{event} {word:#x}");
+    }
+    // a peer, or bits past the kind
+    for bit in (6..12).chain(14..32) {
+        assert_eq!(answer(3, 1 << bit), None, "bit {bit}");
+        assert_eq!(answer(4, 1 | 1 << bit), None, "bit {bit}");
+    }
+    assert_eq!(
+        answer(3, 0x3000),
+        Some((vec![1, 32], "ev=save at=0".to_string()))
+    );
+    assert_eq!(
+        answer(4, 0x3001),
+        Some((vec![2, 32], "ev=save at=1".to_string()))
+    );
+    // past the last event there is no done, though its word would be 0
+    let mut fewer = table.clone();
+    fewer[1] = 3;
+    assert_eq!(
+        restart(&fewer, failure(0, 1)),
+        Err(Refusal::new(Cause::Table, 0))
+    );
+    fewer[EVENT_BASE + 4] = 0;
+    assert_eq!(restart(&fewer, failure(3, 2)).unwrap().line(), [32, 1]);
+    let mut more = table.clone();
+    more[1] = 5;
+    assert_eq!(
+        restart(&more, failure(0, 1)),
+        Err(Refusal::new(Cause::Table, 0))
+    );
+}
+
 /// Areas with a small change are refused where the other calls refuse them, which have a check of
 /// their own; from those that hold another trace its text is written.
 #[test]
@@ -511,7 +602,7 @@ fn writes_changed_areas() {
     let mut random = Random::new(5);
     for round in 0..4_000 {
         let mut changed = table.clone();
-        let event = EVENT_BASE + 1 + random.below(10);
+        let event = EVENT_BASE + 1 + random.below(12);
         match round % 4 {
             0 => changed[random.below(2)] ^= 1 << random.below(8),
             1 => changed[event] ^= 1 << random.below(32),
@@ -529,14 +620,15 @@ fn writes_changed_areas() {
     }
 }
 
-/// A trace of two processes in the short form of the proof plan: `v0` a save, `s01` a send from 0
-/// to 1, `r10` a receive by 1 from 0.
+/// A trace of two processes in the short form of the proof plan: `v0` a save, `d0` a done, `s01` a
+/// send from 0 to 1, `r10` a receive by 1 from 0.
 fn short(events: &str) -> String {
     let mut text = "procs=2\n".to_string();
     for event in events.split(' ') {
         let (at, peer) = (&event[1..2], event.get(2..3));
         text += &match (&event[..1], peer) {
             ("v", None) => format!("ev=save at={at}\n"),
+            ("d", None) => format!("ev=done at={at}\n"),
             ("s", Some(to)) => format!("ev=send at={at} to={to} val=1\n"),
             ("r", Some(from)) => format!("ev=recv at={at} from={from}\n"),
             _ => panic!("not an event: {event}"),
@@ -547,10 +639,10 @@ fn short(events: &str) -> String {
 
 #[test]
 fn d1_phase_of_an_orphan() {
-    let text = short("v1 s01 r10");
-    let line = line_of(&text, failure(3, 1));
+    let text = short("v1 d1 s01 r10");
+    let line = line_of(&text, failure(4, 1));
     let mut run = new_run();
-    messages(&table_of(&text), failure(3, 1), &line, &mut run).unwrap();
+    messages(&table_of(&text), failure(4, 1), &line, &mut run).unwrap();
     assert_eq!((run[0], run[ROW_PHASE_BASE + 1]), (1, 1));
 }
 
@@ -568,15 +660,22 @@ fn d2_to_d8_gates() {
     let cases: [Case; 6] = [
         ("s01 r10 s10", 2, 1, [1, 32], &[1], &[0, 1]),
         ("s01 r10 s10", 3, 1, [1, 32], &[128], &[0, 128]),
-        ("s01 r10 v1 s10", 4, 3, [1, 2], &[1], &[0, 1]),
-        ("v0 s10 r01 s01 r10", 5, 1, [1, 32], &[], &[0, 128, 0, 0]),
+        ("s01 r10 v1 d1 s10", 5, 3, [1, 2], &[1], &[0, 1, 1]),
         (
-            "v0 s01 r10 s10 r01 s01 r10",
-            7,
+            "v0 d0 s10 r01 s01 r10",
+            6,
+            1,
+            [1, 32],
+            &[],
+            &[0, 0, 128, 0, 0],
+        ),
+        (
+            "v0 d0 s01 r10 s10 r01 s01 r10",
+            8,
             1,
             [2, 32],
             &[],
-            &[0, 128, 0, 0],
+            &[0, 0, 128, 0, 0],
         ),
         ("s01 s01 r10", 1, 2, [32, 1], &[0], &[65, 0, 1]),
     ];
@@ -631,6 +730,90 @@ ev=recv at=1 from=0
     assert_eq!(differ, [3, TAKEN_HIGH_BASE + 3]);
 }
 
+#[test]
+fn unfinished_saves() {
+    // events, step, set, line
+    type Case = (&'static str, u64, u64, [u32; 2]);
+    let cases: [Case; 11] = [
+        // a save is of no use until its done
+        ("v0", 1, 1, [1, 32]),
+        ("v0 d0", 1, 1, [1, 32]),
+        ("v0 d0", 2, 1, [2, 32]),
+        // a done finishes the oldest
+        ("v0 v0 d0", 3, 1, [2, 32]),
+        ("v0 v0 d0 d0", 4, 1, [3, 32]),
+        ("v0 d0 v0", 3, 1, [2, 32]),
+        // a sender whose epoch at the send is unfinished goes back to one before it
+        ("v0 s01 r10", 3, 2, [1, 1]),
+        ("v0 s01 r10 d0", 4, 2, [2, 1]),
+        ("v0 s01 r10 d0", 3, 2, [1, 1]),
+        ("v0 d0 v0 s01 r10", 5, 2, [2, 1]),
+        // the unfinished save of a process that did not fail
+        ("v0 v1 s01 r10 d1", 5, 2, [1, 2]),
+    ];
+    for (events, step, set, line) in cases {
+        assert_eq!(
+            line_of(&short(events), failure(step, set)),
+            line,
+            "{events}"
+        );
+    }
+    let saved = restart(&table_of(&short("v0")), failure(1, 1)).unwrap();
+    assert_eq!((saved.epochs[0], saved.phases[0]), (2, 1));
+    assert_eq!(
+        report_of(format!("{}fail=1 set=1\n", short("v0")).as_bytes()),
+        "out=proc at=0 epoch=2 restart=1 phase=1
+out=proc at=1 epoch=1 restart=32 phase=1
+out=total back=1 orphans=0 kept=0 steps=1
+"
+    );
+}
+
+#[test]
+fn lines_with_unfinished_epochs() {
+    let refused = Err(Refusal::new(Cause::Line, 0));
+    let text = short("v0 v0 d0 d0");
+    // the latest epoch that a line may name after each event
+    for (step, finished) in [1, 1, 1, 2, 3].into_iter().enumerate() {
+        for epoch in 1..=4 {
+            let line = [epoch, 32];
+            let mut run = new_run();
+            let answer = lowest(&table_of(&text), failure(step as u64, 1), &line, &mut run);
+            if epoch <= finished {
+                assert!(answer.is_ok(), "{step} {epoch}");
+            } else {
+                assert_eq!(answer, refused, "{step} {epoch}");
+                assert_eq!(run, new_run());
+            }
+        }
+    }
+    // right after the save, so that its done is listed
+    let (failure, line) = (failure(4, 1), [2, 32]);
+    assert_eq!(replay_of(&text, failure, &line, &[0, 0, 0]), Ok(true));
+    assert_eq!(
+        replay_of(&text, failure, &line, &[0, 0, 0, 0]),
+        not_allowed(4)
+    );
+    assert_eq!(steps_of(&text, failure, &[3, 32]), 2);
+    // every kind of call
+    let table = table_of(&short("v0"));
+    let (failure, mut run) = (Failure { step: 1, set: 1 }, new_run());
+    let number = |refusal: Refusal| refusal.cause.number();
+    assert_eq!(
+        messages(&table, failure, &[2, 32], &mut run).map_err(number),
+        Err(10)
+    );
+    assert_eq!(
+        replay(&table, failure, &[2, 32], &[9], &mut run).map_err(number),
+        Err(10)
+    );
+    assert_eq!(
+        exact_steps(&table, failure, &[2, 32]).map_err(number),
+        Err(10)
+    );
+    assert_eq!(run, new_run());
+}
+
 /// A message of the recorded run, as the requirements speak of it.
 #[derive(Clone, Debug)]
 struct Message {
@@ -652,6 +835,8 @@ struct Slow<'a> {
     messages: Vec<Message>,
     /// Of each process, after each count of events of the trace, epoch and phase.
     states: Vec<Vec<(u32, u32)>>,
+    /// Of each process, the latest epoch that is finished at the cut.
+    finished: Vec<u32>,
 }
 
 impl<'a> Slow<'a> {
@@ -662,6 +847,7 @@ impl<'a> Slow<'a> {
             failed: failure.set,
             messages: Vec::new(),
             states: vec![vec![(1, 1); trace.procs]],
+            finished: vec![1; trace.procs],
         };
         let mut epochs = BTreeMap::new();
         let mut sent: BTreeMap<(usize, usize), u32> = BTreeMap::new();
@@ -695,6 +881,7 @@ impl<'a> Slow<'a> {
                     now[at].1 = now[at].1.max(message.phase + u32::from(message.logged));
                 }
                 Event::Save { at } => now[at] = (now[at].0 + 1, now[at].1 + 1),
+                Event::Done { at } => slow.finished[at] += u32::from(i <= slow.step),
             }
             slow.states.push(now);
         }
@@ -704,8 +891,8 @@ impl<'a> Slow<'a> {
     /// All lines that are permitted.
     fn lines(&self) -> Vec<Vec<u32>> {
         let mut lines = vec![vec![]];
-        for (z, &(epoch, _)) in self.states[self.step].iter().enumerate() {
-            let mut numbers: Vec<u32> = (1..=epoch).collect();
+        for (z, &finished) in self.finished.iter().enumerate() {
+            let mut numbers: Vec<u32> = (1..=finished).collect();
             if self.failed >> z & 1 == 0 {
                 numbers.push(STAY);
             }
@@ -855,7 +1042,10 @@ impl<'a> SlowReplay<'a> {
         let events = &self.slow.trace.events;
         self.next[z] += 1;
         while events.get(self.next[z] - 1).is_some_and(|event| {
-            let (Event::Send { at, .. } | Event::Recv { at, .. } | Event::Save { at }) = *event;
+            let (Event::Send { at, .. }
+            | Event::Recv { at, .. }
+            | Event::Save { at }
+            | Event::Done { at }) = *event;
             at != z
         }) {
             self.next[z] += 1;
@@ -892,7 +1082,7 @@ impl<'a> SlowReplay<'a> {
             && match self.slow.trace.events[self.next[choice] - 1] {
                 Event::Send { at, to, .. } => !Self::has(&self.kept, (at, to)),
                 Event::Recv { at, from } => Self::has(&self.channels, (from, at)),
-                Event::Save { .. } => true,
+                Event::Save { .. } | Event::Done { .. } => true,
             }
     }
 
@@ -927,7 +1117,7 @@ impl<'a> SlowReplay<'a> {
                 let message = channel.pop_front().unwrap();
                 self.receive(i, message);
             }
-            Event::Save { .. } => {}
+            Event::Save { .. } | Event::Done { .. } => {}
         }
         self.find_next(choice);
     }
@@ -950,10 +1140,15 @@ fn compare(trace: &Trace, failure: Failure, orders: bool, random: &mut Random) {
     assert_eq!(answer.line(), slow.greatest(), "{}", name());
     let current = &slow.states[slow.step];
     let floor = (0..trace.procs)
-        .filter(|z| failure.set >> z & 1 == 1)
-        .map(|z| current[z].0)
+        .filter(|&z| failure.set >> z & 1 == 1 || slow.finished[z] < current[z].0)
+        .map(|z| slow.finished[z])
         .min();
     assert!(answer.line().iter().min() >= floor.as_ref());
+    let is_done = |event: &Event| matches!(event, Event::Done { .. });
+    if !trace.events.iter().any(is_done) {
+        let mut numbers = answer.line().iter();
+        assert!(numbers.all(|number| [1, STAY].contains(number)));
+    }
     for (z, state) in current.iter().enumerate() {
         let at_restart = slow.states[slow.restart(answer.line(), z)][z];
         assert_eq!(answer.epochs[z], state.0);
@@ -1017,6 +1212,14 @@ fn compare(trace: &Trace, failure: Failure, orders: bool, random: &mut Random) {
     }
 }
 
+/// Dones right after their saves, later, both, or none.
+fn random_dones(random: &mut Random) -> Dones {
+    Dones {
+        at_once: random.pick(&[0, 0, 30, 100]),
+        later: random.pick(&[0, 10, 40]),
+    }
+}
+
 #[test]
 fn lines_of_all_small_traces() {
     let mut random = Random::new(1);
@@ -1041,11 +1244,10 @@ fn replays_of_small_traces() {
         let events = random.below(24);
         let mut trace = shape.trace(procs, events, &mut random);
         trace.lengthen_values(&mut random);
+        trace.finish_saves(random_dones(&mut random), &mut random);
         let failure = shape.failure(&trace, &mut random);
-        let lines: u32 = Slow::new(&trace, failure).states[failure.step as usize]
-            .iter()
-            .map(|state| state.0 + 1)
-            .product();
+        let finished = Slow::new(&trace, failure).finished;
+        let lines: u32 = finished.iter().map(|epoch| epoch + 1).product();
         if lines <= 100 {
             compare(&trace, failure, true, &mut random);
         }
@@ -1055,7 +1257,8 @@ fn replays_of_small_traces() {
 #[test]
 fn steep_traces_are_steep() {
     let mut random = Random::new(3);
-    let trace = Shape::Steep.trace(2, MAX_EVENTS, &mut random);
+    let mut trace = Shape::Steep.trace(2, MAX_EVENTS, &mut random);
+    trace.finish_saves(Dones::AT_ONCE, &mut random);
     let mut table = vec![0; AREA_WORDS];
     read(&trace.text(), &mut table).unwrap();
     let restart = restart(&table, failure(MAX_EVENTS as u64, 2)).unwrap();

@@ -1,7 +1,7 @@
 //! The text of a trace, written from its table area.
 
 use super::table::{unpack, Words};
-use super::{RECEIVE, SEND};
+use super::{RECEIVE, SAVE, SEND};
 use crate::{Cause, Refusal, AREA_WORDS, TEXT_BYTES};
 
 /// Writes the text of the trace in a table area, and gives its length, or refusal 13 or 14.
@@ -39,8 +39,10 @@ fn event(text: &mut Vec<u8>, word: u32, value: u64) {
     } else if kind == u32::from(RECEIVE) {
         pair(text, b"ev=recv at=", at);
         pair(text, b" from=", peer);
-    } else {
+    } else if kind == u32::from(SAVE) {
         pair(text, b"ev=save at=", at);
+    } else {
+        pair(text, b"ev=done at=", at);
     }
 }
 
