@@ -17,8 +17,9 @@ use Rattle.words.specs.Area.{areaWords}
 use Rattle.trace.specs.Trace.{Trace}
 use Rattle.reader.specs.declared.FailureAnswer.{FailureAnswer}
 use Rattle.reader.specs.Failure.{Failing, lastFailure, failureAnswer}
-use Rattle.reader.specs.Meaning.{FailureText, FirstFault, LaterFault, PastFailure, FailureReadAs, FailureRefuses}
+use Rattle.reader.specs.Meaning.{FailureText, FirstFault, LaterFault, PastFailure, FailureReadAs, TextNumber, FailureRefuses}
 use Rattle.reader.proofs.Claims.{canonical-failing, failure-refuses}
+use Rattle.reader.proofs.Judging.{text-number}
 use Rattle.reader.proofs.Whole.{refused-number}
 use Rattle.theory.specs.Events.{size}
 use Rattle.theory.specs.Epochs.{phaseAt, ruleOf}
@@ -150,10 +151,10 @@ fit-recovered text t step set s z = rw (canonical-failing text t step set .1 (s 
 abbrev pub refusedAs : ℕ → ℕ → FailureAnswer
 refusedAs n k = record { number = n; place = k; step = 0; set = 0 }
 
--- "The first faulty line decides the refusal and its place.": `read_failure` refuses the text with 1 to 7, whatever
--- area of 16,384 words or more it is given, and line k is the first that is at fault
+-- "The first faulty line decides the refusal and its place.": `read_failure` refuses the text with 1 to 7, or 15,
+-- whatever area of 16,384 words or more it is given, and line k is the first that is at fault
 pub record Unreadable (text : List ℕ) (n k : ℕ) : Type 0 where
-  pub numbers : (1 ≤ n) × (n ≤ 7)
+  pub numbers : TextNumber n
   pub reads : FailureReadAs (refusedAs n k) text
   pub refuses : (a : List ℕ) → areaWords ≤ length a → FailureRefuses text (length a) (refusedAs n k)
   pub first : FirstFault (FailureReadAs (refusedAs n k)) text n k
@@ -207,7 +208,7 @@ unreadable text n k e =
       numbers = numbers;
       reads = reads;
       refuses = refuses;
-      first = refuses area large .first (λ z. let w : ⊥ = omega (arith, numbers .0) in w) large;
+      first = refuses area large .first (λ z. let w : ⊥ = omega (arith, text-number n numbers .0) in w) large;
     }
 
 refuses-by : (text : List ℕ) (x : Failing) → lastFailure text ≡ x → (n k : ℕ) → failureOf text ≡ refused n k → Unreadable text n k ⊎ Unfit text n k

@@ -11,7 +11,7 @@ use Prim.Native.Nat.{ℕ, suc, _≤_, _<_}
 use native.Mathlib.Omega.{arith}
 use lib.ListN.{length, getD, take}
 use lib.Dec.{leb, ltb}
-use borrow.Author.Tests.{leb-true, le-leb, lt-ltb, eq-eqb}
+use borrow.Author.Tests.{leb-true, ltb-true, le-leb, lt-ltb, eq-eqb}
 use Rattle.trace.specs.Trace.{Trace}
 use Rattle.trace.specs.Fit.{wellFormed}
 use Rattle.theory.specs.Lists.{cnt, lastOf}
@@ -29,7 +29,7 @@ use Rattle.theory.specs.Answers.{orphans, keptOnes, lostOnes, exactSteps
 use Rattle.theory.specs.Refusals.{failureFault, lineFault}
 use Rattle.theory.specs.Inner.Refusals.{FitFailure, FitLine}
 use Rattle.theory.specs.Inner.Laws.{Laws}
-use Rattle.theory.proofs.Base.{on, by, clash, le?, both, or-right, cnt-none}
+use Rattle.theory.proofs.Base.{on, by, clash, le?, both, or-right, cnt-none, cnt-le, cnt-find}
 use Rattle.theory.proofs.Events.{partner, sent-lt}
 use Rattle.theory.proofs.WellFormed.{Valid, valid}
 use Rattle.theory.proofs.Classes.{undone-counts, lost-counts, orphan-counts, kept-counts}
@@ -305,6 +305,30 @@ module _ (t : Trace) (w : wellFormed t ≡ true) (cut : ℕ) (cl : cut ≤ size 
       (λ u. let c = both (leb 1 (l z)) (leb (l z) (finishedAt t z cut)) u in
       omega (arith, leb-true 1 (l z) (c .0), leb-true (l z) (finishedAt t z cut) (c .1), cnt-none (finishes t z) cut (h z)))
       (λ u. clash (eq-eqb (l z) 32 (u .0)) back)
+
+  -- "a save is usable from a line `ev=done at=A` onward. A `done` finishes the oldest unfinished save of A": save e of a
+  -- process, which raised it to epoch e + 1, is usable from its done number e on, and made by then
+  pub usable-from : (z e : ℕ) → 0 < e
+      → (usableAt t cut z (suc e) ≡ true)
+      ↔ ((d : ℕ) × (0 < d) × (d ≤ cut) × (finishes t z d ≡ true) × (cnt (finishes t z) d ≡ e) × (e ≤ cnt (checkpoints t z) d))
+  usable-from z e pos = (
+    λ h.
+        let u = both (leb 1 (suc e)) (leb (suc e) (finishedAt t z cut)) h .1 in
+        let (d, a, b, f, n) = cnt-find (finishes t z) e cut pos (omega (arith, leb-true (suc e) (finishedAt t z cut) u)) in
+        (d, a, b, f, n, omega (arith, n, valid t w .finished-few z d (omega arith))),
+    λ (d, a, b, f, n, m).
+        let i : leb (suc e) (finishedAt t z cut) ≡ true = le-leb (suc e) (finishedAt t z cut) (omega (arith, n, cnt-le (finishes t z) d cut b)) in
+        let j : leb 1 (suc e) ≡ true = le-leb 1 (suc e) (omega arith) in
+        rw (j, i),
+  )
+
+  -- "those with an unfinished save": their latest finished epoch is below their epoch
+  pub unfinished-below : (z : ℕ) → (unfinishedAt t cut z ≡ true) ↔ (finishedAt t z cut < current t (ruleOf t) cut z)
+  unfinished-below z =
+      let s = now-is t (ruleOf t) (valid t w) cut cl z in (
+        λ h. omega (arith, s, ltb-true (cnt (finishes t z) cut) (cnt (checkpoints t z) cut) h),
+        λ h. lt-ltb (cnt (finishes t z) cut) (cnt (checkpoints t z) cut) (omega (arith, s)),
+      )
 
 -- ---- Numbers, "Who names the failure and the replay". "Order: .. for the rest 8, 9, 10, 11."
 

@@ -12,7 +12,7 @@ use Rattle.trace.specs.Fit.{wellFormed, allFit, eventFault}
 use Rattle.theory.specs.Lists.{iv, keep, cnt, place, lastOf, no-one, all-below, sum, first}
 use Rattle.theory.specs.Events.{eventAt, at, kind, sends, recvs, checkpoints, finishes, sent, rcvd, sendOf, recvOf, value}
 use Rattle.theory.specs.Epochs.{note, notes, loggedBy}
-use Rattle.theory.specs.Line.{Run, sentBefore, sentAfter, received, receivedBefore, undone, lost, orphan, kept, orphanPhase, restartIn, highest, lowered, lowering, greatestLine, runAt, engineLine}
+use Rattle.theory.specs.Line.{Run, sentBefore, sentAfter, received, receivedBefore, undone, lost, orphan, kept, orphanPhase, restartIn, highest, lowered, lowering, greatestLine, unfinishedAt, runAt, engineLine}
 use Rattle.theory.specs.Replay.{listed, keptOn, takenBy, resends, ready, gate, sendStep, recvStep, eventStep, processStep, handStep, step}
 use Rattle.theory.specs.Record.{delivered, faultless}
 use Rattle.theory.specs.Order.{choiceOf, choose, carry, run, steps, mostSteps, isNone, lowest, lowestFrom, complete}
@@ -209,3 +209,8 @@ d17 = refl
 d18 : (line-is t18 4 1 2 32 && (completes (at-cut t18 4 (2 ∷ 32 ∷ [])) (0 ∷ 0 ∷ []) && exact (at-cut t18 4 (2 ∷ 32 ∷ [])) (0 ∷ 0 ∷ []))) ≡ true
 unfolding opens
 d18 = refl
+
+-- an unfinished save is one that is made and not finished
+d19 : (unfinishedAt (two t17) 5 0 && (not (unfinishedAt (two t17) 5 1) && (unfinishedAt (two t17) 4 1 && not (unfinishedAt (two t17) 0 0)))) ≡ true
+unfolding opens
+d19 = refl

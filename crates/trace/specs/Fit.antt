@@ -8,9 +8,9 @@ use Rattle.trace.specs.declared.Event.{Event}
 use Rattle.trace.specs.declared.Event.the-variants.{Send, Recv, Save, Done}
 use Rattle.trace.specs.Trace.{Trace, sendsIn, recvsIn, savesIn, donesIn}
 
--- What is wrong with an event of a run of n processes after the events `before`: the number 3, 4, 5, 6 or 15, or 0. 3: a
--- process is n or more. 4: a process sends to or receives from itself. 5: a receive with nothing in transit. 6: a 31st
--- save. 15: "when a `done` finds no unfinished save".
+-- What is wrong with an event of a run of n processes after the events `before`: the number 3, 4, 5, 6 or 15, or 0. 3:
+-- a process is n or more. 4: a process sends to or receives from itself. 5: a receive with nothing in transit. 6: a
+-- 31st save. 15: "when a `done` finds no unfinished save".
 unfoldable pub eventFault : ℕ → List Event → Event → ℕ
 eventFault n before (Send at to val) = cond (leb n at) 3 (cond (leb n to) 3 (cond (eqb at to) 4 0))
 eventFault n before (Recv at from) =

@@ -9,8 +9,8 @@ use Rattle.trace.specs.declared.Event.{Event}
 use Rattle.trace.specs.declared.Event.the-variants.{Send, Recv, Save, Done}
 use Rattle.trace.specs.Trace.{Trace, valueOf}
 
--- An event's word: its process, its peer and its kind (1 send, 2 receive, 3 save, 0 done). Processes of a well-formed trace are
--- below 64, so that `% 64` changes nothing there; with it every event has a word below 16,384.
+-- An event's word: its process, its peer and its kind (1 send, 2 receive, 3 save, 0 done). Processes of a well-formed
+-- trace are below 64, so that `% 64` changes nothing there; with it every event has a word below 16,384.
 abbrev pub wordOf : Event → ℕ
 wordOf (Send at to val) = at % 64 + 64 * (to % 64) + 4096
 wordOf (Recv at from) = at % 64 + 64 * (from % 64) + 8192

@@ -30,8 +30,8 @@ valueOf (Recv at from) = 0
 valueOf (Save at) = 0
 valueOf (Done at) = 0
 
--- a send, a receive on the channel from p to q; a checkpoint of z; a line that finishes one of z (document 02, item 5: "A
--- `done` finishes the oldest unfinished save of A")
+-- a send, a receive on the channel from p to q; a checkpoint of z; a line that finishes one of z (document 02, item 5:
+-- "A `done` finishes the oldest unfinished save of A")
 abbrev pub isSend : ℕ → ℕ → Event → Bool
 isSend p q (Send at to val) = eqb p at && eqb q to
 isSend p q (Recv at from) = false
@@ -65,8 +65,8 @@ unfoldable pub count : (Event → Bool) → List Event → ℕ
 count f [] = 0
 count f (e ∷ es) = oneIf (f e) + count f es
 
--- how many sends, how many receives on the channel from p to q, how many checkpoints of z and how many ends of them a list
--- of events has
+-- how many sends, how many receives on the channel from p to q, how many checkpoints of z and how many ends of them a
+-- list of events has
 abbrev pub sendsIn : ℕ → ℕ → List Event → ℕ
 sendsIn p q = count (isSend p q)
 
