@@ -1,5 +1,5 @@
--- Each kind of event fills its columns: `send-filled`, `recv-filled`, `local-filled`. From how counts, epochs and phases
--- move.
+-- Each kind of event fills its columns: `send-filled`, `recv-filled`, `local-filled`. From how counts, epochs and
+-- phases move.
 use Prim.Native.Nat.{ℕ, suc, _+_, _*_, _<_, _≤_}
 use mathlib.Core.Path.{_≡_, sym, ap, subst, _∙_}
 use mathlib.Core.Logic.{_≢_}

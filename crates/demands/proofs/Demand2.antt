@@ -51,9 +51,9 @@ module _ (a : List ℕ) (step set : ℕ) (ok : restartAnswer a step set .number 
   zero-past = number-past a step set ok
 
   -- "The engine's line is the greatest without a lost message." Document 02, item 5: "The floor becomes the smallest,
-  -- over the failed zones and those with an unfinished save, of the latest finished epoch at the cut. In a trace with no
-  -- `done`, each zone that goes back goes to epoch 1." "The zones that go back form a set of the same kind, and back is
-  -- its size." (the contract of `restart` has the same clause)
+  -- over the failed zones and those with an unfinished save, of the latest finished epoch at the cut. In a trace with
+  -- no `done`, each zone that goes back goes to epoch 1." "The zones that go back form a set of the same kind, and back
+  -- is its size." (the contract of `restart` has the same clause)
   pub line-given : Restarts t step set (restartAnswer a step set)
   line-given = restart-promised a step set ok
 

@@ -26,8 +26,8 @@ use Rattle.columns.specs.Inner.Given.{Marked}
 use Rattle.greatest.specs.Inner.Line.{lineBy}
 use Rattle.greatest.proofs.Lowering.{greatest-made, greatest-means}
 
--- What `greatest` has done: events linked, d the epochs at the cut, f the latest finished ones, m the first line, r the line lowered, with the
--- newest events before its restarts left, and p the phases there.
+-- What `greatest` has done: events linked, d the epochs at the cut, f the latest finished ones, m the first line, r the
+-- line lowered, with the newest events before its restarts left, and p the phases there.
 pub record Done (full : List ℕ) (cut set count : ℕ) (earlier latest d f m r left p : List ℕ) : Type 0 where
   pub counted : count ≡ procsW full
   pub linked : Linked full cut earlier latest

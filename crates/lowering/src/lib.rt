@@ -18,8 +18,8 @@ fn smaller(a: u32, b: u32) -> u32
     if a < b { a } else { b }
 }
 
-// Where event e receives a message that the line loses, its sender is lowered to the epoch of the send, or to its latest
-// finished epoch where that is smaller; whether that is so.
+// Where event e receives a message that the line loses, its sender is lowered to the epoch of the send, or to its
+// latest finished epoch where that is smaller; whether that is so.
 fn lower_at(full: &[u32], finished: &[u32], epochs: &mut [u32], e: usize) -> bool
     requires { ⌜ Lowerable (now full) (now finished) (now epochs) e ⌝ }
     ensures line { λ _. ⌜ now (epochs .exit) ≡ lowerAt (now (full .entry)) (now (finished .entry)) (now (epochs .entry)) e ⌝ }

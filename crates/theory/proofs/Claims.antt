@@ -1,7 +1,8 @@
 -- What document 01 promises of recovery, and document 02 of its steps (item 2) and of unfinished saves (item 5), each
 -- claim under its sentence. Read this file first, with the definitions of specs/; the other files of proofs/ say why.
--- `demand-3` is demand 3 whole. All claims hold for every well-formed trace (crate trace), every cut, and, where `rule` and `usable` are named, for
--- every rule of logging and every set of usable checkpoints; the papers' own are `ruleOf` and `usableAt`.
+-- `demand-3` is demand 3 whole. All claims hold for every well-formed trace (crate trace), every cut, and, where `rule`
+-- and `usable` are named, for every rule of logging and every set of usable checkpoints; the papers' own are `ruleOf`
+-- and `usableAt`.
 use mathlib.Core.Path.{_≡_, sym, _∙_}
 use mathlib.Core.Logic.{_⊎_, inl, inr, _↔_, _≢_}
 use mathlib.Core.Bool.{Bool, true, false, _&&_, _||_, not}
@@ -279,8 +280,9 @@ module _ (t : Trace) (w : wellFormed t ≡ true) (cut : ℕ) (cl : cut ≤ size 
       → (l : ℕ → ℕ) → Greatest t (ruleOf t) cut usable failed l → (z : ℕ) → z < t .procs → f ≤ l z
   floor usable U = floor-below t (valid t w) cut cl usable U failed
 
-  -- Document 02, item 5: "The floor becomes the smallest, over the failed zones and those with an unfinished save, of the
-  -- latest finished epoch at the cut." It is y's, where no failed process and none with an unfinished save has a smaller.
+  -- Document 02, item 5: "The floor becomes the smallest, over the failed zones and those with an unfinished save, of
+  -- the latest finished epoch at the cut." It is y's, where no failed process and none with an unfinished save has a
+  -- smaller.
   pub floor-finished : (y : ℕ)
       → ((z : ℕ) → z < t .procs → (failed z || unfinishedAt t cut z) ≡ true → finishedAt t y cut ≤ finishedAt t z cut)
       → (l : ℕ → ℕ) → Greatest t (ruleOf t) cut (usableAt t cut) failed l → (z : ℕ) → z < t .procs → finishedAt t y cut ≤ l z
@@ -306,8 +308,8 @@ module _ (t : Trace) (w : wellFormed t ≡ true) (cut : ℕ) (cl : cut ≤ size 
       omega (arith, leb-true 1 (l z) (c .0), leb-true (l z) (finishedAt t z cut) (c .1), cnt-none (finishes t z) cut (h z)))
       (λ u. clash (eq-eqb (l z) 32 (u .0)) back)
 
-  -- "a save is usable from a line `ev=done at=A` onward. A `done` finishes the oldest unfinished save of A": save e of a
-  -- process, which raised it to epoch e + 1, is usable from its done number e on, and made by then
+  -- "a save is usable from a line `ev=done at=A` onward. A `done` finishes the oldest unfinished save of A": save e of
+  -- a process, which raised it to epoch e + 1, is usable from its done number e on, and made by then
   pub usable-from : (z e : ℕ) → 0 < e
       → (usableAt t cut z (suc e) ≡ true)
       ↔ ((d : ℕ) × (0 < d) × (d ≤ cut) × (finishes t z d ≡ true) × (cnt (finishes t z) d ≡ e) × (e ≤ cnt (checkpoints t z) d))

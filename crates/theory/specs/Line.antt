@@ -140,8 +140,8 @@ module _ (t : Trace) (rule : Rule) (cut : ℕ) where
 
 -- ---- The run of a trace, by its own rule
 
--- The epochs that each process can restart in (document 02, item 5): "Restart lines may name finished epochs only, epoch
--- 1 being always finished".
+-- The epochs that each process can restart in (document 02, item 5): "Restart lines may name finished epochs only,
+-- epoch 1 being always finished".
 abbrev pub usableAt : Trace → ℕ → ℕ → ℕ → Bool
 usableAt t cut z e = leb 1 e && leb e (finishedAt t z cut)
 
