@@ -17,7 +17,8 @@
    process. Each done finishes the oldest unfinished save, so that the finished epochs are those from 1 to the latest
    finished one. Epoch 1, the start, is always finished. A line with any other number, that of an unfinished epoch too,
    is refused with 10. A trace from before there were dones still reads, but no save in it is finished: each process
-   that goes back goes back to its start.
+   that goes back goes back to its start. A program from before that takes every kind of event but HALLBACK_SEND and
+   HALLBACK_RECV for a save takes a done for one too, and nothing refuses it: ask for HALLBACK_SAVE.
 
    Values, the `val` of a send, have 64 bits, and an area has each as two words, its low and its high half:
    hallback_value, hallback_set_value and hallback_taken_value take and give them whole. A program from before that

@@ -44,6 +44,11 @@ recv-put a b o₀ o₁ o₂ o₃ p₀ p₁ p₂ p₃ ha hb he =
     let tb = then-pair (kRecv ++ decimal a) kFrom (decimal b) o₀ o₁ o₂ p₀ p₁ p₂ ha hb in
     then _ lf o₀ o₂ o₃ p₀ p₂ p₃ tb he
 
+-- a line with a process only, of a checkpoint or of the end of one, by its key
+pub process-put : (key : List ℕ) (a : ℕ) (o₀ o₁ o₂ : List ℕ) (p₀ p₁ p₂ : ℕ)
+    → Puts (key ++ decimal a) o₀ p₀ o₁ p₁ → Puts lf o₁ p₁ o₂ p₂ → Puts ((key ++ decimal a) ++ lf) o₀ p₀ o₂ p₂
+process-put key a o₀ o₁ o₂ p₀ p₁ p₂ ha he = then (key ++ decimal a) lf o₀ o₁ o₂ p₀ p₁ p₂ ha he
+
 -- ---- Line after line
 
 events-snoc : (a : List ℕ) (i n : ℕ) → heldEvents a i (suc n) ≡ heldEvents a i n ++ heldEvent a (i + n) ∷ []

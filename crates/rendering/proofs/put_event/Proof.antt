@@ -1,5 +1,4 @@
 -- `rendering::put_event` meets its contract: the line of its kind.
-use Rattle.lines.specs.Render.{renderEvent}
 use borrow.Author.Needs.{needs}
 use Rattle.rendering.proofs.put_event.Statement.{statement}
 use Rattle.rendering.proofs.put_event.Tie as tie
@@ -17,18 +16,16 @@ returns-2 c =
     rw (e2 .given .1) (put-recv .ensures)
 
 returns-3 : tie.Need-returns-3
-unfolding renderEvent
 returns-3 c =
-    let e3 = c .before .before .before .before .before .before .e3 in
-    let put-process = c .before .before .put-process in
-    rw ((e3 .given .1)) (put-process .ensures)
+    let e3 = c .before .before .before .before .before .e3 in
+    let put-save = c .before .before .put-save in
+    rw (e3 .given .1) (put-save .ensures)
 
 returns-4 : tie.Need-returns-4
-unfolding renderEvent
 returns-4 c =
-    let e4 = c .before .before .before .before .before .before .e4 in
-    let put-process2 = c .before .before .put-process2 in
-    rw ((e4 .given .1)) (put-process2 .ensures)
+    let e4 = c .before .before .before .before .before .e4 in
+    let put-done = c .before .before .put-done in
+    rw (e4 .given .1) (put-done .ensures)
 
 pub put-event-spec : {M : Type 1} → statement M
 put-event-spec =
