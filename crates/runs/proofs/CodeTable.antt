@@ -2,19 +2,28 @@
 -- The same rows as in Table, from which they follow by the laws of Calls; that every complete order has the steps of
 -- document 02's formula, by the contract of `replay` alone. A table area and a run area are any that the caller lends,
 -- of 16,384 words or more.
-use Prim.Native.Nat.{ℕ, _≤_}
+use Prim.Native.Nat.{ℕ, zero, suc, _≤_, _<_}
 use Prim.Native.String.{String}
 use mathlib.Core.Path.{_≡_, refl, sym, ap, _∙_}
-use mathlib.Core.Bool.{true, false}
+use mathlib.Core.Bool.{true, false, _||_}
 use mathlib.Core.List.{List, [], _∷_}
 use native.Mathlib.Omega.{arith}
 use lib.ListN.{length, take}
+use borrow.Author.Tests.{leb-true}
 use Rattle.words.specs.Area.{areaWords, wordsFrom}
+use Rattle.words.proofs.Cases.{clash}
+use Rattle.trace.specs.declared.Event.the-variants.{Send, Recv, Save, Done}
+use Rattle.trace.specs.Trace.{Trace}
 use Rattle.reader.specs.Answer.{readAnswer, readArea}
 use Rattle.reader.specs.Failure.{Failing, failureAnswer, failureArea, lastFailure}
+use Rattle.theory.specs.Events.{finishes}
+use Rattle.theory.specs.Epochs.{finishedAt}
+use Rattle.theory.specs.Line.{inSet, staysIn, unfinishedAt}
+use Rattle.theory.specs.Inner.Tests.{two}
 use Rattle.theory.proofs.Runs.{opens}
-use Rattle.recovery_line.specs.Given.{numbersOf}
+use Rattle.recovery_line.specs.Given.{lineIn, numbersOf}
 use Rattle.restart.specs.declared.Restarted.{Restarted}
+use Rattle.restart.specs.Restart.{Restarts}
 use Rattle.restart.proofs.Restarting.{Answered as Restart}
 use Rattle.writer.specs.Buffer.{room, written}
 use Rattle.printing.specs.Inner.Texts.{linesOf}
@@ -346,6 +355,48 @@ code-unfinished =
       failure-refused twice 15 4 refusedTwice,
       says twice ("refused=15 place=4" ∷ []) 1 p,
     )
+
+-- What the contract of `restart` says (`Restarts`), applied to runs. The floor: in H it is 2, of process 1; process 2,
+-- which did not fail and has no save, is not asked. Where process 0 fails, whose latest finished epoch is 3, it is 2, of
+-- process 1, which did not fail and has an unfinished save
+abbrev pub traceUnfailed : Trace
+traceUnfailed = two (Save 0 ∷ Done 0 ∷ Save 0 ∷ Done 0 ∷ Save 1 ∷ Done 1 ∷ Save 1 ∷ [])
+
+least-h : (z : ℕ) → z < 3 → (inSet 2 z || unfinishedAt traceH 11 z) ≡ true → finishedAt traceH 1 11 ≤ finishedAt traceH z 11
+unfolding opens
+least-h zero l h = leb-true 2 2 refl
+least-h (suc zero) l h = leb-true 2 2 refl
+least-h (suc (suc zero)) l h = clash {b = false} h refl
+least-h (suc (suc (suc z))) l h = absurd (let y : ⊥ = omega arith in y)
+
+pub floor-h : (r : Restarted) → Restarts traceH 11 2 r → (z : ℕ) → z < 3 → 2 ≤ lineIn (r .line) z
+unfolding opens
+floor-h r R = R .floor 1 least-h
+
+least-unfailed : (z : ℕ) → z < 2 → (inSet 1 z || unfinishedAt traceUnfailed 7 z) ≡ true → finishedAt traceUnfailed 1 7 ≤ finishedAt traceUnfailed z 7
+unfolding opens
+least-unfailed zero l h = leb-true 2 3 refl
+least-unfailed (suc zero) l h = leb-true 2 2 refl
+least-unfailed (suc (suc z)) l h = absurd (let y : ⊥ = omega arith in y)
+
+pub floor-unfailed : (r : Restarted) → Restarts traceUnfailed 7 1 r → (z : ℕ) → z < 2 → 2 ≤ lineIn (r .line) z
+unfolding opens
+floor-unfailed r R = R .floor 1 least-unfailed
+
+-- In a trace without a `done` each process that goes back goes to epoch 1, also one that did not fail: S as it is given
+abbrev pub traceOld : Trace
+traceOld = two (Save 0 ∷ Send 0 1 6 ∷ Recv 1 0 ∷ [])
+
+none-finishes : (z e : ℕ) → finishes traceOld z e ≡ false
+unfolding opens
+none-finishes z zero = refl
+none-finishes z (suc zero) = refl
+none-finishes z (suc (suc zero)) = refl
+none-finishes z (suc (suc (suc zero))) = refl
+none-finishes z (suc (suc (suc (suc e)))) = refl
+
+pub none-done-old : (r : Restarted) → Restarts traceOld 3 2 r → (z : ℕ) → z < 2 → staysIn (lineIn (r .line)) z ≡ false → lineIn (r .line) z ≡ 1
+none-done-old r R = R .none-done none-finishes
 
 -- ---- Not among them, but of the same texts: delivery records (`RecordsH` of Table), as `replay` leaves them in the
 -- run area. Complete, from the line of R1: the record of the run without failure. Not complete: 1 has not received

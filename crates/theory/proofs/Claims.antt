@@ -3,7 +3,7 @@
 -- `demand-3` is demand 3 whole. All claims hold for every well-formed trace (crate trace), every cut, and, where `rule`
 -- and `usable` are named, for every rule of logging and every set of usable checkpoints; the papers' own are `ruleOf`
 -- and `usableAt`.
-use mathlib.Core.Path.{_≡_, sym, _∙_}
+use mathlib.Core.Path.{_≡_, sym, _∙_, ap}
 use mathlib.Core.Logic.{_⊎_, inl, inr, _↔_, _≢_}
 use mathlib.Core.Bool.{Bool, true, false, _&&_, _||_, not}
 use mathlib.Core.List.{List, [], _∷_}
@@ -36,7 +36,7 @@ use Rattle.theory.proofs.WellFormed.{Valid, valid}
 use Rattle.theory.proofs.Classes.{undone-counts, lost-counts, orphan-counts, kept-counts}
 use Rattle.theory.specs.Inner.Flow.{Inv}
 use Rattle.theory.proofs.Loss.{inv}
-use Rattle.theory.proofs.Epochs.{epoch-is, epochOf-at, phaseOf-send, logged-is, phase-recv, laws}
+use Rattle.theory.proofs.Epochs.{done-notes, epoch-is, epochOf-at, phaseOf-send, logged-is, phase-recv, laws}
 use Rattle.theory.proofs.Lines.{now-is, now-few, finished-le, usable-finished, may-is, stays-at, restart-epoch, restart-mono, number-of, lower-less}
 use Rattle.theory.proofs.Greatest.{highest-above, below-above, greatest-is, greatest-unique, floor-below}
 use Rattle.theory.proofs.Orders.{run-reaches, run-refused, run-steps, run-each, complete-iff, order-iff, order-differs, order-progress, order-done, order-bound}
@@ -280,6 +280,10 @@ module _ (t : Trace) (w : wellFormed t ≡ true) (cut : ℕ) (cl : cut ≤ size 
       → (l : ℕ → ℕ) → Greatest t (ruleOf t) cut usable failed l → (z : ℕ) → z < t .procs → f ≤ l z
   floor usable U = floor-below t (valid t w) cut cl usable U failed
 
+  -- a process whose epoch is above its latest finished one has an unfinished save
+  unfinished-above : (z : ℕ) → finishedAt t z cut < current t (ruleOf t) cut z → unfinishedAt t cut z ≡ true
+  unfinished-above z h = lt-ltb (cnt (finishes t z) cut) (cnt (checkpoints t z) cut) (omega (arith, now-is t (ruleOf t) (valid t w) cut cl z))
+
   -- Document 02, item 5: "The floor becomes the smallest, over the failed zones and those with an unfinished save, of
   -- the latest finished epoch at the cut." It is y's, where no failed process and none with an unfinished save has a
   -- smaller.
@@ -295,9 +299,9 @@ module _ (t : Trace) (w : wellFormed t ≡ true) (cut : ℕ) (cl : cut ≤ size 
       (λ u. let i : leb 1 f ≡ true = le-leb 1 f (omega arith) in let j : leb f (finishedAt t z cut) ≡ true = le-leb f (finishedAt t z cut) u in inl (rw (i, j)))
       (λ u. inr (
         by (failed z) (λ v. absurd (omega (arith, c z h (rw v)))) (λ v. v),
-        on (le? (cnt (checkpoints t z) cut) (cnt (finishes t z) cut))
-            (λ v. omega (arith, now-is t (ruleOf t) A cut cl z))
-            (λ v. absurd (omega (arith, c z h (or-right (failed z) (unfinishedAt t cut z) (lt-ltb (cnt (finishes t z) cut) (cnt (checkpoints t z) cut) v))))),
+        on (le? (current t (ruleOf t) cut z) (finishedAt t z cut))
+            (λ v. omega arith)
+            (λ v. absurd (omega (arith, c z h (or-right (failed z) (unfinishedAt t cut z) (unfinished-above z v))))),
       )))
 
   -- "In a trace with no `done`, each zone that goes back goes to epoch 1."
@@ -324,13 +328,16 @@ module _ (t : Trace) (w : wellFormed t ≡ true) (cut : ℕ) (cl : cut ≤ size 
         rw (j, i),
   )
 
+  -- "Epochs and phases rise at the save as before.": a `done` changes neither, of any process
+  pub done-keeps : (a x : ℕ) → finishes t a (suc x) ≡ true → (z : ℕ)
+      → (epochAt t (ruleOf t) z (suc x) ≡ epochAt t (ruleOf t) z x) × (phaseAt t (ruleOf t) z (suc x) ≡ phaseAt t (ruleOf t) z x)
+  done-keeps a x h z = let n = done-notes t (ruleOf t) a x h in (ap (λ m. m .epochs z) n, ap (λ m. m .phases z) n)
+
   -- "those with an unfinished save": their latest finished epoch is below their epoch
   pub unfinished-below : (z : ℕ) → (unfinishedAt t cut z ≡ true) ↔ (finishedAt t z cut < current t (ruleOf t) cut z)
   unfinished-below z =
-      let s = now-is t (ruleOf t) (valid t w) cut cl z in (
-        λ h. omega (arith, s, ltb-true (cnt (finishes t z) cut) (cnt (checkpoints t z) cut) h),
-        λ h. lt-ltb (cnt (finishes t z) cut) (cnt (checkpoints t z) cut) (omega (arith, s)),
-      )
+      let made = now-is t (ruleOf t) (valid t w) cut cl z in
+      (λ h. omega (arith, made, ltb-true (cnt (finishes t z) cut) (cnt (checkpoints t z) cut) h), unfinished-above z)
 
 -- ---- Numbers, "Who names the failure and the replay". "Order: .. for the rest 8, 9, 10, 11."
 

@@ -9,9 +9,9 @@ use lib.Dec.{eqb}
 use borrow.Author.Tests.{eqb-true}
 use Rattle.trace.specs.declared.Event.{Event}
 use Rattle.trace.specs.declared.Event.the-variants.{Send, Recv, Save, Done}
-use Rattle.trace.specs.Trace.{Trace, isSend, isRecv, isSave}
+use Rattle.trace.specs.Trace.{Trace, isSend, isRecv, isSave, isDone}
 use Rattle.theory.specs.Lists.{cnt, put}
-use Rattle.theory.specs.Events.{size, eventAt, sends, recvs, checkpoints, sent, rcvd, recvOf}
+use Rattle.theory.specs.Events.{size, eventAt, sends, recvs, checkpoints, finishes, sent, rcvd, recvOf}
 use Rattle.theory.specs.Epochs.{Rule, Carried, Notes, joined, note, notes, epochAt, phaseAt, epochOf, phaseOf, loggedBy}
 use Rattle.theory.specs.Line.{restartIn, recorded}
 use Rattle.theory.specs.Inner.Laws.{Laws}
@@ -46,6 +46,12 @@ checkpoint-event z (Send a b v) h = clash {b = false} h refl
 checkpoint-event z (Recv a b) h = clash {b = false} h refl
 checkpoint-event z (Save a) h = let i : z ≡ a = eqb-true z a h in rw i
 checkpoint-event z (Done a) h = clash {b = false} h refl
+
+done-event : (z : ℕ) (e : Event) → isDone z e ≡ true → e ≡ Done z
+done-event z (Send a b v) h = clash {b = false} h refl
+done-event z (Recv a b) h = clash {b = false} h refl
+done-event z (Save a) h = clash {b = false} h refl
+done-event z (Done a) h = let i : z ≡ a = eqb-true z a h in rw i
 
 joined-own : (b : Bool) (f m : ℕ) → f ≤ joined b f m
 joined-own true f m = omega arith
@@ -120,6 +126,11 @@ module _ (t : Trace) (rule : Rule) where
   noted : (x : ℕ) (v : Event) → eventAt t (suc x) ≡ v → notes t rule (suc x) ≡ note t rule (notes t rule x) (suc x) v
   unfolding notes
   noted x v e = ap (note t rule (notes t rule x) (suc x)) e
+
+  -- the end of a checkpoint changes nothing that is noted
+  pub done-notes : (z x : ℕ) → finishes t z (suc x) ≡ true → notes t rule (suc x) ≡ notes t rule x
+  unfolding finishes note
+  done-notes z x h = noted x (Done z) (done-event z (eventAt t (suc x)) h)
 
   phase-checkpoint : (z x : ℕ) → checkpoints t z (suc x) ≡ true → phaseAt t rule z x < phaseAt t rule z (suc x)
   unfolding checkpoints

@@ -11,7 +11,7 @@ use Rattle.trace.specs.Trace.{count}
 use Rattle.trace.specs.Fit.{wellFormed, allFit, eventFault}
 use Rattle.theory.specs.Lists.{iv, keep, cnt, place, lastOf, no-one, all-below, sum, first}
 use Rattle.theory.specs.Events.{eventAt, at, kind, sends, recvs, checkpoints, finishes, sent, rcvd, sendOf, recvOf, value}
-use Rattle.theory.specs.Epochs.{note, notes, loggedBy}
+use Rattle.theory.specs.Epochs.{note, notes, phaseAt, loggedBy, ruleOf}
 use Rattle.theory.specs.Line.{Run, sentBefore, sentAfter, received, receivedBefore, undone, lost, orphan, kept, orphanPhase, restartIn, highest, lowered, lowering, greatestLine, unfinishedAt, runAt, engineLine}
 use Rattle.theory.specs.Replay.{listed, keptOn, takenBy, resends, ready, gate, sendStep, recvStep, eventStep, processStep, handStep, step}
 use Rattle.theory.specs.Record.{delivered, faultless}
@@ -73,7 +73,7 @@ only-orphan [] r = false
 only-orphan (m ∷ []) r = eqb (m .from) 0 && (eqb (m .to) 1 && (eqb (m .number) 1 && eqb (m .phase) r))
 only-orphan (m ∷ n ∷ ms) r = false
 
--- ---- The traces: of rows 1, 2 and 3, 4, 6, 7, 8 and 9, 10, 12, 16, 17, 18
+-- ---- The traces: of rows 1, 2 and 3, 4, 6, 7, 8 and 9, 10, 12, 16, 17 and 19, 18, 20
 
 abbrev t1 : List Event
 t1 = Save 1 ∷ Send 0 1 0 ∷ Recv 1 0 ∷ []
@@ -108,10 +108,13 @@ t17 = Save 0 ∷ Save 1 ∷ Send 0 1 0 ∷ Recv 1 0 ∷ Done 1 ∷ []
 abbrev t18 : List Event
 t18 = Save 0 ∷ Send 0 1 0 ∷ Recv 1 0 ∷ Done 0 ∷ []
 
+abbrev t20 : List Event
+t20 = Send 0 1 0 ∷ Recv 1 0 ∷ Save 1 ∷ Done 1 ∷ Send 1 0 0 ∷ Recv 0 1 ∷ []
+
 -- ---- The rows. Each is a theorem of its own, so that a definition that is wrong names the row that it makes false.
 
 -- all these traces are well formed
-fit : every (map (λ es. wellFormed (two es)) (t1 ∷ t2 ∷ t4 ∷ t6 ∷ t7 ∷ t8 ∷ t10 ∷ t12 ∷ t16 ∷ t17 ∷ t18 ∷ [])) ≡ true
+fit : every (map (λ es. wellFormed (two es)) (t1 ∷ t2 ∷ t4 ∷ t6 ∷ t7 ∷ t8 ∷ t10 ∷ t12 ∷ t16 ∷ t17 ∷ t18 ∷ t20 ∷ [])) ≡ true
 unfolding opens every
 fit = refl
 
@@ -214,3 +217,8 @@ d18 = refl
 d19 : (unfinishedAt (two t17) 5 0 && (not (unfinishedAt (two t17) 5 1) && (unfinishedAt (two t17) 4 1 && not (unfinishedAt (two t17) 0 0)))) ≡ true
 unfolding opens
 d19 = refl
+
+-- epoch and phase rise at the save and not again at its done: what is sent after both carries the phase of the save
+d20 : eqb (phaseAt (two t20) (ruleOf (two t20)) 0 6) 2 ≡ true
+unfolding opens
+d20 = refl
