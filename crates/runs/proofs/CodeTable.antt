@@ -16,7 +16,7 @@ use Rattle.trace.specs.declared.Event.the-variants.{Send, Recv, Save, Done}
 use Rattle.trace.specs.Trace.{Trace}
 use Rattle.reader.specs.Answer.{readAnswer, readArea}
 use Rattle.reader.specs.Failure.{Failing, failureAnswer, failureArea, lastFailure}
-use Rattle.theory.specs.Events.{finishes}
+use Rattle.theory.specs.Events.{finishes as done-of}
 use Rattle.theory.specs.Epochs.{finishedAt}
 use Rattle.theory.specs.Line.{inSet, staysIn, unfinishedAt}
 use Rattle.theory.specs.Inner.Tests.{two}
@@ -387,7 +387,7 @@ floor-unfailed r R = R .floor 1 least-unfailed
 abbrev pub traceOld : Trace
 traceOld = two (Save 0 ∷ Send 0 1 6 ∷ Recv 1 0 ∷ [])
 
-none-finishes : (z e : ℕ) → finishes traceOld z e ≡ false
+none-finishes : (z e : ℕ) → done-of traceOld z e ≡ false
 unfolding opens
 none-finishes z zero = refl
 none-finishes z (suc zero) = refl
