@@ -1060,7 +1060,7 @@ ev=recv at=0 from=1
                     return order;
                 }
                 let choice = random.pick(&choices);
-                machine.carry_out(choice);
+                machine.carry_out(choice).expect("the choice is allowed");
                 order.push(choice);
             }
         });

@@ -1,9 +1,19 @@
 //! The trace text, read in one pass.
 
+use super::quick::{quick_event, WINDOW};
+use super::recorded::Recorder;
 use super::{DONE, MAX_SAVES, RECEIVE, SAVE, SEND};
 use crate::values::halves;
 use crate::{Cause, Failure, Refusal};
 use crate::{AREA_WORDS, EVENT_BASE, HIGH_BASE, MAX_EVENTS, MAX_PROCS, VALUE_BASE};
+
+/// What an event line says. Numbers that a kind does not have are 0.
+pub(super) struct EventLine {
+    pub kind: u8,
+    pub at: usize,
+    pub peer: usize,
+    pub value: u64,
+}
 
 /// A place in a text.
 struct Cursor<'a> {
@@ -13,12 +23,7 @@ struct Cursor<'a> {
 
 /// What a line after the first says.
 enum Line {
-    Event {
-        kind: u8,
-        at: u32,
-        peer: u32,
-        value: u64,
-    },
+    Event(EventLine),
     Failure(Failure),
 }
 
@@ -96,15 +101,19 @@ impl Cursor<'_> {
         if self.bytes(b"ev=").is_some() {
             self.event()
         } else if failure_due {
-            self.bytes(b"fail=")?;
-            let step = u64::from(self.word()?);
-            self.bytes(b" set=")?;
-            let set = self.two_words()?;
-            self.bytes(b"\n")?;
-            Some(Line::Failure(Failure { step, set }))
+            self.failure().map(Line::Failure)
         } else {
             None
         }
+    }
+
+    fn failure(&mut self) -> Option<Failure> {
+        self.bytes(b"fail=")?;
+        let step = u64::from(self.word()?);
+        self.bytes(b" set=")?;
+        let set = self.two_words()?;
+        self.bytes(b"\n")?;
+        Some(Failure { step, set })
     }
 
     /// An event line after its `ev=`. Eight bytes tell the kinds apart.
@@ -127,17 +136,19 @@ impl Cursor<'_> {
             (DONE, self.word()?, 0, 0)
         };
         self.bytes(b"\n")?;
-        Some(Line::Event {
+        Some(Line::Event(EventLine {
             kind,
-            at,
-            peer,
+            at: at as usize,
+            peer: peer as usize,
             value,
-        })
+        }))
     }
+}
 
-    fn ended(&self) -> bool {
-        self.at == self.text.len()
-    }
+/// What takes the events of a text.
+trait Sink {
+    /// Takes an event, or says why it is not fit.
+    fn event(&mut self, event: EventLine) -> Result<(), Cause>;
 }
 
 /// Reads a text into the table area, which is zero after a refusal. With a failure line the failure
@@ -148,14 +159,39 @@ pub(super) fn read(
     with_failure: bool,
 ) -> Result<Failure, Refusal> {
     table.fill(0);
-    read_lines(text, table, with_failure).inspect_err(|_| table.fill(0))
+    let read = read_lines(text, with_failure, |procs| IntoTable::new(procs, table));
+    let counted = read.map(|(sink, failure)| (sink.procs, sink.events, failure));
+    let (procs, events, failure) = counted.inspect_err(|_| table.fill(0))?;
+    table[0] = procs as u32;
+    table[1] = events as u32;
+    Ok(failure)
 }
 
-fn read_lines(
+/// The shortest event line has so many bytes.
+const SHORTEST_EVENT: usize = b"ev=save at=0\n".len();
+
+/// The longest failure line has so many bytes.
+const LONGEST_FAILURE: usize = b"fail=4294967295 set=18446744073709551615\n".len();
+
+/// Reads a text with its failure line into a recorder, with the cut there.
+pub(super) fn record(text: &[u8]) -> Result<(Recorder, Failure), Refusal> {
+    // if the text is accepted, its last line is the failure line, and only that has an `f`
+    let last = &text[text.len().saturating_sub(LONGEST_FAILURE)..];
+    let fail = last.iter().rposition(|&byte| byte == b'f').unwrap_or(0);
+    let mut cursor = Cursor {
+        text: last,
+        at: fail,
+    };
+    let step = cursor.failure().map_or(0, |failure| failure.step);
+    let most = text.len() / SHORTEST_EVENT;
+    read_lines(text, true, |procs| Recorder::new(procs, most, step))
+}
+
+fn read_lines<S: Sink>(
     text: &[u8],
-    table: &mut [u32; AREA_WORDS],
     with_failure: bool,
-) -> Result<Failure, Refusal> {
+    begin: impl FnOnce(usize) -> S,
+) -> Result<(S, Failure), Refusal> {
     let mut cursor = Cursor { text, at: 0 };
     let procs = cursor
         .process_count()
@@ -163,67 +199,117 @@ fn read_lines(
     if !(2..=MAX_PROCS as u32).contains(&procs) {
         return Err(Refusal::new(Cause::ProcessCount, 1));
     }
-    let mut in_transit = vec![0u16; (procs * procs) as usize];
-    let channel = |from: u32, to: u32| (from * procs + to) as usize;
-    let mut saves = [0; MAX_PROCS];
-    let mut unfinished = [0u8; MAX_PROCS];
-    let mut events = 0;
-    table[0] = procs;
+    let mut sink = begin(procs as usize);
+    let mut rest = &text[cursor.at..];
+    let mut place = 2;
     loop {
-        let place = events + 2;
-        let refused = |cause| Err(Refusal::new(cause, place));
-        if cursor.ended() && !with_failure {
-            table[1] = events as u32;
-            return Ok(Failure { step: 0, set: 0 });
-        }
-        let (kind, at, peer, value) = match cursor.line(with_failure) {
-            None => return refused(Cause::Form),
-            Some(Line::Failure(failure)) if cursor.ended() => {
-                table[1] = events as u32;
-                return Ok(failure);
+        let quick = rest.first_chunk::<WINDOW>().and_then(quick_event);
+        let (event, length) = match quick {
+            Some(read) => read,
+            None if rest.is_empty() && !with_failure => {
+                return Ok((sink, Failure { step: 0, set: 0 }));
             }
-            Some(Line::Failure(_)) => return Err(Refusal::new(Cause::Form, place + 1)),
-            Some(Line::Event {
-                kind,
-                at,
-                peer,
-                value,
-            }) => (kind, at, peer, value),
+            None => match slow_line(rest, with_failure) {
+                None => return Err(Refusal::new(Cause::Form, place)),
+                Some((Line::Event(event), length)) => (event, length),
+                Some((Line::Failure(failure), length)) if length == rest.len() => {
+                    return Ok((sink, failure));
+                }
+                Some((Line::Failure(_), _)) => return Err(Refusal::new(Cause::Form, place + 1)),
+            },
         };
-        if events == MAX_EVENTS {
-            return refused(Cause::Events);
+        if let Err(cause) = sink.event(event) {
+            return Err(Refusal::new(cause, place));
         }
-        if at >= procs || peer >= procs {
-            return refused(Cause::Process);
+        rest = &rest[length..];
+        place += 1;
+    }
+}
+
+/// Any line after the first, with its length.
+#[cold]
+#[inline(never)]
+fn slow_line(text: &[u8], failure_due: bool) -> Option<(Line, usize)> {
+    let mut cursor = Cursor { text, at: 0 };
+    let line = cursor.line(failure_due)?;
+    Some((line, cursor.at))
+}
+
+impl Sink for Recorder {
+    #[inline(always)]
+    fn event(&mut self, event: EventLine) -> Result<(), Cause> {
+        self.event(event.kind, event.at, event.peer)
+    }
+}
+
+/// A table area that is being filled, with what the next event may take.
+struct IntoTable<'a> {
+    table: &'a mut [u32; AREA_WORDS],
+    procs: usize,
+    events: usize,
+    /// By sender and receiver.
+    in_transit: Vec<u16>,
+    saves: [u8; MAX_PROCS],
+    unfinished: [u8; MAX_PROCS],
+}
+
+impl<'a> IntoTable<'a> {
+    fn new(procs: usize, table: &'a mut [u32; AREA_WORDS]) -> Self {
+        IntoTable {
+            table,
+            procs,
+            events: 0,
+            in_transit: vec![0; procs * procs],
+            saves: [0; MAX_PROCS],
+            unfinished: [0; MAX_PROCS],
         }
+    }
+}
+
+impl Sink for IntoTable<'_> {
+    #[inline(always)]
+    fn event(&mut self, event: EventLine) -> Result<(), Cause> {
+        let EventLine {
+            kind,
+            at,
+            peer,
+            value,
+        } = event;
+        if self.events == MAX_EVENTS {
+            return Err(Cause::Events);
+        }
+        if at >= self.procs || peer >= self.procs {
+            return Err(Cause::Process);
+        }
+        let process = at % MAX_PROCS;
         match kind {
-            SEND | RECEIVE if at == peer => return refused(Cause::Itself),
-            SEND => in_transit[channel(at, peer)] += 1,
+            SEND | RECEIVE if at == peer => return Err(Cause::Itself),
+            SEND => self.in_transit[at * self.procs + peer] += 1,
             RECEIVE => {
-                let waiting = &mut in_transit[channel(peer, at)];
+                let waiting = &mut self.in_transit[peer * self.procs + at];
                 if *waiting == 0 {
-                    return refused(Cause::NothingInTransit);
+                    return Err(Cause::NothingInTransit);
                 }
                 *waiting -= 1;
             }
             SAVE => {
-                let saves = &mut saves[at as usize];
-                if *saves == MAX_SAVES {
-                    return refused(Cause::Saves);
+                if self.saves[process] == MAX_SAVES {
+                    return Err(Cause::Saves);
                 }
-                *saves += 1;
-                unfinished[at as usize] += 1;
+                self.saves[process] += 1;
+                self.unfinished[process] += 1;
             }
             _ => {
-                let unfinished = &mut unfinished[at as usize];
-                if *unfinished == 0 {
-                    return refused(Cause::NothingUnfinished);
+                if self.unfinished[process] == 0 {
+                    return Err(Cause::NothingUnfinished);
                 }
-                *unfinished -= 1;
+                self.unfinished[process] -= 1;
             }
         }
-        events += 1;
-        table[EVENT_BASE + events] = at | peer << 6 | u32::from(kind) << 12;
-        [table[VALUE_BASE + events], table[HIGH_BASE + events]] = halves(value);
+        let e = self.events % MAX_EVENTS + 1;
+        self.table[EVENT_BASE + e] = (at | peer << 6) as u32 | u32::from(kind) << 12;
+        [self.table[VALUE_BASE + e], self.table[HIGH_BASE + e]] = halves(value);
+        self.events += 1;
+        Ok(())
     }
 }

@@ -1,9 +1,7 @@
 //! The report on a text.
 
-use super::machine::Lowest;
 use super::reader;
-use super::recorded::{Class, Recorded};
-use crate::{Refusal, AREA_WORDS};
+use crate::Refusal;
 
 /// Bytes written one after the other, as far as there is room.
 struct Writer<'a> {
@@ -57,13 +55,13 @@ pub fn report(text: &[u8], out: &mut [u8]) -> usize {
 
 /// Writes the answer, or nothing if there is a refusal.
 fn write_answer(text: &[u8], writer: &mut Writer) -> Result<(), Refusal> {
-    let mut table = Box::new([0; AREA_WORDS]);
-    let failure = reader::read(text, &mut table, true)?;
-    let recorded = Recorded::load(&table, failure)?;
+    let (recorder, failure) = reader::record(text)?;
+    let mut recorded = recorder.recorded(failure)?;
     let restart = recorded.restart(&recorded.greatest_line(failure.set));
     let restarts = recorded.restarts(restart.line(), failure.set)?;
-    let (rows, counts) = recorded.messages(&restarts);
-    let steps = Lowest::new(&recorded, &restarts).carry_out(|_, _| {});
+    let (sends, counts) = recorded.messages(&restarts);
+    // the greatest line loses no message, so every complete order has this length
+    let steps = recorded.listed(&restarts) as u64 + counts.kept;
 
     for z in 0..restart.count {
         writer.pair(b"out=proc at=", z as u64);
@@ -72,17 +70,16 @@ fn write_answer(text: &[u8], writer: &mut Writer) -> Result<(), Refusal> {
         writer.pair(b" phase=", u64::from(restart.phases[z]));
         writer.bytes(b"\n");
     }
-    for row in rows {
-        let key: &[u8] = match row.class {
-            Class::Orphan => b"out=orphan from=",
-            Class::Kept => b"out=kept from=",
-            Class::Lost => unreachable!("the greatest line loses no message"),
-        };
-        writer.pair(key, u64::from(row.from));
-        writer.pair(b" to=", u64::from(row.to));
-        writer.pair(b" no=", u64::from(row.number));
-        writer.pair(b" phase=", u64::from(row.phase));
-        writer.bytes(b"\n");
+    let (orphans, kept) = sends.split_at(counts.orphans as usize);
+    for (key, sends) in [(&b"out=orphan from="[..], orphans), (b"out=kept from=", kept)] {
+        for &send in sends {
+            let send = recorded.event(send);
+            writer.pair(key, u64::from(send.at));
+            writer.pair(b" to=", u64::from(send.peer));
+            writer.pair(b" no=", u64::from(send.number));
+            writer.pair(b" phase=", u64::from(send.phase));
+            writer.bytes(b"\n");
+        }
     }
     writer.pair(b"out=total back=", restart.back);
     writer.pair(b" orphans=", counts.orphans);

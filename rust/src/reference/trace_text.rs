@@ -2,6 +2,7 @@
 
 use super::table::{unpack, Words};
 use super::{RECEIVE, SAVE, SEND};
+use crate::values::from_halves;
 use crate::{Cause, Refusal, AREA_WORDS, TEXT_BYTES};
 
 /// Writes the text of the trace in a table area, and gives its length, or refusal 13 or 14.
@@ -21,8 +22,8 @@ fn text(words: &Words) -> Vec<u8> {
     let mut text = Vec::with_capacity(TEXT_BYTES);
     pair(&mut text, b"procs=", words.procs as u64);
     text.push(b'\n');
-    for (word, value) in words.events() {
-        event(&mut text, word, value);
+    for (word, low, high) in words.events() {
+        event(&mut text, word, from_halves(low, high));
         text.push(b'\n');
     }
     text
