@@ -15,8 +15,9 @@
 //! ```
 
 use crate::{Cause, Counts, Failure, Refusal, Replayed, Restart, AREA_WORDS};
-use crate::{HIGH_BASE, MAX_EVENTS, TAKEN_BASE, TAKEN_HIGH_BASE, VALUE_BASE};
+use crate::{HIGH_BASE, MAX_EVENTS, MAX_PROCS, TAKEN_BASE, TAKEN_HIGH_BASE, VALUE_BASE};
 
+mod lines;
 mod machine;
 mod quick;
 mod reader;
@@ -48,6 +49,28 @@ const SAVE: u8 = 3;
 
 /// The most saves of a process.
 const MAX_SAVES: u8 = 30;
+
+/// A process of an event, if it is one of so many. (The remainder is the number itself, which spares
+/// tests of its bound.)
+#[inline(always)]
+fn check_one(at: usize, procs: usize) -> Result<usize, Cause> {
+    match at < procs {
+        true => Ok(at % MAX_PROCS),
+        false => Err(Cause::Process),
+    }
+}
+
+/// The process of an event, if that and its peer are two of so many.
+#[inline(always)]
+fn check_two(at: usize, peer: usize, procs: usize) -> Result<usize, Cause> {
+    if at >= procs || peer >= procs {
+        Err(Cause::Process)
+    } else if at == peer {
+        Err(Cause::Itself)
+    } else {
+        Ok(at % MAX_PROCS)
+    }
+}
 
 /// The words of a lent area that are used, or refusal 12.
 fn area(words: &[u32]) -> Result<&[u32; AREA_WORDS], Refusal> {

@@ -1,7 +1,7 @@
 //! Event lines of the usual form, read by several bytes at a time.
 
-use super::reader::EventLine;
-use super::{DONE, RECEIVE, SAVE, SEND};
+use super::reader::Sink;
+use crate::Cause;
 
 /// Every event line fits into so many bytes, with some to spare, so that eight can be read anywhere
 /// in it.
@@ -9,66 +9,76 @@ pub(super) const WINDOW: usize = 64;
 
 type Window = [u8; WINDOW];
 
-/// Powers of ten.
-const POWERS: [u64; 8] = [1, 10, 100, 1_000, 10_000, 100_000, 1_000_000, 10_000_000];
-
-/// The event line that begins here and its length with the line feed; none where the line is no
-/// event line, and for some that are, such as with a process of three digits.
+/// Gives the event of the line that begins here to the sink, as event e, and answers the length of
+/// the line with its line feed. None where the line is no event line, and for some that are, such as
+/// with a process of three digits.
 #[inline(always)]
-pub(super) fn quick_event(line: &Window) -> Option<(EventLine, usize)> {
-    let kind = match at::<8>(line, 0) {
-        b"ev=send " => SEND,
-        b"ev=recv " => RECEIVE,
-        b"ev=save " => SAVE,
-        b"ev=done " => DONE,
-        _ => return None,
-    };
+pub(super) fn quick_event(
+    line: &Window,
+    e: usize,
+    sink: &mut impl Sink,
+) -> Option<Result<usize, Cause>> {
+    const SEND: u64 = u64::from_le_bytes(*b"ev=send ");
+    const RECEIVE: u64 = u64::from_le_bytes(*b"ev=recv ");
+    const SAVE: u64 = u64::from_le_bytes(*b"ev=save ");
+    const DONE: u64 = u64::from_le_bytes(*b"ev=done ");
+    let kind = u64::from_le_bytes(*bytes(line, 0));
     let place = key(line, 7, b" at=")?;
-    let (process, place) = process(line, place)?;
-    let (peer, value, place) = match kind {
-        SEND => {
-            let (peer, place) = self::process(line, key(line, place, b" to=")?)?;
-            let (value, place) = value(line, key(line, place, b" val=")?)?;
-            (peer, value, place)
-        }
-        RECEIVE => {
-            let (peer, place) = self::process(line, key(line, place, b" from=")?)?;
-            (peer, 0, place)
-        }
-        _ => (0, 0, place),
-    };
-    let length = key(line, place, b"\n")?;
-    let event = EventLine {
-        kind,
-        at: process,
-        peer,
-        value,
-    };
-    Some((event, length))
+    if kind == SEND {
+        let (at, place) = process(line, place)?;
+        let (to, place) = process(line, key(line, place, b" to=")?)?;
+        let place = key(line, place, b" val")?;
+        let (value, place) = value(line, key(line, place, b"=")?)?;
+        let length = key(line, place, b"\n")?;
+        Some(sink.send(e, at, to, value).map(|()| length))
+    } else if kind == RECEIVE {
+        let (at, place) = process(line, place)?;
+        let place = key(line, place, b" fro")?;
+        let (from, place) = process(line, key(line, place, b"m=")?)?;
+        let length = key(line, place, b"\n")?;
+        Some(sink.receive(e, at, from).map(|()| length))
+    } else if kind == SAVE {
+        let (at, place) = process(line, place)?;
+        let length = key(line, place, b"\n")?;
+        Some(sink.save(e, at).map(|()| length))
+    } else if kind == DONE {
+        let (at, place) = process(line, place)?;
+        let length = key(line, place, b"\n")?;
+        Some(sink.done(e, at).map(|()| length))
+    } else {
+        None
+    }
 }
 
 /// The bytes at a place.
 #[inline(always)]
-fn at<const LENGTH: usize>(line: &Window, place: usize) -> &[u8; LENGTH] {
+fn bytes<const LENGTH: usize>(line: &Window, place: usize) -> &[u8; LENGTH] {
     line[place..].first_chunk().expect("the line has them")
 }
 
 /// The place after these bytes, if they are at this place.
 #[inline(always)]
 fn key<const LENGTH: usize>(line: &Window, place: usize, key: &[u8; LENGTH]) -> Option<usize> {
-    (at(line, place) == key).then_some(place + LENGTH)
+    (bytes(line, place) == key).then_some(place + LENGTH)
+}
+
+/// The digit at a place, or more than 9.
+#[inline(always)]
+fn digit(line: &Window, place: usize) -> u8 {
+    line[place].wrapping_sub(b'0')
 }
 
 /// A number of one or two digits, without a leading zero, and the place after it.
 #[inline(always)]
 fn process(line: &Window, place: usize) -> Option<(usize, usize)> {
-    let [first, second] = at(line, place).map(|byte| byte.wrapping_sub(b'0'));
+    let first = digit(line, place);
+    let second = digit(line, place + 1);
     if first > 9 {
         None
     } else if second > 9 {
         Some((usize::from(first), place + 1))
     } else if first != 0 {
-        Some((usize::from(10 * first + second), place + 2))
+        Some((10 * usize::from(first) + usize::from(second), place + 2))
     } else {
         None
     }
@@ -77,31 +87,41 @@ fn process(line: &Window, place: usize) -> Option<(usize, usize)> {
 /// A number of 64 bits, without leading zeros, and the place after it.
 #[inline(always)]
 fn value(line: &Window, place: usize) -> Option<(u64, usize)> {
-    let (number, count) = digits(at(line, place));
-    if count == 0 || count > 1 && line[place] == b'0' {
+    let first = digit(line, place);
+    if first > 9 {
         return None;
     }
-    if count < 8 {
-        return Some((number, place + count));
+    if line[place + 1] == b'\n' {
+        return Some((u64::from(first), place + 1));
     }
-    more_digits(line, place + 8, number)
+    if first == 0 {
+        return None;
+    }
+    let (number, count) = digits(bytes(line, place));
+    if count < 8 {
+        Some((number, place + count))
+    } else {
+        more_digits(line, place + 8, number)
+    }
 }
 
-/// A number that begins with these eight digits, and the place after it.
-#[inline(never)]
+/// A number that begins with eight digits, which are before this place, and the place after it.
+#[inline]
 fn more_digits(line: &Window, place: usize, eight: u64) -> Option<(u64, usize)> {
-    let (mut number, mut place) = (eight, place);
-    // up to 24 digits; a number of so many is too large
-    while place + 8 <= WINDOW {
-        let (more, count) = digits(at(line, place));
-        let power = POWERS.get(count).copied().unwrap_or(100_000_000);
-        number = number.checked_mul(power)?.checked_add(more)?;
-        place += count;
-        if count < 8 {
-            return Some((number, place));
+    // a number has at most 20 digits, of which 19 are never too many
+    let more: &[u8; 12] = bytes(line, place);
+    let mut number = eight;
+    for (i, byte) in more.iter().enumerate() {
+        let digit = u64::from(byte.wrapping_sub(b'0'));
+        if digit > 9 {
+            return Some((number, place + i));
         }
+        number = match i {
+            0..11 => 10 * number + digit,
+            _ => number.checked_mul(10)?.checked_add(digit)?,
+        };
     }
-    None
+    Some((number, place + more.len()))
 }
 
 /// How many of these bytes are digits, from the first on, and the number they make.

@@ -1,19 +1,11 @@
 //! The trace text, read in one pass.
 
 use super::quick::{quick_event, WINDOW};
-use super::recorded::Recorder;
-use super::{DONE, MAX_SAVES, RECEIVE, SAVE, SEND};
+use super::recorded::{Recorded, Recorder};
+use super::{check_one, check_two, DONE, MAX_SAVES, RECEIVE, SAVE, SEND};
 use crate::values::halves;
 use crate::{Cause, Failure, Refusal};
 use crate::{AREA_WORDS, EVENT_BASE, HIGH_BASE, MAX_EVENTS, MAX_PROCS, VALUE_BASE};
-
-/// What an event line says. Numbers that a kind does not have are 0.
-pub(super) struct EventLine {
-    pub kind: u8,
-    pub at: usize,
-    pub peer: usize,
-    pub value: u64,
-}
 
 /// A place in a text.
 struct Cursor<'a> {
@@ -21,9 +13,12 @@ struct Cursor<'a> {
     at: usize,
 }
 
-/// What a line after the first says.
+/// What a line after the first says: process, peer, value.
 enum Line {
-    Event(EventLine),
+    Send(usize, usize, u64),
+    Receive(usize, usize),
+    Save(usize),
+    Done(usize),
     Failure(Failure),
 }
 
@@ -88,6 +83,10 @@ impl Cursor<'_> {
         })
     }
 
+    fn process(&mut self) -> Option<usize> {
+        self.word().map(|number| number as usize)
+    }
+
     fn process_count(&mut self) -> Option<u32> {
         self.bytes(b"procs=")?;
         let count = self.word()?;
@@ -116,39 +115,35 @@ impl Cursor<'_> {
         Some(Failure { step, set })
     }
 
-    /// An event line after its `ev=`. Eight bytes tell the kinds apart.
-    #[inline]
+    /// An event line after its `ev=`.
     fn event(&mut self) -> Option<Line> {
-        let (kind, at, peer, value) = if self.bytes(b"send at=").is_some() {
-            let at = self.word()?;
+        let line = if self.bytes(b"send at=").is_some() {
+            let at = self.process()?;
             self.bytes(b" to=")?;
-            let peer = self.word()?;
+            let to = self.process()?;
             self.bytes(b" val=")?;
-            (SEND, at, peer, self.two_words()?)
+            Line::Send(at, to, self.two_words()?)
         } else if self.bytes(b"recv at=").is_some() {
-            let at = self.word()?;
+            let at = self.process()?;
             self.bytes(b" from=")?;
-            (RECEIVE, at, self.word()?, 0)
+            Line::Receive(at, self.process()?)
         } else if self.bytes(b"save at=").is_some() {
-            (SAVE, self.word()?, 0, 0)
+            Line::Save(self.process()?)
         } else {
             self.bytes(b"done at=")?;
-            (DONE, self.word()?, 0, 0)
+            Line::Done(self.process()?)
         };
         self.bytes(b"\n")?;
-        Some(Line::Event(EventLine {
-            kind,
-            at: at as usize,
-            peer: peer as usize,
-            value,
-        }))
+        Some(line)
     }
 }
 
-/// What takes the events of a text.
-trait Sink {
-    /// Takes an event, or says why it is not fit.
-    fn event(&mut self, event: EventLine) -> Result<(), Cause>;
+/// What takes the events of a text, each with its number e from 1, or says why one is not fit.
+pub(super) trait Sink {
+    fn send(&mut self, e: usize, at: usize, to: usize, value: u64) -> Result<(), Cause>;
+    fn receive(&mut self, e: usize, at: usize, from: usize) -> Result<(), Cause>;
+    fn save(&mut self, e: usize, at: usize) -> Result<(), Cause>;
+    fn done(&mut self, e: usize, at: usize) -> Result<(), Cause>;
 }
 
 /// Reads a text into the table area, which is zero after a refusal. With a failure line the failure
@@ -160,7 +155,7 @@ pub(super) fn read(
 ) -> Result<Failure, Refusal> {
     table.fill(0);
     let read = read_lines(text, with_failure, |procs| IntoTable::new(procs, table));
-    let counted = read.map(|(sink, failure)| (sink.procs, sink.events, failure));
+    let counted = read.map(|(sink, events, failure)| (sink.procs, events, failure));
     let (procs, events, failure) = counted.inspect_err(|_| table.fill(0))?;
     table[0] = procs as u32;
     table[1] = events as u32;
@@ -173,25 +168,27 @@ const SHORTEST_EVENT: usize = b"ev=save at=0\n".len();
 /// The longest failure line has so many bytes.
 const LONGEST_FAILURE: usize = b"fail=4294967295 set=18446744073709551615\n".len();
 
-/// Reads a text with its failure line into a recorder, with the cut there.
-pub(super) fn record(text: &[u8]) -> Result<(Recorder, Failure), Refusal> {
-    // if the text is accepted, its last line is the failure line, and only that has an `f`
+/// The trace of a text with its failure line, with the cut there, and the failed processes.
+pub(super) fn record(text: &[u8]) -> Result<(Recorded, u64), Refusal> {
+    // if the text is accepted, its last line is the failure line, and only that has an `f` in it
     let last = &text[text.len().saturating_sub(LONGEST_FAILURE)..];
-    let fail = last.iter().rposition(|&byte| byte == b'f').unwrap_or(0);
-    let mut cursor = Cursor {
-        text: last,
-        at: fail,
-    };
-    let step = cursor.failure().map_or(0, |failure| failure.step);
+    let at = last.iter().rposition(|&byte| byte == b'f').unwrap_or(0);
+    let failure = Cursor { text: last, at }.failure();
+    let step = failure.map_or(0, |failure| failure.step);
     let most = text.len() / SHORTEST_EVENT;
-    read_lines(text, true, |procs| Recorder::new(procs, most, step))
+    let begin = |procs| Recorder::new(procs, most, step);
+    let (recorder, events, failure) = read_lines(text, true, begin)?;
+    Ok((recorder.recorded(events, failure)?, failure.set))
 }
 
+/// Gives the events of a text to the sink that is begun with its count of processes. With it, how
+/// many they are, and the failure.
+#[inline(always)]
 fn read_lines<S: Sink>(
     text: &[u8],
     with_failure: bool,
     begin: impl FnOnce(usize) -> S,
-) -> Result<(S, Failure), Refusal> {
+) -> Result<(S, usize, Failure), Refusal> {
     let mut cursor = Cursor { text, at: 0 };
     let procs = cursor
         .process_count()
@@ -201,28 +198,34 @@ fn read_lines<S: Sink>(
     }
     let mut sink = begin(procs as usize);
     let mut rest = &text[cursor.at..];
-    let mut place = 2;
+    // event e is in line e + 1
+    let mut e = 1;
     loop {
-        let quick = rest.first_chunk::<WINDOW>().and_then(quick_event);
-        let (event, length) = match quick {
-            Some(read) => read,
+        let window = rest.first_chunk::<WINDOW>();
+        let taken = match window.and_then(|line| quick_event(line, e, &mut sink)) {
+            Some(taken) => taken,
             None if rest.is_empty() && !with_failure => {
-                return Ok((sink, Failure { step: 0, set: 0 }));
+                return Ok((sink, e - 1, Failure { step: 0, set: 0 }));
             }
-            None => match slow_line(rest, with_failure) {
-                None => return Err(Refusal::new(Cause::Form, place)),
-                Some((Line::Event(event), length)) => (event, length),
-                Some((Line::Failure(failure), length)) if length == rest.len() => {
-                    return Ok((sink, failure));
-                }
-                Some((Line::Failure(_), _)) => return Err(Refusal::new(Cause::Form, place + 1)),
-            },
+            None => {
+                let read = slow_line(rest, with_failure);
+                let (line, length) = read.ok_or_else(|| Refusal::new(Cause::Form, e + 1))?;
+                let taken = match line {
+                    Line::Send(at, to, value) => sink.send(e, at, to, value),
+                    Line::Receive(at, from) => sink.receive(e, at, from),
+                    Line::Save(at) => sink.save(e, at),
+                    Line::Done(at) => sink.done(e, at),
+                    Line::Failure(failure) if length == rest.len() => {
+                        return Ok((sink, e - 1, failure));
+                    }
+                    Line::Failure(_) => return Err(Refusal::new(Cause::Form, e + 2)),
+                };
+                taken.map(|()| length)
+            }
         };
-        if let Err(cause) = sink.event(event) {
-            return Err(Refusal::new(cause, place));
-        }
+        let length = taken.map_err(|cause| Refusal::new(cause, e + 1))?;
         rest = &rest[length..];
-        place += 1;
+        e += 1;
     }
 }
 
@@ -235,18 +238,10 @@ fn slow_line(text: &[u8], failure_due: bool) -> Option<(Line, usize)> {
     Some((line, cursor.at))
 }
 
-impl Sink for Recorder {
-    #[inline(always)]
-    fn event(&mut self, event: EventLine) -> Result<(), Cause> {
-        self.event(event.kind, event.at, event.peer)
-    }
-}
-
 /// A table area that is being filled, with what the next event may take.
 struct IntoTable<'a> {
     table: &'a mut [u32; AREA_WORDS],
     procs: usize,
-    events: usize,
     /// By sender and receiver.
     in_transit: Vec<u16>,
     saves: [u8; MAX_PROCS],
@@ -258,58 +253,78 @@ impl<'a> IntoTable<'a> {
         IntoTable {
             table,
             procs,
-            events: 0,
             in_transit: vec![0; procs * procs],
             saves: [0; MAX_PROCS],
             unfinished: [0; MAX_PROCS],
+        }
+    }
+
+    /// Whether there can be an event of this number.
+    #[inline(always)]
+    fn within_limit(e: usize) -> Result<(), Cause> {
+        match e {
+            0..=MAX_EVENTS => Ok(()),
+            _ => Err(Cause::Events),
+        }
+    }
+
+    /// Puts down an event. (The remainder is the number itself, which spares tests of its bound.)
+    #[inline(always)]
+    fn put(&mut self, e: usize, kind: u8, at: usize, peer: usize, value: u64) {
+        let e = e % (2 * MAX_EVENTS);
+        self.table[EVENT_BASE + e] = (at | peer << 6) as u32 | u32::from(kind) << 12;
+        if kind == SEND {
+            [self.table[VALUE_BASE + e], self.table[HIGH_BASE + e]] = halves(value);
         }
     }
 }
 
 impl Sink for IntoTable<'_> {
     #[inline(always)]
-    fn event(&mut self, event: EventLine) -> Result<(), Cause> {
-        let EventLine {
-            kind,
-            at,
-            peer,
-            value,
-        } = event;
-        if self.events == MAX_EVENTS {
-            return Err(Cause::Events);
+    fn send(&mut self, e: usize, at: usize, to: usize, value: u64) -> Result<(), Cause> {
+        Self::within_limit(e)?;
+        check_two(at, to, self.procs)?;
+        self.in_transit[at * self.procs + to] += 1;
+        self.put(e, SEND, at, to, value);
+        Ok(())
+    }
+
+    #[inline(always)]
+    fn receive(&mut self, e: usize, at: usize, from: usize) -> Result<(), Cause> {
+        Self::within_limit(e)?;
+        check_one(at, self.procs)?;
+        check_one(from, self.procs)?;
+        let waiting = &mut self.in_transit[from * self.procs + at];
+        if *waiting == 0 {
+            // nor is anything ever in transit from a process to itself
+            check_two(at, from, self.procs)?;
+            return Err(Cause::NothingInTransit);
         }
-        if at >= self.procs || peer >= self.procs {
-            return Err(Cause::Process);
+        *waiting -= 1;
+        self.put(e, RECEIVE, at, from, 0);
+        Ok(())
+    }
+
+    #[inline(always)]
+    fn save(&mut self, e: usize, at: usize) -> Result<(), Cause> {
+        Self::within_limit(e)?;
+        let process = check_one(at, self.procs)?;
+        if self.saves[process] == MAX_SAVES {
+            return Err(Cause::Saves);
         }
-        let process = at % MAX_PROCS;
-        match kind {
-            SEND | RECEIVE if at == peer => return Err(Cause::Itself),
-            SEND => self.in_transit[at * self.procs + peer] += 1,
-            RECEIVE => {
-                let waiting = &mut self.in_transit[peer * self.procs + at];
-                if *waiting == 0 {
-                    return Err(Cause::NothingInTransit);
-                }
-                *waiting -= 1;
-            }
-            SAVE => {
-                if self.saves[process] == MAX_SAVES {
-                    return Err(Cause::Saves);
-                }
-                self.saves[process] += 1;
-                self.unfinished[process] += 1;
-            }
-            _ => {
-                if self.unfinished[process] == 0 {
-                    return Err(Cause::NothingUnfinished);
-                }
-                self.unfinished[process] -= 1;
-            }
-        }
-        let e = self.events % MAX_EVENTS + 1;
-        self.table[EVENT_BASE + e] = (at | peer << 6) as u32 | u32::from(kind) << 12;
-        [self.table[VALUE_BASE + e], self.table[HIGH_BASE + e]] = halves(value);
-        self.events += 1;
+        self.saves[process] += 1;
+        self.unfinished[process] += 1;
+        self.put(e, SAVE, at, 0, 0);
+        Ok(())
+    }
+
+    #[inline(always)]
+    fn done(&mut self, e: usize, at: usize) -> Result<(), Cause> {
+        Self::within_limit(e)?;
+        let process = check_one(at, self.procs)?;
+        let unfinished = &mut self.unfinished[process];
+        *unfinished = unfinished.checked_sub(1).ok_or(Cause::NothingUnfinished)?;
+        self.put(e, DONE, at, 0, 0);
         Ok(())
     }
 }
