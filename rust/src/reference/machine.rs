@@ -36,15 +36,17 @@ pub struct Machine<'a> {
     unready: usize,
 }
 
-/// What the next event of a process does, if it waits for nothing but the gate.
-enum Step {
-    /// It sends an orphan of this phase again.
-    Orphan(u16),
-    /// It sends a message into this channel, to this process.
-    Send(usize, usize),
-    /// It receives from this channel.
-    Receive(usize),
-    /// It saves, or finishes a save.
+/// What a process did.
+enum Did {
+    /// Nothing: it has done all, or waits for something else than its gate.
+    Nothing,
+    /// It sent an orphan again.
+    Orphan,
+    /// It sent a message to this process.
+    Sent(usize),
+    /// It received, by this event, the message that this one sent.
+    Received(usize, usize),
+    /// It saved, or finished a save.
     Other,
 }
 
@@ -138,53 +140,63 @@ impl<'a> Machine<'a> {
         from * self.procs + to
     }
 
-    /// What the next event of a process does, if it is there and waits for nothing but the gate.
-    #[inline(always)]
-    fn step(&self, z: usize) -> Option<Step> {
+    /// Whether the next event of a process is there and waits for nothing but the gate.
+    fn able(&self, z: usize) -> bool {
         let e = self.next[z];
         let event = self.event(e);
         let other = event.other();
         match event.kind {
             // where an orphan goes, nothing is kept: it would have been received before the orphan
-            SEND if event.received_up_to(self.restarts.after[other]) => {
-                Some(Step::Orphan(event.phase))
-            }
-            SEND => {
-                let channel = self.channel(z, other);
-                (self.channels[channel].other == e).then_some(Step::Send(channel, other))
-            }
+            SEND if event.received_up_to(self.restarts.after[other]) => true,
+            SEND => self.channels[self.channel(z, other)].other == e,
             RECEIVE => {
-                let channel = self.channel(other, z);
-                let Channel { oldest, other } = self.channels[channel];
-                (oldest != other).then_some(Step::Receive(channel))
+                let channel = self.channels[self.channel(other, z)];
+                channel.oldest != channel.other
             }
-            NO_KIND => None,
-            _ => Some(Step::Other),
+            kind => kind != NO_KIND,
         }
     }
 
-    /// Does what the next event of a process does; gives the receive, if it is one, with the message
-    /// taken.
+    /// Does the next event of a process, if it is able to.
     #[inline(always)]
-    fn run(&mut self, z: usize, step: &Step) -> Option<(usize, usize)> {
+    fn run(&mut self, z: usize) -> Did {
         let e = self.next[z];
         let event = self.event(e);
-        self.next[z] = event.next;
-        match *step {
-            Step::Orphan(phase) => {
-                self.phases[usize::from(phase)].orphans -= 1;
+        let other = event.other();
+        match event.kind {
+            SEND if event.received_up_to(self.restarts.after[other]) => {
+                self.next[z] = event.next;
+                self.phases[usize::from(event.phase)].orphans -= 1;
                 self.find_unready();
+                Did::Orphan
             }
-            Step::Send(channel, _) => self.channels[channel].other = event.link,
-            Step::Receive(channel) => {
-                let oldest = &mut self.channels[channel].oldest;
-                let message = *oldest;
-                *oldest = self.events[usize::from(message)].link;
-                return Some((usize::from(e), usize::from(message)));
+            SEND => {
+                let channel = self.channel(z, other);
+                let channel = &mut self.channels[channel];
+                if channel.other != e {
+                    return Did::Nothing;
+                }
+                channel.other = event.link;
+                self.next[z] = event.next;
+                Did::Sent(other)
             }
-            Step::Other => {}
+            RECEIVE => {
+                let channel = self.channel(other, z);
+                let channel = &mut self.channels[channel];
+                let message = channel.oldest;
+                if message == channel.other {
+                    return Did::Nothing;
+                }
+                channel.oldest = self.events[usize::from(message)].link;
+                self.next[z] = event.next;
+                Did::Received(usize::from(e), usize::from(message))
+            }
+            NO_KIND => Did::Nothing,
+            _ => {
+                self.next[z] = event.next;
+                Did::Other
+            }
         }
-        None
     }
 
     /// The next kept message from one process to another, if one is left.
@@ -202,22 +214,20 @@ impl<'a> Machine<'a> {
     }
 
     #[inline]
-    fn process_allowed(&self, z: usize) -> Option<Step> {
-        self.step(z).filter(|_| self.ready(self.restarts.gate[z]))
-    }
-
-    #[inline]
     fn channel_allowed(&self, from: usize, to: usize) -> Option<&'a Event> {
         self.kept(from, to).filter(|kept| self.ready(kept.phase))
     }
 
     /// Does what a choice says, if that is allowed; gives the receive it did, with the message taken.
-    #[inline]
+    #[inline(always)]
     pub fn carry_out(&mut self, choice: u16) -> Result<Option<(usize, usize)>, NotAllowed> {
         match parts(choice) {
-            Choice::Process(z) if z < self.procs => {
-                let step = self.process_allowed(z).ok_or(NotAllowed)?;
-                Ok(self.run(z, &step))
+            Choice::Process(z) if z < self.procs && self.ready(self.restarts.gate[z]) => {
+                match self.run(z) {
+                    Did::Nothing => Err(NotAllowed),
+                    Did::Received(e, message) => Ok(Some((e, message))),
+                    _ => Ok(None),
+                }
             }
             Choice::Channel(from, to) if from < self.procs && to < self.procs => {
                 let kept = self.channel_allowed(from, to).ok_or(NotAllowed)?;
@@ -236,7 +246,7 @@ impl<'a> Machine<'a> {
     /// The choices that are allowed, from the lowest.
     pub fn choices(&self) -> impl Iterator<Item = u16> + '_ {
         let processes = (0..self.procs)
-            .filter(|&z| self.process_allowed(z).is_some())
+            .filter(|&z| self.ready(self.restarts.gate[z]) && self.able(z))
             .map(|z| z as u16);
         let channels = (0..self.procs).flat_map(move |from| {
             members(self.keeping[from])
@@ -258,20 +268,17 @@ impl<'a> Machine<'a> {
         loop {
             while may_run != 0 {
                 let z = may_run.trailing_zeros() as usize;
-                let Some(step) = self.step(z) else {
-                    may_run &= may_run - 1;
-                    continue;
-                };
                 let unready = self.unready;
-                if let Some((e, message)) = self.run(z, &step) {
-                    receive(self.events, e, message);
-                }
-                match step {
-                    Step::Send(_, to) => may_run |= 1 << to & ready.open,
-                    Step::Orphan(_) if self.unready != unready => {
-                        may_run |= ready.rise(&self, unready);
+                match self.run(z) {
+                    Did::Nothing => {
+                        may_run &= may_run - 1;
+                        continue;
                     }
-                    _ => {}
+                    Did::Orphan if self.unready == unready => {}
+                    Did::Orphan => may_run |= ready.rise(&self, unready),
+                    Did::Sent(to) => may_run |= 1 << to & ready.open,
+                    Did::Received(e, message) => receive(self.events, e, message),
+                    Did::Other => {}
                 }
                 steps += 1;
             }

@@ -15,9 +15,13 @@ pub(super) struct Words<'a> {
     highs: &'a [u32],
 }
 
-/// Whether all these words are 0. Without an early end, so that many are looked at at once.
+/// Whether all these words are 0. Many are looked at together.
 fn all_zero(words: &[u32]) -> bool {
-    words.iter().fold(0, |bits, word| bits | word) == 0
+    fn bits(words: &[u32]) -> u32 {
+        words.iter().fold(0, |bits, word| bits | word)
+    }
+    let (many, rest) = words.as_chunks::<128>();
+    many.iter().all(|words| bits(words) == 0) && bits(rest) == 0
 }
 
 /// The kind of an event, its process and its peer, as its word has them. More than 14 bits show in
