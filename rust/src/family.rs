@@ -41,6 +41,8 @@ pub enum Key {
     Last,
     /// Whether the line is that of all 1, 1 or 0; else it is the greatest.
     Start,
+    /// How many sends in a hundred have a value of up to 64 bits; else none, but of up to 32.
+    Long,
 }
 
 /// A parameter: its key, how it is written, what it may be at random, and how many times in a hundred
@@ -67,7 +69,7 @@ const fn parameter(
 }
 
 /// All parameters, in the order of their keys.
-const PARAMETERS: [Parameter; 16] = [
+const PARAMETERS: [Parameter; 17] = [
     parameter(Key::Seed, "seed", &[], 100),
     parameter(Key::Processes, "procs", &[2, 3, 5, 8, 16, 32, 63, 64], 15),
     parameter(Key::Talkers, "talkers", &[2, 3, 4, 8, 20, 33, 60], 20),
@@ -84,6 +86,7 @@ const PARAMETERS: [Parameter; 16] = [
     parameter(Key::First, "first", &[1, 2, 8, 32, 62, 64], 30),
     parameter(Key::Last, "last", &[1, 2, 8, 32, 63, 64], 40),
     parameter(Key::Start, "start", &[1], 20),
+    parameter(Key::Long, "long", &[10, 50, 100], 20),
 ];
 
 /// Members with a name of their own.
@@ -160,6 +163,13 @@ impl Member {
             member.set(parameter.key, number.parse().ok()?);
         }
         Some(member)
+    }
+
+    /// The shapes as they are, and the members with a name of their own.
+    pub fn all_named() -> impl Iterator<Item = Member> {
+        let shapes = Shape::ALL.into_iter().map(Member::new);
+        let others = NAMED.iter().map(|(_, meant)| Member::named(meant));
+        shapes.chain(others.map(|member| member.expect("what is meant is a name")))
     }
 
     /// What names there are.
@@ -243,7 +253,7 @@ impl Member {
     pub fn trace(&self, events: usize) -> (Trace, Failure) {
         let seed = self.get(Key::Seed).unwrap_or(events);
         let mut random = Random::new(seed as u64);
-        let trace = if self.says(Key::Unsaved) {
+        let mut trace = if self.says(Key::Unsaved) {
             // under half of its events are saves
             let mut trace = self.made(2 * events, events, &mut random);
             let saved = |event: &Event| matches!(event, Event::Save { .. });
@@ -259,6 +269,14 @@ impl Member {
             trace.finish_saves(dones, &mut random);
             trace
         };
+        let long = self.get(Key::Long).unwrap_or(0);
+        for event in &mut trace.events {
+            if let Event::Send { val, .. } = event {
+                if random.percent(long) {
+                    *val = random.bits();
+                }
+            }
+        }
         let failure = Failure {
             step: self.cut(events) as u64,
             set: self.failed(trace.procs),
@@ -343,5 +361,118 @@ impl fmt::Display for Member {
             }
         }
         Ok(())
+    }
+}
+
+#[cfg(test)]
+mod tests {
+    use super::*;
+    use crate::{reference, AREA_WORDS};
+
+    /// A number that nearly always differs where texts do.
+    fn sum(text: &[u8]) -> u64 {
+        text.iter().fold(0xcbf2_9ce4_8422_2325, |sum, &byte| {
+            (sum ^ u64::from(byte)).wrapping_mul(0x100_0000_01b3)
+        })
+    }
+
+    fn table_of(trace: &Trace) -> Vec<u32> {
+        let mut table = vec![0; AREA_WORDS];
+        reference::read(&trace.text(), &mut table).expect("the trace is fit");
+        table
+    }
+
+    #[test]
+    fn names_give_members_back() {
+        for member in Member::all_named().chain((0..500).map(Member::random)) {
+            assert_eq!(Member::named(&member.to_string()), Some(member));
+        }
+        let same = |a, b| assert_eq!(Member::named(a), Member::named(b));
+        same("dense-unfinished", "dense+finished=0");
+        same(
+            "two-unsaved+cut=9",
+            "dense+talkers=2+last=1+unsaved=1+cut=9",
+        );
+        same("random-17+seed=17", "random-17");
+        for none in [
+            "",
+            "dens",
+            "dense-",
+            "random-",
+            "dense+cut",
+            "dense+cut=x",
+            "dense+x=1",
+        ] {
+            assert_eq!(Member::named(none), None, "{none}");
+        }
+    }
+
+    /// What was counted on a shape can be counted again.
+    #[test]
+    fn shapes_stay() {
+        let sums = [
+            ("dense", 0x0de5_ad04_b65b_5e75),
+            ("dense-unfinished", 0x2f35_ae44_211c_3d75),
+            ("dense-unsaved", 0x0aef_62d1_910b_5aa8),
+            ("ring", 0xc10f_a104_811c_aba5),
+            ("clusters", 0x294a_4e7c_cc5a_72e0),
+            ("checkpoints", 0x3897_7a4a_68a1_e69f),
+            ("checkpoints-unfinished", 0x04b1_df60_6b6d_f12b),
+            ("checkpoints-unsaved", 0x5961_c500_38b6_bebf),
+            ("orphans", 0xf3f3_b43d_3648_0347),
+            ("steep", 0x85e6_31b0_f99f_12e4),
+            ("turns", 0x1470_ec7a_abad_44b5),
+        ];
+        for (name, wanted) in sums {
+            let (trace, failure) = Member::named(name).expect("a name").trace(2_048);
+            assert_eq!(sum(&trace.text_with(failure)), wanted, "{name}");
+        }
+    }
+
+    #[test]
+    fn members_are_fit() {
+        let mut random = Random::new(0);
+        let mut member = Member::random(0);
+        for round in 0..400 {
+            member = match round % 3 {
+                0 => Member::random(round),
+                _ => member.changed(&mut random),
+            };
+            let events = random.pick(&[0, 1, 16, 128]);
+            let (trace, failure) = member.trace(events);
+            assert_eq!(trace.events.len(), events, "{member}");
+            let table = table_of(&trace);
+            let restart = reference::restart(&table, failure).expect("the failure is fit");
+            let ones = vec![1; trace.procs];
+            for line in [restart.line(), &ones] {
+                let order = reference::quick_lowest_order(&table, failure, line);
+                assert_eq!(
+                    order,
+                    reference::lowest_order(&table, failure, line),
+                    "{member}"
+                );
+            }
+        }
+    }
+
+    /// Hundreds of phases become ready one after the other, while all others wait for the last.
+    #[test]
+    fn the_adverse_one_is_adverse() {
+        let (trace, failure) = Member::named("adverse").expect("a name").trace(2_048);
+        let table = table_of(&trace);
+        let restart = reference::restart(&table, failure).expect("the failure is fit");
+        let mut run = vec![0; AREA_WORDS];
+        let counts = reference::messages(&table, failure, restart.line(), &mut run);
+        let counts = counts.expect("the line is fit");
+        // words of the list: row i is at 16 + i, its phase at 4,114 + i, orphans first, kept then
+        let orphans = counts.orphans as usize;
+        let mut phases = run[4_115..][..orphans].to_vec();
+        phases.dedup();
+        assert!(phases.len() > 400, "{} phases", phases.len());
+        let last = phases[phases.len() - 1];
+        let kept = orphans..orphans + counts.kept as usize;
+        let waiting = kept.filter(|i| run[4_115 + i] >= last);
+        let senders = waiting.fold(0u64, |set, i| set | 1 << (run[17 + i] & 63));
+        assert!(senders.count_ones() >= 62, "{senders:b}");
     }
 }

@@ -207,9 +207,8 @@ pub fn lowest(
     let machine = Machine::new(&mut recorded, &restarts, |events, receive, message| {
         record.receive(events, receive, message);
     });
-    let steps = machine.lowest(|events, receive, message| {
-        record.receive(events, receive, message);
-    });
+    let receive = |events: &[Event], receive, message| record.receive(events, receive, message);
+    let steps = machine.lowest(receive, |_| {});
     Ok(Replayed {
         steps,
         complete: true,
@@ -252,6 +251,20 @@ pub fn lowest_order(table: &[u32], failure: Failure, line: &[u32]) -> Result<Vec
             order.push(choice);
         }
     })
+}
+
+/// The same order as [`lowest_order`], found as [`lowest`] finds it.
+pub fn quick_lowest_order(
+    table: &[u32],
+    failure: Failure,
+    line: &[u32],
+) -> Result<Vec<u16>, Refusal> {
+    let mut recorded = Recorded::load(area(table)?, failure)?;
+    let restarts = recorded.restarts(line, failure.set)?;
+    let machine = Machine::new(&mut recorded, &restarts, |_, _, _| {});
+    let mut order = Vec::new();
+    machine.lowest(|_, _, _| {}, |choice| order.push(choice as u16));
+    Ok(order)
 }
 
 /// The members of a set, from the lowest.

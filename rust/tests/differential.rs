@@ -36,6 +36,7 @@ fn main() {
 
 #[cfg(hallback_archive)]
 mod compare {
+    use hallback::family::Member;
     use hallback::shapes::{each_trace, Dones, Event, Random, Shape, Trace, LONG_VALUES};
     use hallback::{raw, reference, set_value};
     use hallback::{Failure, Refusal, Replayed, Restart, STAY};
@@ -739,7 +740,10 @@ ev=recv at=0 from=1
                 habits.receives = random.pick(&[10, 30, 49, 70]);
                 habits.in_transit = random.pick(&[1, procs, MAX_EVENTS]);
             }
-            let mut trace = shape.trace_with(habits, procs, events, random);
+            let mut trace = match random.percent(30) {
+                true => Member::random(random.bits()).trace(events).0,
+                false => shape.trace_with(habits, procs, events, random),
+            };
             if random.percent(70) {
                 trace.lengthen_values(random);
             }

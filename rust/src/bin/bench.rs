@@ -4,8 +4,8 @@
 //! `bench [repeats]` prints the median time of each call, in microseconds, for each shape and size.
 //! `bench times NAME EVENTS [repeats]` prints them for one member, as `instructions` takes them.
 //!
-//! `bench worst [seconds [EVENTS]]` looks for the worst members of the family: at random, and by
-//! changing the worst found so far. For each call it prints where the engine takes most times as long
+//! `bench worst [seconds [EVENTS]]` looks for the worst members of the family: among those with a name
+//! of their own, at random, and by changing the worst found so far. For each call it prints where the engine takes most times as long
 //! as the reference, and where it takes longest, by the least of many times, with the member's name.
 //!
 //! `bench once engine|reference CALL NAME EVENTS` does one call once, inside the function
@@ -185,7 +185,7 @@ mod bench {
                 let restart = reference::restart(&table, failure).expect("the failure is fit");
                 restart.line().to_vec()
             };
-            let order = reference::lowest_order(&table, failure, &line).expect("the line is fit");
+            let order = reference::quick_lowest_order(&table, failure, &line);
             Input {
                 procs: trace.procs,
                 text,
@@ -193,7 +193,7 @@ mod bench {
                 table,
                 failure,
                 line,
-                order,
+                order: order.expect("the line is fit"),
                 read_table: vec![0; AREA_WORDS],
                 run: vec![0; AREA_WORDS],
                 out: vec![0; REPORT_BYTES],
@@ -333,24 +333,28 @@ mod bench {
         }
     }
 
-    /// The least times of a call in microseconds, engine's and reference's. What else runs on the
-    /// machine only makes a time longer, so the least of many says most.
+    /// The least times of a call in microseconds, engine's and reference's, and of some work that is
+    /// always the same. What else runs on the machine only makes a time longer, so the least of many
+    /// says most.
     #[derive(Clone, Copy)]
     struct Least {
         engine: f64,
         reference: f64,
+        work: f64,
     }
 
     impl Least {
-        /// By turns, so that a slow moment of the machine is one for both.
+        /// By turns, so that a slow moment of the machine is one for all.
         fn of(call: Call, input: &mut Input, repeats: usize) -> Least {
             let mut least = Least {
                 engine: f64::INFINITY,
                 reference: f64::INFINITY,
+                work: f64::INFINITY,
             };
             for _ in 0..repeats {
                 least.engine = least.engine.min(time(bench_engine_once, call, input));
                 least.reference = least.reference.min(time(bench_reference_once, call, input));
+                least.work = least.work.min(time(same_work, call, input));
             }
             least
         }
@@ -358,6 +362,18 @@ mod bench {
         fn ratio(self) -> f64 {
             self.engine / self.reference
         }
+
+        /// The engine's time, whatever the speed of the machine at this moment.
+        fn long(self) -> f64 {
+            self.engine / self.work
+        }
+    }
+
+    /// Takes some microseconds, always as many instructions.
+    #[inline(never)]
+    fn same_work(_: Call, _: &mut Input) -> u64 {
+        let mut random = Random::new(1);
+        (0..2_000).fold(0, |all, _| all ^ random.bits())
     }
 
     /// The worst member found so far in one regard, and how bad it is.
@@ -392,21 +408,23 @@ mod bench {
         let mut worsts: Vec<Worst> = Call::ALL
             .into_iter()
             .flat_map(|call| {
-                let ratio: fn(Least) -> f64 = Least::ratio;
-                let longest: fn(Least) -> f64 = |least| least.engine;
-                [ratio, longest].map(|badness| Worst {
+                let badnesses: [fn(Least) -> f64; 2] = [Least::ratio, Least::long];
+                badnesses.map(|badness| Worst {
                     call,
                     badness,
                     found: None,
                 })
             })
             .collect();
+        let mut known = Member::all_named();
         let mut tried = 0;
         while Instant::now() < end {
             let parent = random.below(2 * worsts.len());
-            let member = match worsts.get(parent).and_then(|worst| worst.found.as_ref()) {
-                Some((_, member)) => member.changed(&mut random),
-                None => Member::random(tried),
+            let parent = worsts.get(parent).and_then(|worst| worst.found.as_ref());
+            let member = match (known.next(), parent) {
+                (Some(member), _) => member,
+                (None, Some((_, parent))) => parent.changed(&mut random),
+                (None, None) => Member::random(tried),
             };
             let mut input = Input::new(&member, events);
             for pair in worsts.chunks_mut(2) {

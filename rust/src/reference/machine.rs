@@ -257,11 +257,15 @@ impl<'a> Machine<'a> {
     }
 
     /// Carries out the order that always picks the lowest allowed choice, and gives its length.
-    /// `receive` is told of each receive, with the message taken.
+    /// `receive` is told of each receive, with the message taken, and `choose` of each choice.
     ///
     /// A process is tried again only where something has changed for it: after a step of its own, a
     /// message for it, a kept message of its own handed over, or when its gate becomes ready.
-    pub(super) fn lowest(mut self, mut receive: impl FnMut(&[Event], usize, usize)) -> u64 {
+    pub(super) fn lowest(
+        mut self,
+        mut receive: impl FnMut(&[Event], usize, usize),
+        mut choose: impl FnMut(usize),
+    ) -> u64 {
         let mut ready = Ready::new(&self);
         let mut may_run = ready.open;
         let mut steps = 0;
@@ -280,6 +284,7 @@ impl<'a> Machine<'a> {
                     Did::Received(e, message) => receive(self.events, e, message),
                     Did::Other => {}
                 }
+                choose(z);
                 steps += 1;
             }
             if ready.senders == 0 {
@@ -293,6 +298,7 @@ impl<'a> Machine<'a> {
                 ready.remove(from, to);
             }
             may_run = (1 << from | 1 << to) & ready.open;
+            choose(FIRST_CHANNEL + MAX_PROCS * from + to);
             steps += 1;
         }
     }
