@@ -740,19 +740,21 @@ ev=recv at=0 from=1
                 habits.receives = random.pick(&[10, 30, 49, 70]);
                 habits.in_transit = random.pick(&[1, procs, MAX_EVENTS]);
             }
-            let mut trace = match random.percent(30) {
-                true => Member::random(random.bits()).trace(events).0,
-                false => shape.trace_with(habits, procs, events, random),
+            let mut trace = if random.percent(30) {
+                Member::random(random.bits()).trace(events).0
+            } else {
+                let mut trace = shape.trace_with(habits, procs, events, random);
+                if random.percent(90) {
+                    let dones = Dones {
+                        at_once: random.pick(&[0, 0, 50, 90, 100]),
+                        later: random.pick(&[0, 1, 5, 30, 100]),
+                    };
+                    trace.finish_saves(dones, random);
+                }
+                trace
             };
             if random.percent(70) {
                 trace.lengthen_values(random);
-            }
-            if random.percent(90) {
-                let dones = Dones {
-                    at_once: random.pick(&[0, 0, 50, 90, 100]),
-                    later: random.pick(&[0, 1, 5, 30, 100]),
-                };
-                trace.finish_saves(dones, random);
             }
             let failure = shape.failure(&trace, random);
             self.texts(&trace, failure);

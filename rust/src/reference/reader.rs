@@ -153,10 +153,14 @@ pub(super) fn read(
     table: &mut [u32; AREA_WORDS],
     with_failure: bool,
 ) -> Result<Failure, Refusal> {
-    table.fill(0);
     let read = read_lines(text, with_failure, |procs| IntoTable::new(procs, table));
     let counted = read.map(|(sink, events, failure)| (sink.procs, events, failure));
     let (procs, events, failure) = counted.inspect_err(|_| table.fill(0))?;
+    // what the events have not filled
+    table[..=EVENT_BASE].fill(0);
+    table[EVENT_BASE + 1 + events..=VALUE_BASE].fill(0);
+    table[VALUE_BASE + 1 + events..=HIGH_BASE].fill(0);
+    table[HIGH_BASE + 1 + events..].fill(0);
     table[0] = procs as u32;
     table[1] = events as u32;
     Ok(failure)
@@ -273,9 +277,7 @@ impl<'a> IntoTable<'a> {
     fn put(&mut self, e: usize, kind: u8, at: usize, peer: usize, value: u64) {
         let e = e % (2 * MAX_EVENTS);
         self.table[EVENT_BASE + e] = (at | peer << 6) as u32 | u32::from(kind) << 12;
-        if kind == SEND {
-            [self.table[VALUE_BASE + e], self.table[HIGH_BASE + e]] = halves(value);
-        }
+        [self.table[VALUE_BASE + e], self.table[HIGH_BASE + e]] = halves(value);
     }
 }
 

@@ -91,6 +91,6 @@ fn digits(number: u64) -> usize {
     let number = number.max(1);
     // a bit more than 3 / 10 of its bits; one more where that many digits are too few
     let bits = (64 - number.leading_zeros()) as usize;
-    let fewer = bits * 1_233 >> 12;
+    let fewer = (bits * 1_233) >> 12;
     fewer + usize::from(number >= POWERS[fewer])
 }
