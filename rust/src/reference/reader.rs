@@ -174,7 +174,8 @@ const LONGEST_FAILURE: usize = b"fail=4294967295 set=18446744073709551615\n".len
 
 /// The trace of a text with its failure line, with the cut there, and the failed processes.
 pub(super) fn record(text: &[u8]) -> Result<(Recorded, u64), Refusal> {
-    // if the text is accepted, its last line is the failure line, and only that has an `f` in it
+    // if the text is accepted, its last line is the failure line, of which only the first byte is an
+    // `f`; else it does not matter which step this is
     let last = &text[text.len().saturating_sub(LONGEST_FAILURE)..];
     let at = last.iter().rposition(|&byte| byte == b'f').unwrap_or(0);
     let failure = Cursor { text: last, at }.failure();
@@ -185,8 +186,8 @@ pub(super) fn record(text: &[u8]) -> Result<(Recorded, u64), Refusal> {
     Ok((recorder.recorded(events, failure)?, failure.set))
 }
 
-/// Gives the events of a text to the sink that is begun with its count of processes. With it, how
-/// many they are, and the failure.
+/// Gives the events of a text to the sink that is begun with its count of processes; answers that
+/// sink, how many events there are, and the failure.
 #[inline(always)]
 fn read_lines<S: Sink>(
     text: &[u8],
