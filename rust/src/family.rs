@@ -209,7 +209,7 @@ impl Member {
             let now = member.parameters[parameter.key as usize];
             let new = match (parameter.key, now) {
                 (Key::Seed, _) => Some(random.below(1 << 20)),
-                (_, Some(now)) if random.percent(40) => {
+                (_, Some(now)) if parameter.picks.len() > 1 && random.percent(40) => {
                     Some((now + random.below(9)).saturating_sub(4))
                 }
                 (_, Some(_)) if random.percent(20) => None,
