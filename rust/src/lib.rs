@@ -4,7 +4,7 @@
 //! (`../target/staticlib/libcapi.a`); they are there only if that archive was there when the crate
 //! was built. [`mod@reference`] has the same functions written anew in Rust, to compare with, and
 //! [`exact_steps`](reference::exact_steps), the steps of a replay counted without one; [`shapes`]
-//! makes traces to try both on.
+//! makes traces to try both on, [`family`] those that are timed.
 //!
 //! What is lent: a table area, which reading a trace fills and every other call takes, and a run
 //! area, in which [`messages`](reference::messages) leaves its list and
@@ -50,6 +50,7 @@ use std::fmt;
 
 #[cfg(hallback_archive)]
 mod engine;
+pub mod family;
 #[cfg(hallback_archive)]
 pub mod raw;
 pub mod reference;

@@ -15,9 +15,11 @@
 //! ```
 
 use crate::{Cause, Counts, Failure, Refusal, Replayed, Restart, AREA_WORDS};
-use crate::{TAKEN_BASE, TAKEN_HIGH_BASE};
+use crate::{HIGH_BASE, MAX_EVENTS, MAX_PROCS, TAKEN_BASE, TAKEN_HIGH_BASE, VALUE_BASE};
 
+mod lines;
 mod machine;
+mod quick;
 mod reader;
 mod recorded;
 mod report;
@@ -26,9 +28,8 @@ mod table;
 mod tests;
 mod trace_text;
 
-use machine::Lowest;
-pub use machine::Machine;
-use recorded::{Recorded, Restarts};
+pub use machine::{Machine, NotAllowed};
+use recorded::{Event, Recorded};
 pub use report::report;
 
 /// Word `ROW_BASE + i` of a list of messages is sender, receiver and class of row i, from 1.
@@ -48,6 +49,28 @@ const SAVE: u8 = 3;
 
 /// The most saves of a process.
 const MAX_SAVES: u8 = 30;
+
+/// A process of an event, if it is one of so many. (The remainder is the number itself, which spares
+/// tests of its bound.)
+#[inline(always)]
+fn check_one(at: usize, procs: usize) -> Result<usize, Cause> {
+    match at < procs {
+        true => Ok(at % MAX_PROCS),
+        false => Err(Cause::Process),
+    }
+}
+
+/// The process of an event, if that and its peer are two of so many.
+#[inline(always)]
+fn check_two(at: usize, peer: usize, procs: usize) -> Result<usize, Cause> {
+    if at >= procs || peer >= procs {
+        Err(Cause::Process)
+    } else if at == peer {
+        Err(Cause::Itself)
+    } else {
+        Ok(at % MAX_PROCS)
+    }
+}
 
 /// The words of a lent area that are used, or refusal 12.
 fn area(words: &[u32]) -> Result<&[u32; AREA_WORDS], Refusal> {
@@ -95,33 +118,46 @@ pub fn messages(
 ) -> Result<Counts, Refusal> {
     let table = area(table)?;
     let run = area_mut(run)?;
-    let recorded = Recorded::load(table, failure)?;
+    let mut recorded = Recorded::load(table, failure)?;
     let restarts = recorded.restarts(line, failure.set)?;
-    let (rows, counts) = recorded.messages(&restarts);
+    let (sends, counts) = recorded.messages(&restarts);
     run.fill(0);
     run[0] = counts.orphans as u32;
     run[1] = counts.kept as u32;
     run[2] = counts.lost as u32;
-    for (i, row) in (1..).zip(&rows) {
-        run[ROW_BASE + i] = u32::from(row.from) | u32::from(row.to) << 6 | (row.class as u32) << 12;
-        run[ROW_NUMBER_BASE + i] = u32::from(row.number);
-        run[ROW_PHASE_BASE + i] = u32::from(row.phase);
+    for (i, &e) in (1..=MAX_EVENTS).zip(&sends) {
+        let send = recorded.event(e);
+        let class = send.class as u32;
+        run[ROW_BASE + i] = u32::from(send.at) | u32::from(send.peer) << 6 | class << 12;
+        run[ROW_NUMBER_BASE + i] = u32::from(send.number);
+        run[ROW_PHASE_BASE + i] = u32::from(send.phase);
     }
     Ok(counts)
 }
 
-/// Leaves in the run area the record of what was received before the restarts.
-fn begin_record(recorded: &Recorded, restarts: &Restarts, run: &mut [u32; AREA_WORDS]) {
-    run.fill(0);
-    recorded.each_receive_before(restarts, |receive, message| {
-        record(recorded, run, receive, message);
-    });
+/// A delivery record that is being made.
+struct Record<'a> {
+    table: &'a [u32; AREA_WORDS],
+    run: &'a mut [u32; AREA_WORDS],
 }
 
-/// Records that event `receive` took the message that event `message` sent.
-fn record(recorded: &Recorded, run: &mut [u32; AREA_WORDS], receive: usize, message: usize) {
-    run[receive] = recorded.number(message);
-    [run[TAKEN_BASE + receive], run[TAKEN_HIGH_BASE + receive]] = recorded.halves(message);
+impl<'a> Record<'a> {
+    /// With nothing in it.
+    fn new(table: &'a [u32; AREA_WORDS], run: &'a mut [u32; AREA_WORDS]) -> Self {
+        run.fill(0);
+        Record { table, run }
+    }
+
+    /// Records that event `receive` took the message that event `message` sent.
+    #[inline]
+    fn receive(&mut self, events: &[Event], receive: usize, message: usize) {
+        let number = events[message].number;
+        // the remainders are the numbers themselves, which spares tests of bounds
+        let (receive, message) = (receive % (2 * MAX_EVENTS), message % (2 * MAX_EVENTS));
+        self.run[receive] = u32::from(number);
+        self.run[TAKEN_BASE + receive] = self.table[VALUE_BASE + message];
+        self.run[TAKEN_HIGH_BASE + receive] = self.table[HIGH_BASE + message];
+    }
 }
 
 /// Carries out an order from a line, and leaves the delivery record in the run area.
@@ -134,17 +170,20 @@ pub fn replay(
 ) -> Result<Replayed, Refusal> {
     let table = area(table)?;
     let run = area_mut(run)?;
-    let recorded = Recorded::load(table, failure)?;
+    let mut recorded = Recorded::load(table, failure)?;
     let restarts = recorded.restarts(line, failure.set)?;
-    let mut machine = Machine::new(&recorded, &restarts);
-    begin_record(&recorded, &restarts, run);
+    let mut record = Record::new(table, run);
+    let mut machine = Machine::new(&mut recorded, &restarts, |events, receive, message| {
+        record.receive(events, receive, message);
+    });
     for (place, &choice) in (1..).zip(order) {
-        if !machine.allowed(choice) {
-            run.fill(0);
-            return Err(Refusal::new(Cause::Choice, place));
-        }
-        if let Some((receive, message)) = machine.carry_out(choice) {
-            record(&recorded, run, receive, message);
+        match machine.carry_out(choice) {
+            Ok(None) => {}
+            Ok(Some((receive, message))) => record.receive(machine.events(), receive, message),
+            Err(NotAllowed) => {
+                run.fill(0);
+                return Err(Refusal::new(Cause::Choice, place));
+            }
         }
     }
     Ok(Replayed {
@@ -162,12 +201,14 @@ pub fn lowest(
 ) -> Result<Replayed, Refusal> {
     let table = area(table)?;
     let run = area_mut(run)?;
-    let recorded = Recorded::load(table, failure)?;
+    let mut recorded = Recorded::load(table, failure)?;
     let restarts = recorded.restarts(line, failure.set)?;
-    begin_record(&recorded, &restarts, run);
-    let steps = Lowest::new(&recorded, &restarts).carry_out(|receive, message| {
-        record(&recorded, run, receive, message);
+    let mut record = Record::new(table, run);
+    let machine = Machine::new(&mut recorded, &restarts, |events, receive, message| {
+        record.receive(events, receive, message);
     });
+    let receive = |events: &[Event], receive, message| record.receive(events, receive, message);
+    let steps = machine.lowest(receive, |_| {});
     Ok(Replayed {
         steps,
         complete: true,
@@ -178,7 +219,7 @@ pub fn lowest(
 /// carrying one out: the events after the restarts and the kept messages. No order from any line has
 /// more.
 pub fn exact_steps(table: &[u32], failure: Failure, line: &[u32]) -> Result<u64, Refusal> {
-    let recorded = Recorded::load(area(table)?, failure)?;
+    let mut recorded = Recorded::load(area(table)?, failure)?;
     let restarts = recorded.restarts(line, failure.set)?;
     let (_, counts) = recorded.messages(&restarts);
     Ok(recorded.listed(&restarts) as u64 + counts.kept)
@@ -191,9 +232,10 @@ pub fn with_machine<T>(
     line: &[u32],
     visit: impl FnOnce(&mut Machine) -> T,
 ) -> Result<T, Refusal> {
-    let recorded = Recorded::load(area(table)?, failure)?;
+    let mut recorded = Recorded::load(area(table)?, failure)?;
     let restarts = recorded.restarts(line, failure.set)?;
-    Ok(visit(&mut Machine::new(&recorded, &restarts)))
+    let mut machine = Machine::new(&mut recorded, &restarts, |_, _, _| {});
+    Ok(visit(&mut machine))
 }
 
 /// The order that always picks the lowest allowed choice, found by looking at all choices each time.
@@ -205,8 +247,34 @@ pub fn lowest_order(table: &[u32], failure: Failure, line: &[u32]) -> Result<Vec
             let Some(choice) = lowest else {
                 return order;
             };
-            machine.carry_out(choice);
+            machine.carry_out(choice).expect("the choice is allowed");
             order.push(choice);
         }
+    })
+}
+
+/// The same order as [`lowest_order`], found as [`lowest`] finds it.
+pub fn quick_lowest_order(
+    table: &[u32],
+    failure: Failure,
+    line: &[u32],
+) -> Result<Vec<u16>, Refusal> {
+    let mut recorded = Recorded::load(area(table)?, failure)?;
+    let restarts = recorded.restarts(line, failure.set)?;
+    let machine = Machine::new(&mut recorded, &restarts, |_, _, _| {});
+    let mut order = Vec::new();
+    machine.lowest(|_, _, _| {}, |choice| order.push(choice as u16));
+    Ok(order)
+}
+
+/// The members of a set, from the lowest.
+#[inline]
+fn members(mut set: u64) -> impl Iterator<Item = usize> {
+    std::iter::from_fn(move || {
+        (set != 0).then(|| {
+            let lowest = set.trailing_zeros() as usize;
+            set &= set - 1;
+            lowest
+        })
     })
 }

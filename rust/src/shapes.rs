@@ -340,6 +340,15 @@ impl Shape {
         }
     }
 
+    /// How many of the last processes save at first.
+    pub(crate) fn ahead(self, procs: usize) -> usize {
+        match self {
+            Shape::Steep => procs - procs / 2,
+            Shape::Turns => 1,
+            _ => 0,
+        }
+    }
+
     /// A trace of this shape.
     pub fn trace(self, procs: usize, events: usize, random: &mut Random) -> Trace {
         self.trace_with(self.habits(procs, events), procs, events, random)
@@ -353,41 +362,10 @@ impl Shape {
         events: usize,
         random: &mut Random,
     ) -> Trace {
-        let mut made = Vec::with_capacity(events);
-        let mut in_transit: Vec<(usize, usize)> = Vec::new();
-        let mut saves = [0; MAX_PROCS];
-        let ahead = match self {
-            Shape::Steep => procs - procs / 2,
-            Shape::Turns => 1,
-            _ => 0,
-        };
-        if ahead > 0 {
-            let ahead = saves[..procs].iter_mut().enumerate().skip(procs - ahead);
-            for (at, saves) in ahead.take(events) {
-                *saves += 1;
-                made.push(Event::Save { at });
-            }
-        }
-        while made.len() < events {
-            let at = random.below(procs);
-            let full = in_transit.len() > habits.in_transit;
-            if saves[at] < 30 && random.percent(habits.saves) {
-                saves[at] += 1;
-                made.push(Event::Save { at });
-            } else if !in_transit.is_empty() && (full || random.percent(habits.receives)) {
-                let (from, to) = in_transit.swap_remove(random.below(in_transit.len()));
-                made.push(Event::Recv { at: to, from });
-            } else {
-                let (at, to) = self.channel(procs, random);
-                let val = u64::from(random.bits() as u32 >> random.pick(&[0, 16, 30]));
-                in_transit.push((at, to));
-                made.push(Event::Send { at, to, val });
-            }
-        }
-        Trace {
-            procs,
-            events: made,
-        }
+        let mut maker = Maker::new(procs, events);
+        maker.save_ahead(self.ahead(procs));
+        maker.go_on(self, habits, procs, events, random);
+        maker.trace()
     }
 
     /// A failure of a trace of this shape.
@@ -415,6 +393,126 @@ impl Shape {
         Failure {
             step: step as u64,
             set: set | 1 << (first + random.below(count)),
+        }
+    }
+}
+
+/// A trace that is being made, of at most so many events.
+pub(crate) struct Maker {
+    procs: usize,
+    most: usize,
+    made: Vec<Event>,
+    /// Sender and receiver of each message in transit.
+    in_transit: Vec<(usize, usize)>,
+    saves: [usize; MAX_PROCS],
+}
+
+impl Maker {
+    pub fn new(procs: usize, most: usize) -> Self {
+        Maker {
+            procs,
+            most,
+            made: Vec::with_capacity(most),
+            in_transit: Vec::new(),
+            saves: [0; MAX_PROCS],
+        }
+    }
+
+    fn push(&mut self, event: Event) {
+        if self.made.len() < self.most {
+            self.made.push(event);
+        }
+    }
+
+    fn save(&mut self, at: usize) {
+        self.saves[at] += 1;
+        self.push(Event::Save { at });
+    }
+
+    /// A value that says where it is sent.
+    fn place(&self) -> u64 {
+        self.made.len() as u64 + 1
+    }
+
+    fn send(&mut self, at: usize, to: usize, val: u64) {
+        self.push(Event::Send { at, to, val });
+    }
+
+    /// Sends a message, which is received at once.
+    fn pass(&mut self, from: usize, to: usize) {
+        self.send(from, to, self.place());
+        self.push(Event::Recv { at: to, from });
+    }
+
+    /// The last processes save, so many of them.
+    pub fn save_ahead(&mut self, ahead: usize) {
+        for at in self.procs - ahead..self.procs {
+            self.save(at);
+        }
+    }
+
+    /// The last two processes pass a message back and forth, and raise the phase each time, until
+    /// there are so many events.
+    pub fn rise(&mut self, until: usize) {
+        let (low, high) = (self.procs - 2, self.procs - 1);
+        while self.made.len() + 4 <= until {
+            self.pass(low, high);
+            self.pass(high, low);
+        }
+    }
+
+    /// All others come to know the phase of the last two processes.
+    pub fn spread(&mut self) {
+        for to in 0..self.procs - 2 {
+            self.pass(self.procs - 2, to);
+        }
+    }
+
+    /// Each process but the last two sends so many messages, none of which is received yet.
+    pub fn burst(&mut self, messages: usize) {
+        let others = self.procs - 2;
+        for message in 0..messages {
+            for at in 0..others {
+                let to = (at + 1 + message % (self.procs - 1)) % self.procs;
+                self.send(at, to, self.place());
+                self.in_transit.push((at, to));
+            }
+        }
+    }
+
+    /// Goes on at random until there are so many events. Only the last processes take part, so many of
+    /// them.
+    pub fn go_on(
+        &mut self,
+        shape: Shape,
+        habits: Habits,
+        talkers: usize,
+        until: usize,
+        random: &mut Random,
+    ) {
+        let first = self.procs - talkers;
+        while self.made.len() < until.min(self.most) {
+            let at = first + random.below(talkers);
+            let full = self.in_transit.len() > habits.in_transit;
+            if self.saves[at] < 30 && random.percent(habits.saves) {
+                self.save(at);
+            } else if !self.in_transit.is_empty() && (full || random.percent(habits.receives)) {
+                let message = random.below(self.in_transit.len());
+                let (from, to) = self.in_transit.swap_remove(message);
+                self.push(Event::Recv { at: to, from });
+            } else {
+                let (at, to) = shape.channel(talkers, random);
+                let val = u64::from(random.bits() as u32 >> random.pick(&[0, 16, 30]));
+                self.in_transit.push((first + at, first + to));
+                self.send(first + at, first + to, val);
+            }
+        }
+    }
+
+    pub fn trace(self) -> Trace {
+        Trace {
+            procs: self.procs,
+            events: self.made,
         }
     }
 }

@@ -36,6 +36,7 @@ fn main() {
 
 #[cfg(hallback_archive)]
 mod compare {
+    use hallback::family::Member;
     use hallback::shapes::{each_trace, Dones, Event, Random, Shape, Trace, LONG_VALUES};
     use hallback::{raw, reference, set_value};
     use hallback::{Failure, Refusal, Replayed, Restart, STAY};
@@ -739,16 +740,21 @@ ev=recv at=0 from=1
                 habits.receives = random.pick(&[10, 30, 49, 70]);
                 habits.in_transit = random.pick(&[1, procs, MAX_EVENTS]);
             }
-            let mut trace = shape.trace_with(habits, procs, events, random);
+            let mut trace = if random.percent(30) {
+                Member::random(random.bits()).trace(events).0
+            } else {
+                let mut trace = shape.trace_with(habits, procs, events, random);
+                if random.percent(90) {
+                    let dones = Dones {
+                        at_once: random.pick(&[0, 0, 50, 90, 100]),
+                        later: random.pick(&[0, 1, 5, 30, 100]),
+                    };
+                    trace.finish_saves(dones, random);
+                }
+                trace
+            };
             if random.percent(70) {
                 trace.lengthen_values(random);
-            }
-            if random.percent(90) {
-                let dones = Dones {
-                    at_once: random.pick(&[0, 0, 50, 90, 100]),
-                    later: random.pick(&[0, 1, 5, 30, 100]),
-                };
-                trace.finish_saves(dones, random);
             }
             let failure = shape.failure(&trace, random);
             self.texts(&trace, failure);
@@ -1060,7 +1066,7 @@ ev=recv at=0 from=1
                     return order;
                 }
                 let choice = random.pick(&choices);
-                machine.carry_out(choice);
+                machine.carry_out(choice).expect("the choice is allowed");
                 order.push(choice);
             }
         });

@@ -1,21 +1,25 @@
-//! Times the same calls on the same inputs, by the archive and by the reference.
+//! Times the same calls on the same inputs, by the archive and by the reference, on members of the
+//! family of traces (`hallback::family`).
 //!
 //! `bench [repeats]` prints the median time of each call, in microseconds, for each shape and size.
+//! `bench times NAME EVENTS [repeats]` prints them for one member, as `instructions` takes them.
 //!
-//! `bench worst [rounds]` makes random traces of full size, of all shapes with other habits, with
-//! random failures and the engine's line or that of all 1, and prints the slowest call of each kind:
-//! the median of 31 times of the engine, what it was given, and the reference's there.
+//! `bench worst [seconds [EVENTS]]` looks for the worst members of the family: among those with a name
+//! of their own, at random, and by changing the worst found so far. For each call it prints where the engine takes most times as long
+//! as the reference, and where it takes longest, by the least of many times, with the member's name.
 //!
-//! `bench once engine|reference CALL SHAPE EVENTS` does one call once, inside the function
-//! `bench_engine_once` or `bench_reference_once`, so that its instructions can be counted. In a trace
-//! each save is followed by a done; `SHAPE-unfinished` is the same without dones, as shapes were
-//! before there were any, and `SHAPE-unsaved` has no saves either, so that it can be read, and has the
-//! same line, whether saves need dones or not:
+//! `bench once engine|reference CALL NAME EVENTS` does one call once, inside the function
+//! `bench_engine_once` or `bench_reference_once`, so that its instructions can be counted;
+//! `bench count NAME EVENTS` does each call once, the engine's and then the reference's.
 //!
 //! ```text
 //! valgrind --tool=callgrind --callgrind-out-file=/dev/null \
 //!     --toggle-collect=bench_engine_once target/release/bench once engine lowest dense 2048
 //! ```
+//!
+//! In a trace each save is followed by a done; `NAME-unfinished` is the same without dones, as shapes
+//! were before there were any, and `NAME-unsaved` has no saves either, so that it can be read, and has
+//! the same line, whether saves need dones or not.
 
 #[cfg(not(hallback_archive))]
 fn main() {
@@ -30,82 +34,28 @@ fn main() {
 fn main() {
     let arguments: Vec<String> = std::env::args().skip(1).collect();
     let words: Vec<&str> = arguments.iter().map(String::as_str).collect();
-    let done = match words[..] {
-        [] => bench::all(101),
-        ["once", who, call, shape, events] => bench::once(who, call, shape, events),
-        ["worst"] => bench::worst(200),
-        ["worst", rounds] => rounds.parse().ok().and_then(bench::worst),
-        [repeats] => repeats.parse().ok().and_then(bench::all),
-        _ => None,
-    };
-    if done.is_none() {
-        eprintln!(
-            "usage: bench [repeats] | bench worst [rounds] | \
-             bench once engine|reference CALL SHAPE EVENTS"
-        );
+    if let Err(wrong) = bench::run(&words) {
+        eprintln!("bench: {wrong}");
         std::process::exit(2);
     }
 }
 
 #[cfg(hallback_archive)]
 mod bench {
-    use hallback::shapes::{Dones, Event, Habits, Random, Shape, Trace};
+    use hallback::family::{Member, SIZES};
+    use hallback::shapes::{Random, Shape};
     use hallback::{raw, reference};
-    use hallback::{Failure, Replayed, AREA_WORDS, MAX_PROCS, REPORT_BYTES, TEXT_BYTES};
+    use hallback::{Failure, Replayed};
+    use hallback::{AREA_WORDS, MAX_EVENTS, MAX_PROCS, REPORT_BYTES, TEXT_BYTES};
     use std::hint::black_box;
-    use std::time::Instant;
+    use std::time::{Duration, Instant};
 
-    /// How many events, and of how many processes.
-    const SIZES: [(usize, usize); 3] = [(128, 16), (512, 32), (2_048, 64)];
+    const USAGE: &str = "usage: bench [REPEATS] | bench times NAME EVENTS [REPEATS] | \
+        bench worst [SECONDS [EVENTS]] | bench once engine|reference CALL NAME EVENTS | \
+        bench count NAME EVENTS | bench names";
 
     /// Words of the longest answer.
     const ANSWER_WORDS: usize = 4 + 3 * MAX_PROCS;
-
-    /// What becomes of the saves of a trace.
-    #[derive(Clone, Copy)]
-    enum Saves {
-        /// Each is followed by a done.
-        Finished,
-        /// There are no dones.
-        Unfinished,
-        /// They are left out.
-        LeftOut,
-    }
-
-    /// The shape of this name, and what its ending says of the saves.
-    fn named(name: &str) -> Option<(Shape, Saves)> {
-        let (name, saves) = match name.split_once('-') {
-            None => (name, Saves::Finished),
-            Some((name, "unfinished")) => (name, Saves::Unfinished),
-            Some((name, "unsaved")) => (name, Saves::LeftOut),
-            Some(_) => return None,
-        };
-        let shape = Shape::ALL.into_iter().find(|s| s.name() == name)?;
-        Some((shape, saves))
-    }
-
-    /// A trace of this shape.
-    fn trace(shape: Shape, saves: Saves, procs: usize, events: usize) -> Trace {
-        let mut random = Random::new(events as u64);
-        let habits = shape.habits(procs, events);
-        let mut made = |events| shape.trace_with(habits, procs, events, &mut random);
-        match saves {
-            Saves::Finished => {
-                let mut trace = made(events);
-                trace.finish_saves(Dones::AT_ONCE, &mut random);
-                trace
-            }
-            Saves::Unfinished => made(events),
-            Saves::LeftOut => {
-                // under half of its events are saves
-                let mut trace = made(2 * events);
-                let saved = |event: &Event| matches!(event, Event::Save { .. });
-                trace.events.retain(|event| !saved(event));
-                trace.events.truncate(events);
-                trace
-            }
-        }
-    }
 
     #[derive(Clone, Copy, Debug, PartialEq, Eq)]
     enum Call {
@@ -153,8 +103,63 @@ mod bench {
         }
     }
 
+    /// Does what the arguments say, or says what is wrong with them.
+    pub fn run(arguments: &[&str]) -> Result<(), String> {
+        match *arguments {
+            [] => all(101),
+            ["names"] => println!("{}", Member::names()),
+            ["times", name, events] => times(&mut input(name, events)?, 101),
+            ["times", name, events, repeats] => {
+                times(&mut input(name, events)?, number(repeats)?);
+            }
+            ["worst"] => worst(60, MAX_EVENTS),
+            ["worst", seconds] => worst(number(seconds)?, MAX_EVENTS),
+            ["worst", seconds, events] => worst(number(seconds)?, number(events)?),
+            ["once", who, call, name, events] => {
+                let implementation: Implementation = match who {
+                    "engine" => bench_engine_once,
+                    "reference" => bench_reference_once,
+                    _ => return Err(USAGE.to_string()),
+                };
+                let call = Call::ALL.into_iter().find(|one| one.name() == call);
+                let call = call.ok_or_else(|| format!("no such call; {USAGE}"))?;
+                let mut input = input(name, events)?;
+                let answer = black_box(implementation)(call, &mut input);
+                println!("{who} {} {name} {events}: {answer}", call.name());
+            }
+            ["count", name, events] => {
+                let mut input = input(name, events)?;
+                for call in Call::ALL {
+                    black_box(bench_engine_once)(call, &mut input);
+                    black_box(bench_reference_once)(call, &mut input);
+                    println!("{}", call.name());
+                }
+            }
+            [repeats] => all(number(repeats)?),
+            _ => return Err(USAGE.to_string()),
+        }
+        Ok(())
+    }
+
+    fn number<T: std::str::FromStr>(text: &str) -> Result<T, String> {
+        let number = text.parse().ok();
+        number.ok_or_else(|| format!("{text} is no fit number; {USAGE}"))
+    }
+
+    /// The input of this name and size.
+    fn input(name: &str, events: &str) -> Result<Input, String> {
+        let events = number(events)?;
+        if events > MAX_EVENTS {
+            return Err(format!("there are at most {MAX_EVENTS} events"));
+        }
+        let member = Member::named(name);
+        let member = member.ok_or_else(|| format!("no shape {name}; {}", Member::names()))?;
+        Ok(Input::new(&member, events))
+    }
+
     /// All that the calls take, and what they write to.
     struct Input {
+        procs: usize,
         text: Vec<u8>,
         text_with_failure: Vec<u8>,
         table: Vec<u32>,
@@ -168,43 +173,27 @@ mod bench {
     }
 
     impl Input {
-        /// A trace of this shape that fails with a quarter to come, its greatest line and lowest order.
-        fn new(shape: Shape, saves: Saves, procs: usize, events: usize) -> Input {
-            let trace = trace(shape, saves, procs, events);
-            let half = procs / 2;
-            let set = match shape {
-                Shape::Orphans => u64::MAX >> (MAX_PROCS - half),
-                Shape::Steep => u64::MAX >> (MAX_PROCS - half) << half,
-                Shape::Turns => 1 << (procs - 1),
-                _ => 1,
-            };
-            let failure = Failure {
-                step: events as u64 * 3 / 4,
-                set,
-            };
-            Input::of(&trace, failure, false)
-        }
-
-        /// The calls' input for a failure of a trace: its greatest line, or that of all 1, and the
-        /// lowest order from there.
-        fn of(trace: &Trace, failure: Failure, from_start: bool) -> Input {
+        /// A member's trace and failure, its greatest line or that of all 1, and the lowest order.
+        fn new(member: &Member, events: usize) -> Input {
+            let (trace, failure) = member.trace(events);
             let text = trace.text();
             let mut table = vec![0; AREA_WORDS];
             reference::read(&text, &mut table).expect("the trace is fit");
-            let line = if from_start {
+            let line = if member.from_start() {
                 vec![1; trace.procs]
             } else {
                 let restart = reference::restart(&table, failure).expect("the failure is fit");
                 restart.line().to_vec()
             };
-            let order = reference::lowest_order(&table, failure, &line).expect("the line is fit");
+            let order = reference::quick_lowest_order(&table, failure, &line);
             Input {
+                procs: trace.procs,
                 text,
                 text_with_failure: trace.text_with(failure),
                 table,
                 failure,
                 line,
-                order,
+                order: order.expect("the line is fit"),
                 read_table: vec![0; AREA_WORDS],
                 run: vec![0; AREA_WORDS],
                 out: vec![0; REPORT_BYTES],
@@ -277,6 +266,13 @@ mod bench {
 
     type Implementation = fn(Call, &mut Input) -> u64;
 
+    /// How long a call takes, in microseconds.
+    fn time(implementation: Implementation, call: Call, input: &mut Input) -> f64 {
+        let start = Instant::now();
+        black_box(implementation(call, black_box(input)));
+        start.elapsed().as_secs_f64() * 1e6
+    }
+
     /// The median time of a call, in microseconds.
     fn median(
         implementation: Implementation,
@@ -285,34 +281,36 @@ mod bench {
         repeats: usize,
     ) -> f64 {
         let mut times: Vec<_> = (0..repeats.max(1))
-            .map(|_| {
-                let start = Instant::now();
-                black_box(implementation(call, black_box(input)));
-                start.elapsed()
-            })
+            .map(|_| time(implementation, call, input))
             .collect();
-        times.sort();
-        times[times.len() / 2].as_secs_f64() * 1e6
+        times.sort_by(f64::total_cmp);
+        times[times.len() / 2]
     }
 
-    pub fn all(repeats: usize) -> Option<()> {
+    /// Whether both leave the same.
+    fn compare(call: Call, input: &mut Input) {
+        bench_engine_once(call, input);
+        let left = input.left();
+        bench_reference_once(call, input);
+        assert!(left == input.left(), "{} differs", call.name());
+    }
+
+    fn all(repeats: usize) {
         println!(
             "median of {repeats} calls, in microseconds: engine, reference, how many times as long"
         );
         for shape in Shape::ALL {
-            for (events, procs) in SIZES {
-                let mut input = Input::new(shape, Saves::Finished, procs, events);
+            for events in SIZES {
+                let mut input = Input::new(&Member::new(shape), events);
                 println!(
-                    "{}, {events} events, {procs} processes, {} bytes, {} steps",
+                    "{}, {events} events, {} processes, {} bytes, {} steps",
                     shape.name(),
+                    input.procs,
                     input.text.len(),
                     input.order.len()
                 );
                 for call in Call::ALL {
-                    bench_engine_once(call, &mut input);
-                    let left = input.left();
-                    bench_reference_once(call, &mut input);
-                    assert!(left == input.left(), "{} differs", call.name());
+                    compare(call, &mut input);
                     let engine = median(bench_engine_once, call, &mut input, repeats);
                     let reference = median(bench_reference_once, call, &mut input, repeats);
                     println!(
@@ -323,71 +321,137 @@ mod bench {
                 }
             }
         }
-        Some(())
     }
 
-    /// How often a call is timed that may be the slowest.
-    const SURE: usize = 31;
+    /// A line for each call: its name, and the median times of engine and reference.
+    fn times(input: &mut Input, repeats: usize) {
+        for call in Call::ALL {
+            compare(call, input);
+            let engine = median(bench_engine_once, call, input, repeats);
+            let reference = median(bench_reference_once, call, input, repeats);
+            println!("{} {engine:.1} {reference:.1}", call.name());
+        }
+    }
 
-    pub fn worst(rounds: u64) -> Option<()> {
-        let (events, procs) = SIZES[2];
-        let mut slowest = Call::ALL.map(|call| (0.0, 0.0, call, String::new()));
-        for round in 0..rounds {
-            let mut random = Random::new(round);
-            let shape = random.pick(&Shape::ALL);
-            let habits = Habits {
-                saves: random.pick(&[0, 1, 3, 10, 40]),
-                receives: random.pick(&[30, 45, 60, 100]),
-                in_transit: random.pick(&[0, 8, 32, 128, 512]),
+    /// The least times of a call in microseconds, engine's and reference's, and of some work that is
+    /// always the same. What else runs on the machine only makes a time longer, so the least of many
+    /// says most.
+    #[derive(Clone, Copy)]
+    struct Least {
+        engine: f64,
+        reference: f64,
+        work: f64,
+    }
+
+    impl Least {
+        /// By turns, so that a slow moment of the machine is one for all.
+        fn of(call: Call, input: &mut Input, repeats: usize) -> Least {
+            let mut least = Least {
+                engine: f64::INFINITY,
+                reference: f64::INFINITY,
+                work: f64::INFINITY,
             };
-            let dones = Dones {
-                at_once: random.pick(&[0, 100, 100]),
-                later: random.pick(&[0, 3, 30]),
-            };
-            let mut trace = shape.trace_with(habits, procs, events, &mut random);
-            trace.finish_saves(dones, &mut random);
-            let failure = shape.failure(&trace, &mut random);
-            let from_start = random.percent(25);
-            let mut input = Input::of(&trace, failure, from_start);
-            for (most, reference, call, what) in &mut slowest {
-                // a single slow call says little on a shared machine
-                if median(bench_engine_once, *call, &mut input, 3) <= *most {
-                    continue;
-                }
-                let time = median(bench_engine_once, *call, &mut input, SURE);
-                if time > *most {
-                    *most = time;
-                    *reference = median(bench_reference_once, *call, &mut input, SURE);
-                    *what = format!(
-                        "round {round}, {} {habits:?} {dones:?}, fail={} set={}, {} steps",
-                        shape.name(),
-                        failure.step,
-                        failure.set,
-                        input.order.len()
-                    );
+            for _ in 0..repeats {
+                least.engine = least.engine.min(time(bench_engine_once, call, input));
+                least.reference = least.reference.min(time(bench_reference_once, call, input));
+                least.work = least.work.min(time(same_work, call, input));
+            }
+            least
+        }
+
+        fn ratio(self) -> f64 {
+            self.engine / self.reference
+        }
+
+        /// The engine's time, whatever the speed of the machine at this moment.
+        fn long(self) -> f64 {
+            self.engine / self.work
+        }
+    }
+
+    /// Takes some microseconds, always as many instructions.
+    #[inline(never)]
+    fn same_work(_: Call, _: &mut Input) -> u64 {
+        let mut random = Random::new(1);
+        (0..2_000).fold(0, |all, _| all ^ random.bits())
+    }
+
+    /// The worst member found so far in one regard, and how bad it is.
+    struct Worst {
+        call: Call,
+        badness: fn(Least) -> f64,
+        found: Option<(f64, Member)>,
+    }
+
+    impl Worst {
+        /// Keeps this member if it is worse than the worst so far.
+        fn see(&mut self, quick: Least, member: &Member, input: &mut Input) {
+            let most = self.found.as_ref().map_or(0.0, |found| found.0);
+            // what a few times say is to be true of many
+            if (self.badness)(quick) > most {
+                let sure = (self.badness)(Least::of(self.call, input, SURE));
+                if sure > most {
+                    self.found = Some((sure, member.clone()));
                 }
             }
         }
-        println!("of {rounds} traces the slowest, in microseconds: engine, reference");
-        for (most, reference, call, what) in &slowest {
-            println!("{:11} {most:10.1} {reference:10.1}  {what}", call.name());
-        }
-        Some(())
     }
 
-    pub fn once(who: &str, call: &str, shape: &str, events: &str) -> Option<()> {
-        let implementation: Implementation = match who {
-            "engine" => bench_engine_once,
-            "reference" => bench_reference_once,
-            _ => return None,
-        };
-        let call = Call::ALL.into_iter().find(|c| c.name() == call)?;
-        let (kind, saves) = named(shape)?;
-        let events: usize = events.parse().ok()?;
-        let (_, procs) = SIZES.into_iter().find(|size| size.0 == events)?;
-        let mut input = Input::new(kind, saves, procs, events);
-        let answer = black_box(implementation)(call, &mut input);
-        println!("{who} {} {shape} {events}: {answer}", call.name());
-        Some(())
+    /// How often a call is timed at first, where it may be the worst, and where it is.
+    const QUICK: usize = 3;
+    const SURE: usize = 31;
+    const LAST: usize = 301;
+
+    fn worst(seconds: u64, events: usize) {
+        let end = Instant::now() + Duration::from_secs(seconds);
+        let mut random = Random::new(seconds);
+        let mut worsts: Vec<Worst> = Call::ALL
+            .into_iter()
+            .flat_map(|call| {
+                let badnesses: [fn(Least) -> f64; 2] = [Least::ratio, Least::long];
+                badnesses.map(|badness| Worst {
+                    call,
+                    badness,
+                    found: None,
+                })
+            })
+            .collect();
+        let mut known = Member::all_named();
+        let mut tried = 0;
+        while Instant::now() < end {
+            let parent = random.below(2 * worsts.len());
+            let parent = worsts.get(parent).and_then(|worst| worst.found.as_ref());
+            let member = match (known.next(), parent) {
+                (Some(member), _) => member,
+                (None, Some((_, parent))) => parent.changed(&mut random),
+                (None, None) => Member::random(tried),
+            };
+            let mut input = Input::new(&member, events);
+            for pair in worsts.chunks_mut(2) {
+                let quick = Least::of(pair[0].call, &mut input, QUICK);
+                for worst in pair {
+                    worst.see(quick, &member, &mut input);
+                }
+            }
+            tried += 1;
+        }
+        println!("{tried} traces of {events} events, microseconds: engine / reference = ratio");
+        for pair in worsts.chunks(2) {
+            for (worst, what) in pair.iter().zip(["worst ratio", "longest"]) {
+                let Some((_, member)) = &worst.found else {
+                    continue;
+                };
+                let mut input = Input::new(member, events);
+                compare(worst.call, &mut input);
+                let least = Least::of(worst.call, &mut input, LAST);
+                println!(
+                    "{:11} {what:11} {:6.1} / {:6.1} = {:.2}  {member}",
+                    worst.call.name(),
+                    least.engine,
+                    least.reference,
+                    least.ratio()
+                );
+            }
+        }
     }
 }

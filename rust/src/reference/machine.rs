@@ -1,75 +1,111 @@
 //! Replay: which choices are allowed, and what each does.
 
-use super::recorded::{Class, Event, Recorded, Restarts, NO_KIND};
-use super::{RECEIVE, SEND};
+use super::recorded::{Channel, Event, Recorded, Restarts, NO_KIND};
+use super::{members, RECEIVE, SEND};
 use crate::MAX_PROCS;
 
 /// The number of the first choice that hands over a kept message.
 const FIRST_CHANNEL: usize = MAX_PROCS;
 
-/// Choices are below this number.
-const CHOICES: usize = FIRST_CHANNEL + MAX_PROCS * MAX_PROCS;
-
-/// The messages between two processes, in two lists linked by the machine's `links`: those kept and
-/// not yet handed over, and those in the channel. 0 stands for none.
+/// The messages of a phase.
 #[derive(Clone, Copy, Default)]
-struct Channel {
-    first_kept: u16,
-    last_kept: u16,
-    oldest: u16,
-    latest: u16,
+struct Phase {
+    /// How many orphans of it are yet to be sent again.
+    orphans: u16,
+    /// The first of its kept messages, handed over or not; they are linked by `next`.
+    kept: u16,
 }
 
 /// A replay under way.
 ///
-/// A message is named here by the event that sent it.
+/// A message is named here by the event that sent it. What comes into a channel, and in which order,
+/// is known from the start: its kept messages, then those sent again that are not orphans, all of them
+/// linked by `link`. A channel's `oldest` is the next of them to be received, its `other` the next to
+/// come in; while they are the same, there is none to be received.
 pub struct Machine<'a> {
-    recorded: &'a Recorded<'a>,
+    procs: usize,
     restarts: &'a Restarts,
+    events: &'a [Event],
+    channels: &'a mut [Channel],
     /// The next event of each process; 0 if it has done all.
     next: [u16; MAX_PROCS],
-    channels: Vec<Channel>,
-    /// Of a message in a list of its channel, the next in that list.
-    links: Vec<u16>,
-    /// Of each sender, the receivers to which messages are yet to be handed over.
+    /// Of each sender, the receivers for whom messages are kept, handed over or not.
     keeping: [u64; MAX_PROCS],
-    /// How many orphans of each phase are yet to be sent again.
-    orphans: Vec<u16>,
+    phases: Vec<Phase>,
     /// Phases below this one are ready.
     unready: usize,
 }
 
+/// What a process did.
+enum Did {
+    /// Nothing: it has done all, or waits for something else than its gate.
+    Nothing,
+    /// It sent an orphan again.
+    Orphan,
+    /// It sent a message to this process.
+    Sent(usize),
+    /// It received, by this event, the message that this one sent.
+    Received(usize, usize),
+    /// It saved, or finished a save.
+    Other,
+}
+
 impl<'a> Machine<'a> {
-    /// The machine before the first choice.
-    pub(super) fn new(recorded: &'a Recorded<'a>, restarts: &'a Restarts) -> Self {
+    /// The machine before the first choice. `received` is told of each receive before the restarts,
+    /// with the message taken.
+    pub(super) fn new(
+        recorded: &'a mut Recorded,
+        restarts: &'a Restarts,
+        mut received: impl FnMut(&[Event], usize, usize),
+    ) -> Self {
         let procs = recorded.procs;
-        let mut channels = vec![Channel::default(); procs * procs];
-        let mut links = vec![0; recorded.events.len()];
+        let events = &mut recorded.events[..];
+        let channels = &mut recorded.channels[..];
+        channels.fill(Channel::default());
+        let mut next = [0; MAX_PROCS];
         let mut keeping = [0; MAX_PROCS];
-        // each event raises the greatest phase by at most one, so phases are at most this length
-        let mut orphans = vec![0; recorded.events.len() + 1];
-        recorded.each_message(restarts, |class, e, send| match class {
-            Class::Kept => {
-                let channel = &mut channels[usize::from(send.channel)];
-                if channel.first_kept == 0 {
-                    channel.first_kept = e as u16;
-                } else {
-                    links[usize::from(channel.last_kept)] = e as u16;
-                }
-                channel.last_kept = e as u16;
-                keeping[usize::from(send.at)] |= 1 << send.peer;
+        let mut phases = vec![Phase::default(); usize::from(recorded.highest_phase) + 2];
+        // from the last event on, so that each list begins with its first
+        for e in (1..events.len()).rev() {
+            let event = events[e];
+            let (z, other) = (event.process(), event.other());
+            let before = e <= usize::from(restarts.after[z]);
+            if !before {
+                events[e].next = next[z];
+                next[z] = e as u16;
             }
-            Class::Orphan => orphans[usize::from(send.phase)] += 1,
-            Class::Lost => {}
-        });
+            if event.kind == SEND {
+                let phase = &mut phases[usize::from(event.phase)];
+                if event.received_up_to(restarts.after[other]) {
+                    phase.orphans += u16::from(!before);
+                    continue;
+                }
+                if before {
+                    if !event.kept_at(recorded.step) {
+                        continue;
+                    }
+                    events[e].next = phase.kept;
+                    phase.kept = e as u16;
+                    keeping[z] |= 1 << other;
+                }
+                let channel = &mut channels[z * procs + other];
+                events[e].link = channel.other;
+                *channel = Channel {
+                    oldest: e as u16,
+                    other: e as u16,
+                };
+            } else if before && event.kind == RECEIVE {
+                received(events, e, usize::from(event.partner));
+            }
+        }
         let mut machine = Machine {
-            recorded,
+            procs,
             restarts,
-            next: restarts.next,
+            events,
             channels,
-            links,
+            next,
             keeping,
-            orphans,
+            phases,
             unready: 0,
         };
         machine.find_unready();
@@ -77,62 +113,128 @@ impl<'a> Machine<'a> {
     }
 
     /// Moves on to the first phase with an orphan yet to be sent again, or past all phases.
+    #[inline]
     fn find_unready(&mut self) {
-        let rest = &self.orphans[self.unready..];
-        let passed = rest.iter().position(|&orphans| orphans != 0);
+        let rest = &self.phases[self.unready..];
+        let passed = rest.iter().position(|phase| phase.orphans != 0);
         self.unready += passed.unwrap_or(rest.len());
     }
 
+    #[inline]
     fn ready(&self, phase: u16) -> bool {
         usize::from(phase) < self.unready
     }
 
+    #[inline]
     fn event(&self, e: u16) -> &'a Event {
-        &self.recorded.events[usize::from(e)]
+        &self.events[usize::from(e)]
     }
 
-    fn channel(&self, from: usize, to: usize) -> &Channel {
-        &self.channels[from * self.recorded.procs + to]
+    #[inline]
+    pub(super) fn events(&self) -> &'a [Event] {
+        self.events
+    }
+
+    #[inline]
+    fn channel(&self, from: usize, to: usize) -> usize {
+        from * self.procs + to
     }
 
     /// Whether the next event of a process is there and waits for nothing but the gate.
     fn able(&self, z: usize) -> bool {
-        let event = self.event(self.next[z]);
+        let e = self.next[z];
+        let event = self.event(e);
+        let other = event.other();
         match event.kind {
-            SEND => self.channels[usize::from(event.channel)].first_kept == 0,
-            RECEIVE => self.channels[usize::from(event.channel)].oldest != 0,
+            // where an orphan goes, nothing is kept: it would have been received before the orphan
+            SEND if event.received_up_to(self.restarts.after[other]) => true,
+            SEND => self.channels[self.channel(z, other)].other == e,
+            RECEIVE => {
+                let channel = self.channels[self.channel(other, z)];
+                channel.oldest != channel.other
+            }
             kind => kind != NO_KIND,
         }
     }
 
-    fn process_allowed(&self, z: usize) -> bool {
-        self.able(z) && self.ready(self.restarts.gate[z])
-    }
-
-    fn channel_allowed(&self, from: usize, to: usize) -> bool {
-        let kept = self.channel(from, to).first_kept;
-        kept != 0 && self.ready(self.event(kept).phase)
-    }
-
-    /// Whether a choice is allowed now.
-    pub fn allowed(&self, choice: u16) -> bool {
-        let procs = self.recorded.procs;
-        match parts(choice) {
-            Choice::Process(z) => z < procs && self.process_allowed(z),
-            Choice::Channel(from, to) => {
-                from < procs && to < procs && self.channel_allowed(from, to)
+    /// Does the next event of a process, if it is able to.
+    #[inline(always)]
+    fn run(&mut self, z: usize) -> Did {
+        let e = self.next[z];
+        let event = self.event(e);
+        let other = event.other();
+        match event.kind {
+            SEND if event.received_up_to(self.restarts.after[other]) => {
+                self.next[z] = event.next;
+                self.phases[usize::from(event.phase)].orphans -= 1;
+                self.find_unready();
+                Did::Orphan
+            }
+            SEND => {
+                let channel = self.channel(z, other);
+                let channel = &mut self.channels[channel];
+                if channel.other != e {
+                    return Did::Nothing;
+                }
+                channel.other = event.link;
+                self.next[z] = event.next;
+                Did::Sent(other)
+            }
+            RECEIVE => {
+                let channel = self.channel(other, z);
+                let channel = &mut self.channels[channel];
+                let message = channel.oldest;
+                if message == channel.other {
+                    return Did::Nothing;
+                }
+                channel.oldest = self.events[usize::from(message)].link;
+                self.next[z] = event.next;
+                Did::Received(usize::from(e), usize::from(message))
+            }
+            NO_KIND => Did::Nothing,
+            _ => {
+                self.next[z] = event.next;
+                Did::Other
             }
         }
     }
 
-    /// Does what an allowed choice says; gives the receive it did, with the message taken.
-    pub fn carry_out(&mut self, choice: u16) -> Option<(usize, usize)> {
+    /// The next kept message from one process to another, if one is left.
+    #[inline]
+    fn kept(&self, from: usize, to: usize) -> Option<&'a Event> {
+        let message = self.channels[self.channel(from, to)].other;
+        // the next message is a kept one if it was sent before the restart
+        (message.wrapping_sub(1) < self.restarts.after[from]).then(|| self.event(message))
+    }
+
+    #[inline]
+    fn hand_over(&mut self, from: usize, to: usize, message: &Event) {
+        let channel = self.channel(from, to);
+        self.channels[channel].other = message.link;
+    }
+
+    #[inline]
+    fn channel_allowed(&self, from: usize, to: usize) -> Option<&'a Event> {
+        self.kept(from, to).filter(|kept| self.ready(kept.phase))
+    }
+
+    /// Does what a choice says, if that is allowed; gives the receive it did, with the message taken.
+    #[inline(always)]
+    pub fn carry_out(&mut self, choice: u16) -> Result<Option<(usize, usize)>, NotAllowed> {
         match parts(choice) {
-            Choice::Process(z) => self.run(z),
-            Choice::Channel(from, to) => {
-                self.hand_over(from, to);
-                None
+            Choice::Process(z) if z < self.procs && self.ready(self.restarts.gate[z]) => {
+                match self.run(z) {
+                    Did::Nothing => Err(NotAllowed),
+                    Did::Received(e, message) => Ok(Some((e, message))),
+                    _ => Ok(None),
+                }
             }
+            Choice::Channel(from, to) if from < self.procs && to < self.procs => {
+                let kept = self.channel_allowed(from, to).ok_or(NotAllowed)?;
+                self.hand_over(from, to, kept);
+                Ok(None)
+            }
+            _ => Err(NotAllowed),
         }
     }
 
@@ -143,68 +245,68 @@ impl<'a> Machine<'a> {
 
     /// The choices that are allowed, from the lowest.
     pub fn choices(&self) -> impl Iterator<Item = u16> + '_ {
-        let procs = self.recorded.procs;
-        let processes = (0..procs)
-            .filter(|&z| self.process_allowed(z))
+        let processes = (0..self.procs)
+            .filter(|&z| self.ready(self.restarts.gate[z]) && self.able(z))
             .map(|z| z as u16);
-        let channels = (0..procs).flat_map(move |from| {
+        let channels = (0..self.procs).flat_map(move |from| {
             members(self.keeping[from])
-                .filter(move |&to| self.channel_allowed(from, to))
+                .filter(move |&to| self.channel_allowed(from, to).is_some())
                 .map(move |to| (FIRST_CHANNEL + MAX_PROCS * from + to) as u16)
         });
         processes.chain(channels)
     }
 
-    /// Does the next event of a process; gives the receive, if it is one, with the message taken.
-    fn run(&mut self, z: usize) -> Option<(usize, usize)> {
-        let e = self.next[z];
-        let event = self.event(e);
-        self.next[z] = event.follower;
-        match event.kind {
-            SEND => {
-                let receiver = usize::from(event.peer);
-                if event.partner != 0 && event.partner <= self.restarts.after[receiver] {
-                    self.orphans[usize::from(event.phase)] -= 1;
-                    self.find_unready();
-                } else {
-                    self.put(e, event.channel);
+    /// Carries out the order that always picks the lowest allowed choice, and gives its length.
+    /// `receive` is told of each receive, with the message taken, and `choose` of each choice.
+    ///
+    /// A process is tried again only where something has changed for it: after a step of its own, a
+    /// message for it, a kept message of its own handed over, or when its gate becomes ready.
+    pub(super) fn lowest(
+        mut self,
+        mut receive: impl FnMut(&[Event], usize, usize),
+        mut choose: impl FnMut(usize),
+    ) -> u64 {
+        let mut ready = Ready::new(&self);
+        let mut may_run = ready.open;
+        let mut steps = 0;
+        loop {
+            while may_run != 0 {
+                let z = may_run.trailing_zeros() as usize;
+                let unready = self.unready;
+                match self.run(z) {
+                    Did::Nothing => {
+                        may_run &= may_run - 1;
+                        continue;
+                    }
+                    Did::Orphan if self.unready == unready => {}
+                    Did::Orphan => may_run |= ready.rise(&self, unready),
+                    Did::Sent(to) => may_run |= 1 << to & ready.open,
+                    Did::Received(e, message) => receive(self.events, e, message),
+                    Did::Other => {}
                 }
-                None
+                choose(z);
+                steps += 1;
             }
-            RECEIVE => {
-                let channel = &mut self.channels[usize::from(event.channel)];
-                let message = usize::from(channel.oldest);
-                channel.oldest = self.links[message];
-                Some((usize::from(e), message))
+            if ready.senders == 0 {
+                return steps;
             }
-            _ => None,
+            let from = ready.senders.trailing_zeros() as usize;
+            let to = ready.receivers[from].trailing_zeros() as usize;
+            let kept = self.kept(from, to).expect("a ready message is kept");
+            self.hand_over(from, to, kept);
+            if self.channel_allowed(from, to).is_none() {
+                ready.remove(from, to);
+            }
+            may_run = (1 << from | 1 << to) & ready.open;
+            choose(FIRST_CHANNEL + MAX_PROCS * from + to);
+            steps += 1;
         }
-    }
-
-    /// Hands over the oldest kept message from one process to another.
-    fn hand_over(&mut self, from: usize, to: usize) {
-        let index = from * self.recorded.procs + to;
-        let channel = &mut self.channels[index];
-        let message = channel.first_kept;
-        channel.first_kept = self.links[usize::from(message)];
-        if channel.first_kept == 0 {
-            self.keeping[from] &= !(1 << to);
-        }
-        self.put(message, index as u16);
-    }
-
-    /// Puts a message into its channel.
-    fn put(&mut self, message: u16, channel: u16) {
-        let channel = &mut self.channels[usize::from(channel)];
-        self.links[usize::from(message)] = 0;
-        if channel.oldest == 0 {
-            channel.oldest = message;
-        } else {
-            self.links[usize::from(channel.latest)] = message;
-        }
-        channel.latest = message;
     }
 }
+
+/// A choice that is not allowed.
+#[derive(Clone, Copy, Debug, PartialEq, Eq)]
+pub struct NotAllowed;
 
 /// What a choice number names.
 enum Choice {
@@ -213,6 +315,7 @@ enum Choice {
     Channel(usize, usize),
 }
 
+#[inline]
 fn parts(choice: u16) -> Choice {
     match usize::from(choice).checked_sub(FIRST_CHANNEL) {
         None => Choice::Process(usize::from(choice)),
@@ -220,147 +323,69 @@ fn parts(choice: u16) -> Choice {
     }
 }
 
-/// The members of a set, from the lowest.
-fn members(mut set: u64) -> impl Iterator<Item = usize> {
-    std::iter::from_fn(move || {
-        (set != 0).then(|| {
-            let lowest = set.trailing_zeros() as usize;
-            set &= set - 1;
-            lowest
-        })
-    })
-}
-
-/// A machine that always picks the lowest allowed choice, with the allowed ones in sets.
-pub(super) struct Lowest<'a> {
-    machine: Machine<'a>,
+/// What waits for no phase. It is looked at only where the least phase that is not ready rises, and
+/// there each phase, each kept message and each gate once.
+struct Ready {
     /// The processes whose gate is ready.
-    ready: u64,
-    /// The processes that wait for nothing but their gate.
-    able: u64,
+    open: u64,
+    /// The processes whose gate is not.
+    shut: u64,
+    /// No gate of these is below this phase.
+    least_gate: usize,
     /// Of each sender, the receivers to whom a message may be handed over.
     receivers: [u64; MAX_PROCS],
     /// The senders of messages that may be handed over.
     senders: u64,
-    /// Of each phase that is not ready the choices that wait for it, as a list linked by `links`; a
-    /// choice stands there as its number plus 1, and 0 for none.
-    waiting: Vec<u16>,
-    links: Vec<u16>,
 }
 
-impl<'a> Lowest<'a> {
-    pub fn new(recorded: &'a Recorded<'a>, restarts: &'a Restarts) -> Self {
-        let machine = Machine::new(recorded, restarts);
-        let mut lowest = Lowest {
-            ready: 0,
-            able: 0,
+impl Ready {
+    fn new(machine: &Machine) -> Self {
+        let mut ready = Ready {
+            open: 0,
+            shut: u64::MAX >> (MAX_PROCS - machine.procs),
+            least_gate: 0,
             receivers: [0; MAX_PROCS],
             senders: 0,
-            waiting: vec![0; machine.orphans.len()],
-            links: vec![0; CHOICES],
-            machine,
         };
-        for z in 0..recorded.procs {
-            lowest.see_process(z);
-            lowest.admit(restarts.gate[z], z);
-            for to in members(lowest.machine.keeping[z]) {
-                lowest.see_channel(z, to);
-            }
-        }
-        lowest
+        ready.rise(machine, 0);
+        ready
     }
 
-    /// Carries out the whole order, and gives its length. `receive` is told of each receive, with
-    /// the message taken.
-    pub fn carry_out(mut self, mut receive: impl FnMut(usize, usize)) -> u64 {
-        let mut steps = 0;
-        loop {
-            let processes = self.ready & self.able;
-            if processes != 0 {
-                let z = processes.trailing_zeros() as usize;
-                if let Some((e, message)) = self.run(z) {
-                    receive(e, message);
-                }
-            } else if self.senders != 0 {
-                let from = self.senders.trailing_zeros() as usize;
-                let to = self.receivers[from].trailing_zeros() as usize;
-                self.hand_over(from, to);
+    /// Takes note that phases from this one on have become ready; gives the processes whose gate has.
+    fn rise(&mut self, machine: &Machine, first: usize) -> u64 {
+        for phase in &machine.phases[first..machine.unready] {
+            let mut kept = phase.kept;
+            while kept != 0 {
+                let message = machine.event(kept);
+                // no message before it in its channel has a higher phase, so the next one is ready
+                self.receivers[message.process()] |= 1 << message.other();
+                self.senders |= 1 << message.process();
+                kept = message.next;
+            }
+        }
+        if machine.unready <= self.least_gate {
+            return 0;
+        }
+        let mut opened = 0;
+        self.least_gate = usize::MAX;
+        for z in members(self.shut) {
+            let gate = machine.restarts.gate[z];
+            if machine.ready(gate) {
+                opened |= 1 << z;
             } else {
-                return steps;
+                self.least_gate = self.least_gate.min(usize::from(gate));
             }
-            steps += 1;
         }
+        self.open |= opened;
+        self.shut &= !opened;
+        opened
     }
 
-    fn run(&mut self, z: usize) -> Option<(usize, usize)> {
-        let event = self.machine.event(self.machine.next[z]);
-        let unready = self.machine.unready;
-        let received = self.machine.run(z);
-        self.see_process(z);
-        if event.kind == SEND {
-            self.see_process(usize::from(event.peer));
-            self.wake(unready);
-        }
-        received
-    }
-
-    fn hand_over(&mut self, from: usize, to: usize) {
-        self.machine.hand_over(from, to);
-        self.see_process(from);
-        self.see_process(to);
+    /// Takes note that no message may be handed over from one process to another.
+    fn remove(&mut self, from: usize, to: usize) {
         self.receivers[from] &= !(1 << to);
         if self.receivers[from] == 0 {
             self.senders &= !(1 << from);
-        }
-        self.see_channel(from, to);
-    }
-
-    /// Takes note of whether a process is able to run.
-    fn see_process(&mut self, z: usize) {
-        let able = u64::from(self.machine.able(z));
-        self.able = self.able & !(1 << z) | able << z;
-    }
-
-    /// Takes note of the first kept message of a channel, if one is left.
-    fn see_channel(&mut self, from: usize, to: usize) {
-        let kept = self.machine.channel(from, to).first_kept;
-        if kept != 0 {
-            let phase = self.machine.event(kept).phase;
-            self.admit(phase, FIRST_CHANNEL + MAX_PROCS * from + to);
-        }
-    }
-
-    /// Lets a choice pass if its phase is ready, else has it wait for that.
-    fn admit(&mut self, phase: u16, choice: usize) {
-        if self.machine.ready(phase) {
-            self.pass(choice);
-        } else {
-            let first = &mut self.waiting[usize::from(phase)];
-            self.links[choice] = *first;
-            *first = choice as u16 + 1;
-        }
-    }
-
-    /// Takes note that the phase of a choice is ready.
-    fn pass(&mut self, choice: usize) {
-        match parts(choice as u16) {
-            Choice::Process(z) => self.ready |= 1 << z,
-            Choice::Channel(from, to) => {
-                self.receivers[from] |= 1 << to;
-                self.senders |= 1 << from;
-            }
-        }
-    }
-
-    /// Lets pass what waited for the phases that have become ready, from this one on.
-    fn wake(&mut self, first: usize) {
-        for phase in first..self.machine.unready {
-            let mut waiting = std::mem::take(&mut self.waiting[phase]);
-            while waiting != 0 {
-                let choice = usize::from(waiting) - 1;
-                waiting = self.links[choice];
-                self.pass(choice);
-            }
         }
     }
 }

@@ -1,7 +1,6 @@
 //! The words of a table area, and whether they hold a trace.
 
 use super::{MAX_SAVES, RECEIVE, SAVE, SEND};
-use crate::values::from_halves;
 use crate::{AREA_WORDS, EVENT_BASE, HIGH_BASE, MAX_EVENTS, MAX_PROCS, VALUE_BASE};
 
 /// What a table area has beside zeros, if it holds a trace.
@@ -16,9 +15,13 @@ pub(super) struct Words<'a> {
     highs: &'a [u32],
 }
 
-/// Whether all these words are 0. Without an early end, so that many are looked at at once.
+/// Whether all these words are 0. Many are looked at together.
 fn all_zero(words: &[u32]) -> bool {
-    words.iter().fold(0, |bits, word| bits | word) == 0
+    fn bits(words: &[u32]) -> u32 {
+        words.iter().fold(0, |bits, word| bits | word)
+    }
+    let (many, rest) = words.as_chunks::<128>();
+    many.iter().all(|words| bits(words) == 0) && bits(rest) == 0
 }
 
 /// The kind of an event, its process and its peer, as its word has them. More than 14 bits show in
@@ -66,12 +69,12 @@ impl<'a> Words<'a> {
         self.events.len()
     }
 
-    /// The word and the value of each event.
+    /// The word of each event, and the low and the high half of its value.
     #[inline]
-    pub fn events(&self) -> impl Iterator<Item = (u32, u64)> + 'a {
+    pub fn events(&self) -> impl Iterator<Item = (u32, u32, u32)> + 'a {
         let values = self.lows.iter().zip(self.highs);
         let events = self.events.iter().zip(values);
-        events.map(|(&word, (&low, &high))| (word, from_halves(low, high)))
+        events.map(|(&word, (&low, &high))| (word, low, high))
     }
 
     /// Whether all events are fit, each after those before it.
@@ -88,8 +91,9 @@ impl<'a> Words<'a> {
         let mut saves = [u16::from(MAX_SAVES); MAX_PROCS];
         let saves = &mut saves[..procs];
         let mut unfinished = [0; MAX_PROCS];
-        self.events().all(|(word, value)| {
+        self.events().all(|(word, low, high)| {
             let (kind, at, peer) = unpack(word);
+            let value = low | high;
             if kind == u32::from(SEND) {
                 let count = in_transit.get_mut(channel(at, peer));
                 at < procs && at != peer && count.map(|count| *count += 1).is_some()
