@@ -16,6 +16,7 @@ ghost use Rattle.trace.specs.Inner.Tally.{countWords};
 ghost use Rattle.reader.specs.Verdict.{faultHere, judgeEvent, judge, linesFrom, pieces, scan, verdict};
 ghost use Rattle.reader.specs.Inner.Reading.{countOnly, Tallied, Opened, appended, judgedNumber, ScanOutcome, refusalOf, failureRefusal};
 use lines::Line;
+use lines::Placed;
 use text::LineEnd;
 use trace::Event;
 use words::AREA_WORDS;
@@ -49,8 +50,8 @@ pub struct FailureAnswer {
     pub set: u64,
 }
 
-// What the first line of a text says, where only a process count is due. (So `read_line` has one caller, whose loop it
-// can become part of.)
+// What the first line of a text says, where only a process count is due. (So the other lines have one reader, which can
+// become part of its loop.)
 fn first_line(line: &[u8]) -> Line
     ensures { λ r. ⌜ r ≡ countOnly (lineSaid (now (line .entry))) ⌝ }
 {
@@ -145,20 +146,20 @@ fn read_events(
     let mut at = from;
     let mut n: usize = 0;
     while at < text.len() {
-        let LineEnd::At(end) = text::line_end(text, at) else {
+        let Placed::Said(line, next) = lines::next_line(text, at) else {
             return Scanned::Refused(1, n + 2);
         };
-        let j = judge_line(counts, procs, n, lines::read_line(&text[at..end]));
+        let j = judge_line(counts, procs, n, line);
         let Judged::Fit(e) = j else {
             if let Judged::Fails(step, set) = j {
-                return Scanned::Stopped(step, set, n + 2, end + 1);
+                return Scanned::Stopped(step, set, n + 2, next);
             }
             return Scanned::Refused(number(j), n + 2);
         };
         append(table, n, e);
         trace::tally(counts, e);
         n += 1;
-        at = end + 1;
+        at = next;
     }
     Scanned::Ended(n + 2)
 }
