@@ -13,11 +13,11 @@ use Rattle.theory.specs.Order.{run, lowestOrder}
 use Rattle.theory.specs.Answers.{keptOnes, exactSteps}
 use Rattle.theory.specs.Inner.Laws.{Laws}
 use Rattle.theory.proofs.Orders.{complete-iff}
-use Rattle.theory.proofs.Exact.{exact-steps}
 use Rattle.theory.proofs.Lowest.{lowest-order}
 use Rattle.orders.specs.declared.Replayed.{Replayed}
 use Rattle.orders.specs.Answer.{answerOf}
 use Rattle.steps.specs.Inner.Steps.{listedEvents}
+use Rattle.steps.proofs.Counting.{lowest-steps}
 use Rattle.recovery_line.specs.declared.Line.{Line}
 use Rattle.recovery.specs.declared.Recovered.{Recovered}
 use Rattle.preparing.specs.Faults.{runOf, failureFaultOf}
@@ -38,11 +38,10 @@ use Rattle.recovery.proofs.Taking.{not-refused}
 -- are listed events and kept messages.
 pub lowest-counted : (R : Run) → Laws R → LossFree R → (listed kept : ℕ) → listed ≡ listedEvents R → kept ≡ length (keptOnes R)
     → record { number = 0; place = 0; steps = listed + kept; complete = true } ≡ answerOf R (run R (lowestOrder R)) (length (lowestOrder R))
-unfolding answerOf exactSteps
+unfolding answerOf
 lowest-counted R L f listed kept l k =
     let (s, c, d) = lowest-order R L in
-    let e = exact-steps R L (lowestOrder R) s c f d in
-    rw (c, complete-iff R s .1 d, e, l, k)
+    rw (c, complete-iff R s .1 d, lowest-steps R L f listed kept l k)
 
 module _ (a : List ℕ) (step set : ℕ) where
   abbrev pub Answered : Recovered → List ℕ → Type 0

@@ -12,10 +12,14 @@ use borrow.Author.Tests.{ne-eqb, lt-ltb, le-ltb}
 use Rattle.words.proofs.Cases.{by-bool, by-eq}
 use Rattle.theory.specs.Lists.{iv, keep, cnt, sum}
 use Rattle.theory.specs.Events.{size, at}
-use Rattle.theory.specs.Line.{Run}
+use Rattle.theory.specs.Line.{Run, LossFree}
+use Rattle.theory.specs.Order.{steps, lowestOrder}
+use Rattle.theory.specs.Answers.{keptOnes, exactSteps}
 use Rattle.theory.specs.Replay.{listed}
 use Rattle.theory.specs.Inner.Laws.{Laws}
 use Rattle.theory.proofs.Base.{keep-above, keep-keep, cnt-iv, cnt-suc, cnt-skip, eqb-self, sum-cong, sum-zero, sum-down}
+use Rattle.theory.proofs.Exact.{exact-steps}
+use Rattle.theory.proofs.Lowest.{lowest-order}
 use Rattle.columns.specs.Inner.Full.{eventsW, atW}
 use Rattle.columns.specs.Inner.Given.{Tells, Gated}
 use Rattle.columns.proofs.Full.{size-is, at-is}
@@ -78,6 +82,14 @@ counted-listed R full gates T G =
     (cnt-same (afterRestartW full gates) (afterOwn R (T .laws)) (size (R .trace))
     (λ e a b. rw (at-is (R .trace) full (T .tabled) e a b, G .places (at (R .trace) e) (T .laws .process-lt e a b)))
     ∙ sym (listed-in-all R (T .laws)))
+
+-- The lowest order from a line that loses no message: it is complete, so that it has as many steps as there are listed
+-- events and kept messages.
+pub lowest-steps : (R : Run) → Laws R → LossFree R → (events kept : ℕ) → events ≡ listedEvents R → kept ≡ length (keptOnes R) → events + kept ≡ steps (lowestOrder R)
+unfolding exactSteps
+lowest-steps R L f events kept e k =
+    let (s, c, d) = lowest-order R L in
+    rw (e, k) (sym (exact-steps R L (lowestOrder R) s c f d))
 
 -- ---- A turn of the loop: event e + 1, of process z, which restarts after event r
 

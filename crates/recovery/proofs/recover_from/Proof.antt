@@ -4,7 +4,7 @@ use lib.Seq.{length-take-le}
 use Rattle.messages.specs.declared.Counted.{Counted}
 use Rattle.recovery.proofs.Clearing.{trace-cleared}
 use Rattle.recovery.proofs.Recovering.{lowest-counted}
-use Rattle.recovery.proofs.Taking.{engine-takeable}
+use Rattle.restart.proofs.Restarting.{engine-takeable}
 use native.Mathlib.Omega.{arith}
 use borrow.Author.Needs.{needs}
 use Rattle.recovery.proofs.recover_from.Statement.{statement}
