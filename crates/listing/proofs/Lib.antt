@@ -4,4 +4,5 @@ pub mod Following
 pub mod Laying
 pub mod Room
 pub mod Rows
+pub mod Sorting
 pub mod Whole
