@@ -1,18 +1,18 @@
--- The record of a replay, cleared.
+-- The words of a trace, cleared: an area that held no more is then clear.
 use Prim.Native.Nat.{ℕ, _+_, _-_, _<_, _≤_}
 use mathlib.Core.Path.{_≡_, sym, ap, _∙_}
-use mathlib.Core.List.{List, _++_}
+use mathlib.Core.Bool.{true}
+use mathlib.Core.List.{List, _++_, map}
 use native.Mathlib.Omega.{arith}
-use lib.ListN.{length, getD, take, drop, replicate, length-drop, length-replicate, getD-replicate, replicate-append-replicate}
-use lib.Seq.{getD-drop, length-take-le, ext-getD}
-use borrow.Author.Tests.{le-ltb}
+use lib.ListN.{length, getD, take, drop, replicate, length-drop, length-map, length-replicate, getD-replicate, replicate-append-replicate, List·getD-eq-default}
+use lib.Seq.{getD-take, getD-drop, length-take-le, ext-getD}
 use Rattle.words.specs.Area.{areaWords}
-use Rattle.words.proofs.Area.{length-words, getD-words}
-use Rattle.theory.specs.Line.{Run}
-use Rattle.theory.specs.Order.{Outcome, carriedOut, refused}
-use Rattle.machine.specs.Taken.{recordEnd}
-use Rattle.orders.specs.Record.{recordWord, recordAt}
-use Rattle.orders.specs.Answer.{wordsOf}
+use Rattle.trace.specs.Table.{valueWord, tableWord}
+use Rattle.trace.proofs.Places.{word-value}
+use Rattle.table.specs.Held.{held, holdsTrace}
+use Rattle.columns.specs.Inner.Columns.{traceWords}
+use Rattle.protocol.proofs.Passes.{held-long, held-few, held-word}
+use Rattle.recovery.specs.Inner.Recovering.{TraceOnly}
 
 -- the first n words cleared, in a list that is 0 after them
 clear-rest : (n m : ℕ) (w : List ℕ) → n ≤ m → length w ≡ m → ((k : ℕ) → n ≤ k → k < m → getD w k 0 ≡ 0) → replicate n 0 ++ drop n w ≡ replicate m 0
@@ -24,21 +24,17 @@ clear-rest n m w b e h =
     ∙ replicate-append-replicate n (m - n) 0
     ∙ ap (λ (k : ℕ). replicate k 0) (let q : n + (m - n) ≡ m = omega arith in q)
 
-module _ (R : Run) where
-  past-record : (o : Outcome) (k : ℕ) → recordEnd ≤ k → k < areaWords → getD (wordsOf R o) k 0 ≡ 0
-  unfolding wordsOf recordAt recordWord
-  past-record (carriedOut s) k a b =
-      getD-words (recordAt R s) 0 16384 k b ∙ ap (recordAt R s) (let q : 0 + k ≡ k = omega arith in q) ∙ rw (le-ltb k 2049 (omega arith), le-ltb k 4098 (omega arith), le-ltb k 6147 a)
-  past-record (refused i) k a b = getD-replicate {A = ℕ} 16384 k 0 0 b
+pub trace-cleared : (w z : List ℕ) → TraceOnly w → z ≡ replicate (length (take traceWords w)) 0 → z ++ drop traceWords w ≡ replicate areaWords 0
+trace-cleared w z t q =
+    let n : length (take 6163 w) ≡ 6163 = length-take-le 6163 w (omega (arith, t .0)) in
+    rw (q, n) (clear-rest 6163 16384 w (omega arith) (t .0) (t .1))
 
-  length-record : (o : Outcome) → length (wordsOf R o) ≡ areaWords
-  unfolding wordsOf
-  length-record (carriedOut s) = length-words (recordAt R s) 0 16384
-  length-record (refused i) = length-replicate {A = ℕ} 16384 0
-
-  -- an area is clear once the words of the record are
-  pub record-cleared : (o : Outcome) (w z : List ℕ) → w ≡ wordsOf R o → z ≡ replicate (length (take recordEnd w)) 0 → z ++ drop recordEnd w ≡ replicate areaWords 0
-  record-cleared o w z e q =
-      let l : length w ≡ 16384 = ap length e ∙ length-record o in
-      let n : length (take 6147 w) ≡ 6147 = length-take-le 6147 w (omega arith) in
-      rw (q, n) (clear-rest 6147 16384 w (omega arith) l (λ k a b. ap (λ (x : List ℕ). getD x k 0) e ∙ past-record o k a b))
+-- a table that holds a trace holds no more
+pub only-trace : (a : List ℕ) → holdsTrace a ≡ true → TraceOnly (take areaWords a)
+only-trace a h = (length-take-le 16384 a (held-long a h), past)
+  where
+    past : (k : ℕ) → traceWords ≤ k → k < areaWords → getD (take areaWords a) k 0 ≡ 0
+    past k l b =
+        getD-take 16384 a k 0 b ∙ held-word a h k b
+        ∙ word-value (held a) 1 (k - 4115) k (omega arith) (omega arith) (λ q. omega arith)
+        ∙ List·getD-eq-default (map (valueWord 1) (held a .events)) 0 (omega (arith, length-map (held a .events) (valueWord 1), held-few a h))

@@ -1,15 +1,23 @@
 -- Each way out of `recover`: the answers, and what takes the place of the table, by the definitions.
-use Prim.Native.Nat.{ℕ}
+use Prim.Native.Nat.{ℕ, _+_}
 use mathlib.Core.Path.{_≡_, refl, sym, ap, _∙_}
+use mathlib.Core.Bool.{true}
 use mathlib.Core.List.{List, [], _++_}
 use lib.ListN.{length, drop}
 use borrow.Author.Tests.{lt-ltb, le-ltb}
 use Rattle.words.specs.Area.{areaWords}
 use Rattle.words.proofs.Cases.{by-lt}
 use Rattle.table.specs.Held.{held}
-use Rattle.theory.specs.Line.{Run}
+use Rattle.theory.specs.Line.{Run, LossFree}
 use Rattle.theory.specs.Order.{run, lowestOrder}
-use Rattle.theory.specs.Answers.{exactSteps}
+use Rattle.theory.specs.Answers.{keptOnes, exactSteps}
+use Rattle.theory.specs.Inner.Laws.{Laws}
+use Rattle.theory.proofs.Orders.{complete-iff}
+use Rattle.theory.proofs.Lowest.{lowest-order}
+use Rattle.orders.specs.declared.Replayed.{Replayed}
+use Rattle.orders.specs.Answer.{answerOf}
+use Rattle.steps.specs.Inner.Steps.{listedEvents}
+use Rattle.steps.proofs.Counting.{lowest-steps}
 use Rattle.recovery_line.specs.declared.Line.{Line}
 use Rattle.recovery.specs.declared.Recovered.{Recovered}
 use Rattle.preparing.specs.Faults.{runOf, failureFaultOf}
@@ -25,6 +33,15 @@ use Rattle.recovery.proofs.Replaying.{L, refuses, steps-counted, comple
 use Rattle.messages.proofs.Listing.{refuses-messages, lists}
 use Rattle.restart.proofs.Restarting.{Ready, refuses-restart, answers-restart}
 use Rattle.recovery.proofs.Taking.{not-refused}
+
+-- The lowest order from a line that loses no message, not carried out: it is complete, and it has as many steps as there
+-- are listed events and kept messages.
+pub lowest-counted : (R : Run) → Laws R → LossFree R → (listed kept : ℕ) → listed ≡ listedEvents R → kept ≡ length (keptOnes R)
+    → record { number = 0; place = 0; steps = listed + kept; complete = true } ≡ answerOf R (run R (lowestOrder R)) (length (lowestOrder R))
+unfolding answerOf
+lowest-counted R L f listed kept l k =
+    let (s, c, d) = lowest-order R L in
+    rw (c, complete-iff R s .1 d, lowest-steps R L f listed kept l k)
 
 module _ (a : List ℕ) (step set : ℕ) where
   abbrev pub Answered : Recovered → List ℕ → Type 0

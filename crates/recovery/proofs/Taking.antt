@@ -1,4 +1,4 @@
--- The engine's own line is never refused, and may be taken.
+-- The engine's own line is never refused.
 use Prim.Native.Nat.{ℕ, _≤_}
 use mathlib.Core.Path.{_≡_, sym, _∙_}
 use mathlib.Core.List.{List}
@@ -8,12 +8,6 @@ use Rattle.theory.specs.Refusals.{lineFault}
 use Rattle.theory.proofs.Refusals.{failure-fit, line-fit}
 use Rattle.recovery_line.specs.Given.{lineIn}
 use Rattle.restart.specs.declared.Restarted.{Restarted}
-use Rattle.restart.specs.Restart.{restartOf, Restarts}
-use Rattle.trace.specs.Trace.{Trace}
-use Rattle.theory.specs.Events.{size}
-use Rattle.theory.specs.Epochs.{ruleOf}
-use Rattle.columns.specs.Inner.Given.{Marked}
-use Rattle.preparing.specs.Inner.Prepared.{Takeable}
 use Rattle.preparing.specs.Faults.{lineFaultOf}
 use Rattle.protocol.proofs.Passes.{held-long}
 use Rattle.preparing.proofs.Preparing.{areas-fit}
@@ -27,8 +21,3 @@ module _ (a : List ℕ) (step set : ℕ) (r : Restarted) (G : Ready a step set r
       sym (areas-fit a room (lineFault (held a) step set (r .line .count) (lineIn (r .line))) (held-long a (G .holds)) h (G .holds))
       ∙ line-fit (held a) step set (r .line .count) (lineIn (r .line)) .1
       (record { failure = failure-fit (held a) step set .0 (G .fit); count-is = count-in (held a) step set r (G .answer); permitted = G .means .greatest .permitted })
-
-pub engine-takeable : (t : Trace) (full : List ℕ) → Marked t (ruleOf t) full → (cut set : ℕ) → cut ≤ size t → (r : Restarted) → r ≡ restartOf t cut set → Restarts t cut set r
-    → Takeable t full (r .line) cut
-engine-takeable t full M cut set h r e m =
-    record { marked = M; within = h; count-is = count-in t cut set r e; failed = set; permitted = m .greatest .permitted }

@@ -4,7 +4,6 @@
 ghost use mathlib.Core.Path.{_≡_};
 ghost use Prim.Native.Nat.{_≤_};
 ghost use lib.ListN.{length};
-ghost use Rattle.words.specs.Area.{areaWords};
 ghost use Rattle.trace.specs.Trace.{Trace};
 ghost use Rattle.theory.specs.Events.{size};
 ghost use Rattle.theory.specs.Order.{lowestOrder};
@@ -12,13 +11,14 @@ ghost use Rattle.theory.specs.Epochs.{ruleOf};
 ghost use Rattle.columns.specs.Inner.Given.{Marked};
 ghost use Rattle.preparing.specs.Faults.{runOf};
 ghost use Rattle.recovery.specs.Answers.{refusal, replayAnswer, replayArea, Equal, Recorded, SameLists, CarriesOut, StepsExact, StepsAtMost, Completed};
-ghost use Rattle.recovery.specs.Inner.Recovering.{Recovering, recoverRefusal};
+ghost use Rattle.recovery.specs.Inner.Recovering.{TraceOnly, Recovering, recoverRefusal};
 ghost use Rattle.messages.specs.Messages.{messagesAnswer, messagesArea};
 ghost use Rattle.messages.specs.Meaning.{Lists};
 ghost use Rattle.recovery.specs.Recover.{Succeeds};
 ghost use Rattle.restart.specs.Restart.{restartAnswer};
 use columns::FULL_WORDS;
 use columns::GATE_WORDS;
+use columns::TRACE_WORDS;
 use messages::Counted;
 use orders::Replayed;
 use recovery_line::Line;
@@ -102,29 +102,32 @@ fn not_recovered(number: u32) -> Recovered
     }
 }
 
-// How many words of the run area a replay's record takes up; those after it are 0.
-const RECORD_WORDS: usize = 6147;
-
-// The answers for a failure that is not refused, from the full table. The list of the messages takes the place of the
-// replay's record.
+// The answers for a failure that is not refused, from the full table. The engine's line loses no message, so that its
+// lowest order is complete and has as many steps as there are listed events and kept messages: it is counted and not
+// carried out. The list of the messages takes the place of the trace.
 fn recover_from(full: &[u32], cut: usize, set: u64, area: &mut [u32]) -> Recovered
-    requires { ⌜ (length (now area) ≡ areaWords) × ((t : Trace) × Marked t (ruleOf t) (now full) × (cut ≤ size t)) ⌝ }
+    requires { ⌜ TraceOnly (now area) × ((t : Trace) × Marked t (ruleOf t) (now full) × (cut ≤ size t)) ⌝ }
     ensures { λ r. ⌜ ((t : Trace) → Marked t (ruleOf t) (now (full .entry)) → cut ≤ size t → Recovering t cut set r (now (area .exit))) ⌝ }
 {
     let restarted = restart::restart_from(full, cut, set);
     let mut gates = [0u32; GATE_WORDS];
     preparing::gates_of(full, restarted.line, cut, &mut gates);
-    let replayed = search::lowest(full, &gates, area, cut);
-    words::zero(&mut area[..RECORD_WORDS]);
+    let listed = steps::listed_events(full, &gates);
+    words::zero(&mut area[..TRACE_WORDS]);
     let counted = messages::list_from(full, &gates, cut, area);
     Recovered {
         restarted: restarted,
-        replayed: replayed,
+        replayed: Replayed {
+            number: 0,
+            place: 0,
+            steps: listed + counted.kept as usize,
+            complete: true,
+        },
         counted: counted,
     }
 }
 
-// All that a failure asks for, from one table: the restart, the replay of its line in the lowest order, and the list of
+// All that a failure asks for, from one table: the restart, what the lowest order from its line comes to, and the list of
 // the line's messages, which takes the place of the table. A refusal leaves the table as it was.
 pub fn recover(table: &mut [u32], step: u64, set: u64) -> Recovered
     ensures restart { λ r. ⌜ r .restarted ≡ restartAnswer (now (table .entry)) step set ⌝ }

@@ -22,6 +22,7 @@ use Rattle.recovery_line.proofs.Sets.{placesOf}
 use Rattle.recovery_line.specs.Given.{lineIn, lineTo, restartPhaseIn, numbersOf, backOf, backOnes}
 use Rattle.restart.specs.declared.Restarted.{Restarted}
 use Rattle.preparing.specs.Faults.{failureFaultOf}
+use Rattle.preparing.specs.Inner.Prepared.{Takeable}
 use Rattle.restart.specs.Restart.{engineLineOf, ofEach, restartBy, restartOf, restartRefusal, restartAnswer, Restarts}
 
 -- ---- From the full table
@@ -83,3 +84,9 @@ module _ (t : Trace) (step set : ℕ) (r : Restarted) (e : r ≡ restartOf t ste
 
   pub count-in : r .line .count ≡ t .procs
   count-in = ap (λ (l : Line). l .count) line-is
+
+-- the engine's line may be taken
+pub engine-takeable : (t : Trace) (full : List ℕ) → Marked t (ruleOf t) full → (cut set : ℕ) → cut ≤ size t → (r : Restarted) → r ≡ restartOf t cut set → Restarts t cut set r
+    → Takeable t full (r .line) cut
+engine-takeable t full M cut set h r e m =
+    record { marked = M; within = h; count-is = count-in t cut set r e; failed = set; permitted = m .greatest .permitted }

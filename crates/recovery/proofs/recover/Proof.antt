@@ -4,6 +4,7 @@ use lib.Seq.{length-take-le}
 use Rattle.words.specs.Area.{areaWords}
 use Rattle.table.specs.Held.{held}
 use Rattle.preparing.proofs.Preparing.{no-room, step-within}
+use Rattle.recovery.proofs.Clearing.{only-trace}
 use Rattle.recovery.proofs.Recovering.{refuses-recovery, recovers}
 use mathlib.Core.Path.{sym}
 use borrow.Author.Needs.{needs}
@@ -38,7 +39,7 @@ recover-from-requires c κs =
     let if1 = c .before .before .if1 in
     let args = c .before .before .before .before .before .before .before .before .args in
     let F = (open-failure .ensures .1) (if1 .left) in
-    (length-take-le areaWords (args .table .now) (F .opened .long), (held (args .table .now), F .opened .marked, step-within (args .table .now) _ (args .step) (args .set) _ F))
+    (only-trace (args .table .now) (F .opened .holds), (held (args .table .now), F .opened .marked, step-within (args .table .now) _ (args .step) (args .set) _ F))
 
 returns-2 : tie.Need-returns-2
 returns-2 c =

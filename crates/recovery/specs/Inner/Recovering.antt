@@ -1,12 +1,13 @@
 -- What `recover` makes of a full table. No public contract cites these.
-use Prim.Native.Nat.{ℕ, _+_, _≤_}
+use Prim.Native.Nat.{ℕ, _+_, _≤_, _<_}
 use mathlib.Core.Path.{_≡_}
 use mathlib.Core.List.{List}
-use lib.ListN.{length}
+use lib.ListN.{length, getD}
 use Rattle.words.specs.Area.{areaWords, wordsFrom}
 use Rattle.trace.specs.Trace.{Trace}
 use Rattle.theory.specs.Line.{Run, runAt}
 use Rattle.theory.specs.Order.{run, lowestOrder}
+use Rattle.columns.specs.Inner.Columns.{traceWords}
 use Rattle.listing.specs.Listing.{listWord}
 use Rattle.recovery_line.specs.Given.{lineIn}
 use Rattle.orders.specs.Answer.{answerOf}
@@ -14,6 +15,10 @@ use Rattle.recovery.specs.declared.Recovered.{Recovered}
 use Rattle.messages.specs.Messages.{countsOf, messagesRefusal}
 use Rattle.restart.specs.Restart.{restartOf, Restarts, restartRefusal}
 use Rattle.recovery.specs.Answers.{refusal}
+
+-- an area that holds a trace and no more: its words after those of a trace are 0
+abbrev pub TraceOnly : List ℕ → Type 0
+TraceOnly area = (length area ≡ areaWords) × ((k : ℕ) → traceWords ≤ k → k < areaWords → getD area k 0 ≡ 0)
 
 -- the run of a trace with the line that was found
 abbrev pub foundRun : Trace → ℕ → Recovered → Run
