@@ -11,7 +11,7 @@ use lib.ListN.{length, getD, set, length-set}
 use lib.Seq.{getD-set-same, getD-set-other}
 use borrow.Author.Tests.{le-leb, lt-leb, lt-ltb}
 use Rattle.words.proofs.Cases.{by-eq, by-lt, clash}
-use Rattle.trace.specs.declared.Event.the-variants.{Send, Recv, Save}
+use Rattle.trace.specs.declared.Event.the-variants.{Send, Recv}
 use Rattle.trace.specs.Trace.{Trace}
 use Rattle.theory.specs.Events.{send, recv, size, eventAt, at, kind, sends, recvs, sent, rcvd, sendOf, recvOf}
 use Rattle.theory.specs.Epochs.{epochAt, phaseAt, loggedBy, ruleOf}

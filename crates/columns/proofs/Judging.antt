@@ -1,8 +1,8 @@
 -- Events judged one after another. What the tables hold after some events is said of every well-formed trace that begins
 -- with these, since nothing is known of the rest: so the next one is judged by the working words, and noted if it is fit.
-use Prim.Native.Nat.{ℕ, suc, _+_, _*_, _<_, _≤_}
+use Prim.Native.Nat.{ℕ, suc, _+_, _<_, _≤_}
 use mathlib.Core.Path.{_≡_, refl, sym, ap, _∙_}
-use mathlib.Core.Bool.{Bool, true, false, _&&_, not, cond, and-true}
+use mathlib.Core.Bool.{Bool, true, _&&_, not, cond, and-true}
 use mathlib.Core.List.{List, [], _∷_, _++_, append-assoc, append-nil}
 use native.Mathlib.Omega.{arith}
 use native.Mathlib.Numerals.{add-one}
@@ -23,25 +23,10 @@ use Rattle.theory.specs.Epochs.{loggedBy, ruleOf}
 use Rattle.theory.proofs.Epochs.{epoch-is}
 use Rattle.theory.proofs.WellFormed.{valid, count-cnt}
 use Rattle.columns.specs.Inner.Columns.{fullWords, Columns, Flagged}
-use Rattle.columns.specs.Inner.Filling.{noteFull, noteWork, oldestOf, pairFits, fitIn, Filled, Working, Awaits}
+use Rattle.columns.specs.Inner.Filling.{noteFull, noteWork, oldestOf, pairFits, fitIn, Working, Begins, Noted, Awaits}
 use Rattle.columns.proofs.Bounds.{well-few}
 use Rattle.columns.proofs.Columns.{found}
 use Rattle.columns.proofs.Passes.{begin-filled, begin-working, notable, next-filled, next-working, filled-columns}
-
--- a well-formed trace that begins with some events
-pub record Begins (es : List Event) (t : Trace) : Type 0 where
-  pub formed : wellFormed t ≡ true
-  pub rest : List Event
-  pub events : t .events ≡ es ++ rest
-
--- the tables after the events es of a run of n processes, all of them fit
-pub record Noted (n : ℕ) (es : List Event) (full work : List ℕ) : Type 0 where
-  pub least : 2 ≤ n
-  pub most : n ≤ 64
-  pub few : length es ≤ 2048
-  pub fit : allFit n [] es ≡ true
-  pub filled : (t : Trace) → Begins es t → Filled t (length es) full
-  pub working : (t : Trace) → Begins es t → Working t (length es) work
 
 -- ---- Before the first event
 

@@ -70,7 +70,7 @@ module _ (a : List ℕ) where
   each-zeros i (suc n) h = and-both _ _ (eq-eqb _ _ (h i (omega arith) (omega arith))) (each-zeros (suc i) n (λ k l m. h k (omega arith) (omega arith)))
 
 -- an event read with a value of 64 bits has one that fits
-value-fits : (w v : ℕ) → v ≤ 18446744073709551615 → valueFits (eventOf w v) ≡ true
+pub value-fits : (w v : ℕ) → v ≤ 18446744073709551615 → valueFits (eventOf w v) ≡ true
 unfolding eventOf
 value-fits w v h =
     by-bool (eqb (topIn w) 1)

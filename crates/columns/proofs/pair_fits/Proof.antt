@@ -1,7 +1,5 @@
 -- `columns::pair_fits` meets its contract, one test for each way out.
 use borrow.Author.Tests.{lt-ltb, le-ltb}
-use native.Mathlib.Omega.{arith}
-use borrow.Author.Needs.{needs}
 use Rattle.columns.proofs.pair_fits.Statement.{statement}
 use Rattle.columns.proofs.pair_fits.Tie as tie
 

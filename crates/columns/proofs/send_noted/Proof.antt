@@ -4,7 +4,6 @@ use mathlib.Core.Bool.{false}
 use borrow.Author.Tests.{not-true, not-false}
 use Rattle.words.proofs.Cases.{clash}
 use Rattle.trace.specs.declared.Event.the-variants.{Send}
-use native.Mathlib.Omega.{arith}
 use borrow.Author.Needs.{needs}
 use Rattle.columns.proofs.send_noted.Statement.{statement}
 use Rattle.columns.proofs.send_noted.Tie as tie

@@ -3,13 +3,13 @@
 use Prim.Native.Nat.{ℕ, suc, _+_, _-_, _*_, _<_, _≤_}
 use mathlib.Core.Path.{_≡_}
 use mathlib.Core.Bool.{Bool, true, _&&_, not, cond}
-use mathlib.Core.List.{List}
+use mathlib.Core.List.{List, [], _++_}
 use lib.Dec.{ltb, leb, eqb}
 use lib.ListN.{length, getD, set}
 use Rattle.trace.specs.declared.Event.{Event}
 use Rattle.trace.specs.declared.Event.the-variants.{Send, Recv, Save, Done}
 use Rattle.trace.specs.Trace.{Trace}
-use Rattle.trace.specs.Fit.{valueFits}
+use Rattle.trace.specs.Fit.{valueFits, allFit, wellFormed}
 use Rattle.theory.specs.Events.{at, sends, recvs, sent, rcvd, sendOf, recvOf}
 use Rattle.theory.specs.Epochs.{joined, epochAt, phaseAt, loggedBy, ruleOf, finishedAt}
 use Rattle.columns.specs.Inner.Columns.{numberBase, epochBase, phaseBase, matchBase, loggedBase, fullWords}
@@ -139,6 +139,21 @@ pub record Working (t : Trace) (x : ℕ) (work : List ℕ) : Type 0 where
       → getD work (nextBase + d) 0 ≡ cond (ltb (sent t p q d) (sent t p q x)) (sendOf t p q (suc (sent t p q d))) 0
   -- nothing is linked to an event that is to come
   pub fresh : (d : ℕ) → x < d → getD work (nextBase + d) 0 ≡ 0
+
+-- a well-formed trace that begins with some events
+pub record Begins (es : List Event) (t : Trace) : Type 0 where
+  pub formed : wellFormed t ≡ true
+  pub rest : List Event
+  pub events : t .events ≡ es ++ rest
+
+-- the tables after the events es of a run of n processes, all of them fit
+pub record Noted (n : ℕ) (es : List Event) (full work : List ℕ) : Type 0 where
+  pub least : 2 ≤ n
+  pub most : n ≤ 64
+  pub few : length es ≤ 2048
+  pub fit : allFit n [] es ≡ true
+  pub filled : (t : Trace) → Begins es t → Filled t (length es) full
+  pub working : (t : Trace) → Begins es t → Working t (length es) work
 
 -- the words that an event reads are in their range, so that no index is past its end, no sum wraps and 16 bits are
 -- enough
