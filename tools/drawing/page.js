@@ -26,9 +26,11 @@ const shown = {x: 0, y: 0, scale: 1};
 const size = () => ({width: stage.clientWidth || 1, height: stage.clientHeight || 1});
 const LEAST = 0.02, MOST = 8;
 
+/* The picture is moved as a whole: another viewBox would lay out each of its thousands of marks anew. */
 function show() {
-    const {width, height} = size();
-    picture.setAttribute("viewBox", `${shown.x} ${shown.y} ${width / shown.scale} ${height / shown.scale}`);
+    const {width, height} = size(), {x, y, scale} = shown;
+    picture.style.transform = `translate(${-x * scale}px, ${-y * scale}px) scale(${scale})`;
+    stage.dataset.shown = [x, y, width / scale, height / scale].join(" ");
     showNames(height);
     showNumbers(width);
 }
@@ -66,9 +68,10 @@ function zoomMiddle(factor) {
 /* Moves the picture so that a point comes into sight, and no further than that. */
 function reveal(x, y) {
     const {width, height} = size(), left = (x - shown.x) * shown.scale, top = (y - shown.y) * shown.scale;
-    if (left < 110 || left > width - 60) shown.x = x - width / 2 / shown.scale;
-    if (top < 40 || top > height - 50) shown.y = y - height / 2 / shown.scale;
-    show();
+    const aside = left < 110 || left > width - 60, beyond = top < 40 || top > height - 50;
+    if (aside) shown.x = x - width / 2 / shown.scale;
+    if (beyond) shown.y = y - height / 2 / shown.scale;
+    if (aside || beyond) show();
 }
 
 const rows = data.processes.map((row, process) => ({...row, process})).filter(row => row.y !== null);
@@ -185,9 +188,10 @@ function bandWords(channel) {
     const inside = bandMessages(channel), left = inside.filter(message => !message.state).length;
     const phases = inside.map(message => message.phase);
     const [least, most] = [Math.min(...phases), Math.max(...phases)];
-    return `${inside.length} kept messages from ${inside[0].sender} to ${inside[0].receiver}: ` +
-        `${inside[0].no} to ${inside.at(-1).no}\n${least === most ? `phase ${least}` : `phases ${least} to ${most}`}\n` +
-        `${left} still to be handed over`;
+    return [`${inside.length} kept messages from ${inside[0].sender} to ${inside[0].receiver}: ` +
+            `${inside[0].no} to ${inside.at(-1).no}`,
+            least === most ? `phase ${least}` : `phases ${least} to ${most}`,
+            `${left} still to be handed over`].join("\n");
 }
 
 function bandMessages(channel) {
@@ -195,16 +199,19 @@ function bandMessages(channel) {
     return messages.filter(one => one.kind === "kept" && one.sender === sender && one.receiver === receiver);
 }
 
+/* The marks of a message and of the events at its ends, as far as they are drawn. */
+const marksOf = message => [messageMarks.get(String(messages.indexOf(message))), eventMarks.get(String(message.sent)),
+                            eventMarks.get(String(message.received))].filter(Boolean);
+
 let hot = [];
 function hint(target, left, top) {
     hot.forEach(mark => mark.classList.remove("hot"));
     hot = [];
     tip.hidden = !target;
     if (!target) return;
-    const {e, m, b} = target.dataset;
-    const about = b ? bandMessages(b) : m ? [messages[m]] : data.events[e - 1][2] < 0 ? [] : [messages[data.events[e - 1][2]]];
-    hot = [target, ...about.flatMap(one => [messageMarks.get(String(messages.indexOf(one))), eventMarks.get(String(one.sent)),
-                                            eventMarks.get(String(one.received))])].filter(Boolean);
+    const {e, m, b} = target.dataset, own = e ? messages[data.events[e - 1][2]] : messages[m];
+    const about = b ? bandMessages(b) : own ? [own] : [];
+    hot = [target, ...about.flatMap(marksOf)];
     hot.forEach(mark => mark.classList.add("hot"));
     tip.textContent = b ? bandWords(b) : m ? messageWords(messages[m]) : eventWords(Number(e));
     tip.style.left = `${Math.max(4, Math.min(left + 14, innerWidth - tip.offsetWidth - 8))}px`;
@@ -218,9 +225,9 @@ function point(event) {
 // ---- The replay
 
 const processes = data.processes.map(() => ({done: []}));     // the events that each has done in the replay
-const left = {orphans: messages.filter(one => one.kind === "orphan"), kept: messages.filter(one => one.kind === "kept")};
+const orphans = messages.filter(one => one.kind === "orphan"), kept = messages.filter(one => one.kind === "kept");
 const keptChannels = new Map();
-for (const message of left.kept) {
+for (const message of kept) {
     const channel = `${message.sender}-${message.receiver}`;
     keptChannels.set(channel, [...(keptChannels.get(channel) || []), message]);
 }
@@ -232,16 +239,25 @@ let reached = 0;
 /* What a step leaves of its message; before it, a received one was in the channel and any other nowhere. */
 const AFTER = {put: "put", handed: "put", received: "received", dropped: "dropped"};
 
+/* What stands behind the cut is pale until the replay comes to it. */
+function setClass(mark, name, on) {
+    if (!mark || !name) return;
+    mark.classList.toggle(name, on);
+    if (mark.parentNode.classList.contains("pale")) mark.parentNode.classList.toggle("bright", on);
+}
+
 function setState(place, state) {
     const message = messages[place], mark = messageMarks.get(String(place));
-    if (mark && message.state) mark.classList.remove(message.state);
+    setClass(mark, message.state, false);
+    setClass(mark, state, true);
     message.state = state;
-    if (mark && state) mark.classList.add(state);
 }
+
+const setDone = (event, on) => setClass(eventMarks.get(String(event)), "again-done", on);
 
 function carryOut(step) {
     if (step.event) {
-        eventMarks.get(String(step.event))?.classList.add("again-done");
+        setDone(step.event, true);
         processes[step.process].done.push(step.event);
     }
     if (step.message >= 0) setState(step.message, AFTER[step.did]);
@@ -249,7 +265,7 @@ function carryOut(step) {
 
 function takeBack(step) {
     if (step.event) {
-        eventMarks.get(String(step.event))?.classList.remove("again-done");
+        setDone(step.event, false);
         processes[step.process].done.pop();
     }
     if (step.message >= 0) setState(step.message, step.did === "received" ? "put" : "");
@@ -258,8 +274,10 @@ function takeBack(step) {
 function stepWords(step) {
     const who = `Process ${step.process}, event ${step.event}:`, message = messages[step.message];
     switch (step.did) {
-    case "put": return `${who} sends ${withValue(message)}${message.kind === "again" ? " again" : ""}; it is put into the channel.`;
-    case "dropped": return `${who} sends ${withValue(message)} again; it is dropped, since process ${message.receiver} has it.`;
+    case "put": return `${who} sends ${withValue(message)}${message.kind === "again" ? " again" : ""}; ` +
+                       "it is put into the channel.";
+    case "dropped": return `${who} sends ${withValue(message)} again; it is dropped, since process ` +
+                           `${message.receiver} has it.`;
     case "received": return `${who} receives ${withValue(message)}.`;
     case "handed": return `Kept ${withValue(message)} is handed over: put into the channel from what process ` +
                           `${message.sender} saved.`;
@@ -292,7 +310,7 @@ function waitWords({why, about, event}) {
     }
 }
 
-const orphansUpTo = phase => left.orphans.filter(one => !one.state && one.phase <= phase).length;
+const orphansUpTo = phase => orphans.filter(one => !one.state && one.phase <= phase).length;
 
 const tableRows = data.processes.map((row, process) => {
     const made = document.createElement("tr");
@@ -321,19 +339,26 @@ function position(process) {
     return eventX(event) === null ? data.at[event < data.first ? "start" : "width"] : eventX(event) + data.at.mark + 1;
 }
 
+/* Only what changes is written: with 64 processes most of a step is the same as before. */
+function setAttribute(mark, name, value) {
+    if (mark.getAttribute(name) !== value) mark.setAttribute(name, value);
+}
+
+function setText(cell, words) {
+    if (cell.textContent !== words) cell.textContent = words;
+}
+
 function showWaits(step) {
     data.processes.forEach((row, process) => {
         const wait = waitOf(process), made = tableRows[process];
         const kind = wait.why + (step && step.process === process ? " now" : "");
         const next = wait.event ? `${wait.event}: ${data.events[wait.event - 1][0]}` : "";
-        const words = waitWords(wait);
-        if (made.className !== kind) made.className = kind;
-        if (made.children[1].textContent !== next) made.children[1].textContent = next;
-        if (made.children[2].textContent !== words) made.children[2].textContent = words;
-        const token = tokens[process];
-        if (!token) return;
-        token.setAttribute("transform", `translate(${position(process)},${row.y})`);
-        token.setAttribute("class", `token ${wait.why === "may" ? "" : wait.why === "end" ? "end" : "waits"}`);
+        setAttribute(made, "class", kind);
+        setText(made.children[1], next);
+        setText(made.children[2], waitWords(wait));
+        if (!tokens[process]) return;
+        setAttribute(tokens[process], "transform", `translate(${position(process)},${row.y})`);
+        setAttribute(tokens[process], "class", `token ${{may: "", end: "end"}[wait.why] ?? "waits"}`);
     });
 }
 
@@ -345,7 +370,7 @@ function showKept(unready) {
         const waiting = keptChannels.get(channel).filter(one => !one.state);
         const band = bandMarks.get(channel);
         if (band) {
-            band.querySelector("text").textContent = waiting.length || "";
+            setText(band.querySelector("text"), waiting.length ? String(waiting.length) : "");
             band.classList.toggle("spent", waiting.length === 0);
         }
         if (waiting.length) items.push({message: waiting[0], more: waiting.length - 1});
@@ -363,13 +388,12 @@ function showKept(unready) {
 }
 
 function showSums() {
-    const orphans = left.orphans.filter(one => !one.state);
-    const unready = Math.min(Infinity, ...orphans.map(one => one.phase));
-    const kept = left.kept.filter(one => !one.state).length, inside = messages.filter(one => one.state === "put").length;
+    const unsent = orphans.filter(one => !one.state), unready = Math.min(Infinity, ...unsent.map(one => one.phase));
+    const waiting = kept.filter(one => !one.state).length, inside = messages.filter(one => one.state === "put").length;
     find("sums").textContent = [
         unready === Infinity ? "Every phase is ready" : `Phases below ${unready} are ready`,
-        `${counted(orphans.length, "orphan", "orphans")} to be sent again`,
-        `${kept} kept to be handed over`, `${counted(inside, "message", "messages")} in channels`].join("; ") + ".";
+        `${counted(unsent.length, "orphan", "orphans")} to be sent again`,
+        `${waiting} kept to be handed over`, `${counted(inside, "message", "messages")} in channels`].join("; ") + ".";
     showKept(unready);
 }
 
@@ -398,7 +422,8 @@ function beginning() {
 
 function ending() {
     if (reached < steps.length) return "";
-    return data.complete ? " The replay is complete: nothing is left to do." : " The order ends here, and is not complete.";
+    return data.complete ? " The replay is complete: nothing is left to do."
+                         : " The order ends here, and is not complete.";
 }
 
 function go(target) {
@@ -408,7 +433,8 @@ function go(target) {
     const step = reached ? steps[reached - 1] : null;
     slider.value = reached;
     find("place").value = `${reached} of ${steps.length}`;
-    find("count").textContent = step ? `Step ${reached} of ${steps.length}, choice ${step.choice}` : "Before the first step";
+    find("count").textContent = step ? `Step ${reached} of ${steps.length}, choice ${step.choice}`
+                                     : "Before the first step";
     find("did").textContent = (step ? stepWords(step) : beginning()) + ending();
     showSums();
     showWaits(step);
@@ -428,12 +454,12 @@ const toggle = () => {
     play(!playing);
 };
 const actions = {
-    first: () => go(0), back: () => go(reached - 1), on: () => go(reached + 1), last: () => go(steps.length), play: toggle,
-    closer: () => zoomMiddle(1.3), farther: () => zoomMiddle(1 / 1.3), all: showAll, "to-cut": showCut};
+    first: () => go(0), back: () => go(reached - 1), on: () => go(reached + 1), last: () => go(steps.length),
+    play: toggle, closer: () => zoomMiddle(1.3), farther: () => zoomMiddle(1 / 1.3), all: showAll, "to-cut": showCut};
 for (const id in actions) find(id).addEventListener("click", actions[id]);
 slider.addEventListener("input", () => go(Number(slider.value)));
-const keys = {ArrowRight: "on", ArrowLeft: "back", Home: "first", End: "last", " ": "play", "+": "closer", "-": "farther",
-              "0": "all", c: "to-cut"};
+const keys = {ArrowRight: "on", ArrowLeft: "back", Home: "first", End: "last", " ": "play", "+": "closer",
+              "-": "farther", "0": "all", c: "to-cut"};
 document.addEventListener("keydown", event => {
     if (event.ctrlKey || event.metaKey || event.altKey || !keys[event.key]) return;
     // A button takes its own blank, and the slider its own arrows.

@@ -7,7 +7,7 @@ import json
 from pathlib import Path
 from xml.sax.saxutils import escape
 
-from .picture import Picture, failed_words
+from .picture import Picture
 from .recovery import restart_events
 from .svg import STYLE, decimal, element, heads
 
@@ -22,6 +22,7 @@ PAGE = """<!DOCTYPE html>
       content="default-src 'none'; style-src 'unsafe-inline'; script-src 'unsafe-inline'">
 <title>{title}</title>
 <style>{svg_style}{style}</style>
+<noscript><style>#stage {{ overflow: auto; }}</style></noscript>
 </head>
 <body>
 <header><h1>{title}</h1><p>{total}</p>{left_out}</header>
@@ -118,10 +119,10 @@ def inline(data):
 def picture_svg(picture):
     at = picture.at
     height = at.axis + 24
-    return element("svg", "\n", heads(picture.head_size(), ("plain", "orphan", "kept", "put", "received")), "\n", "\n".join(picture.drawn()), "\n",
-                   element("g", id="tokens"), id="picture", xmlns="http://www.w3.org/2000/svg", role="img",
-                   aria_label=picture.heading()[0], viewBox=f"0 0 {decimal(at.width)} {decimal(height)}",
-                   preserveAspectRatio="xMinYMin meet", **picture.dense())
+    markers = heads(picture.head_size(), ("plain", "orphan", "kept", "put", "received"))
+    return element("svg", "\n", markers, "\n", "\n".join(picture.drawn()), "\n", element("g", id="tokens"),
+                   id="picture", xmlns="http://www.w3.org/2000/svg", role="img", aria_label=picture.heading()[0],
+                   width=at.width, height=height, **picture.dense())
 
 
 def legend_svg(picture):

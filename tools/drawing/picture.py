@@ -321,13 +321,14 @@ class Picture:
                                  self.mark(kind, x + 9, y) + draw_end(x + 27, y))
 
         def band(x, y):
-            return stroke(x + 4, y - 10, x + 30, y - 10, "line") + stroke(x + 4, y + 10, x + 30, y + 10, "line") + \
-                "".join(ribbon(x + 17, y - 10, y + 10, 7))
+            lines = (stroke(x + 4, y + side, x + 30, y + side, "line") for side in (-9, 21))
+            return "".join([*lines, *ribbon(x + 17, y - 9, y + 21, 7)])
 
         return [
             ("send", mark("send")),
             ("receive", mark("receive")),
-            ("checkpoint: epoch 2, phase 3", lambda x, y: mark("save")(x, y) + written("e2 p3", x + 17, y - 9, "small")),
+            ("checkpoint: epoch 2, phase 3",
+             lambda x, y: mark("save")(x, y) + written("e2 p3", x + 17, y - 9, "small")),
             ("being written, until its done", written_until("save", lambda x, y: self.mark("done", x, y))),
             ("unfinished: no restart here", written_until("unfinished", lambda x, y: "")),
             ("failed", on_line(lambda x, y: cross(x, y, 6))),
@@ -349,7 +350,7 @@ class Picture:
         for place, (words, sign) in enumerate(entries):
             x, y = 24 + place % columns * step, top + place // columns * 28
             drawn.append(element("g", sign(x, y), written(words, x + 42, y + 4, "legend")))
-        return drawn, y + 26
+        return drawn, y + (40 if self.bands else 26)        # a band's sign is taller than the others
 
     def take_marks(self):
         """Takes the room of what is no label and stands fast: the cut, names, events and heads of arrows in transit."""
@@ -421,11 +422,10 @@ def split(points, cut):
 
 def ribbon(x, y1, y2, count):
     """The band of kept messages at x from one process line to another, and their count in it."""
-    down = 1 if y2 > y1 else -1
-    words = str(count)
-    middle = (y1 + y2) / 2
+    down, words, middle = 1 if y2 > y1 else -1, str(count), (y1 + y2) / 2
+    head = f"M{decimal(x - 5)},{decimal(y2 - 8 * down)}h10L{decimal(x)},{decimal(y2)}Z"
     return [stroke(x, y1, x, y2 - 7 * down, "band"),
-            element("path", d=f"M{decimal(x - 5)},{decimal(y2 - 8 * down)}h10L{decimal(x)},{decimal(y2)}Z", cls="point"),
+            element("path", d=head, cls="point"),
             element("circle", cx=x, cy=y1, r=2.6, cls="point"),
             box(x, middle, written_width(words, 10) + 3, 12, "behind"),
             written(words, x, middle + 3.6, "count")]

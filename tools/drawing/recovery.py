@@ -58,7 +58,8 @@ def read_output(text, name):
     processes, orphans, kept = leading(lines, PROCESS), leading(lines, ORPHAN), leading(lines, KEPT)
     total = processes and lines and numbers(TOTAL, lines[0])
     place = len(every_line) - len(lines) + 1
-    check(total, f"{name}, line {place}: not what hallback prints here: {quoted(lines[0]) if lines else 'no more lines'}")
+    found = quoted(lines[0]) if lines else "no more lines"
+    check(total, f"{name}, line {place}: not what hallback prints here: {found}")
     check(len(lines) == 1, f"{name}, line {place + 1}: text after the total line")
     check([row[0] for row in processes] == list(range(len(processes))),
           f"{name} is not what hallback prints: its processes are not 0, 1, 2 and so on")
@@ -129,7 +130,8 @@ def check_steps(run, recovery, restarts):
     listed = sum(place > restarts[event.at] for place, event in enumerate(run.events, 1))
     kept = len(recovery.kept)
     check(recovery.steps == listed + kept,
-          f"steps={recovery.steps}, but events after the restarts ({listed}) and kept messages ({kept}) are {listed + kept}")
+          f"steps={recovery.steps}, but events after the restarts ({listed}) and kept messages ({kept}) are "
+          f"{listed + kept}")
 
 
 def check_belongs(run, recovery, name):

@@ -98,8 +98,8 @@ def heads(size, kinds=("plain", "orphan", "kept")):
     for kind in kinds:
         for name, cls in ("end", f"head of-{kind}"), ("open", f"head of-{kind} open"):
             shape = element("path", d="M0.7,1.2L9,5L0.7,8.8Z", cls=cls)
-            markers.append(element("marker", shape, id=f"{kind}-{name}", viewBox="0 0 10 10", refX=9, refY=5, orient="auto",
-                                   markerWidth=size, markerHeight=size, markerUnits="userSpaceOnUse"))
+            markers.append(element("marker", shape, id=f"{kind}-{name}", viewBox="0 0 10 10", refX=9, refY=5,
+                                   orient="auto", markerWidth=size, markerHeight=size, markerUnits="userSpaceOnUse"))
     return element("defs", *markers)
 
 
@@ -111,7 +111,8 @@ def cross(x, y, r):
 def flag(x, y, half, size):
     """The mark of a restart: a pole across the process line, with a pennant that points on."""
     pole = f"M{decimal(x)},{decimal(y + half)}V{decimal(y - half)}"
-    return element("path", d=f"{pole}l{decimal(size)},{decimal(size / 2)}l{decimal(-size)},{decimal(size / 2)}", cls="flag")
+    pennant = f"l{decimal(size)},{decimal(size / 2)}l{decimal(-size)},{decimal(size / 2)}"
+    return element("path", d=pole + pennant, cls="flag")
 
 
 def pale(after_cut, *children):

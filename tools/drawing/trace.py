@@ -103,7 +103,8 @@ class Run:
     def send(self, at, to, value):
         self.check_channel(at, to)
         self.sent_on[at, to] += 1
-        message = Message(at, to, self.sent_on[at, to], value, len(self.events) + 1, len(self.saves[at]), self.phase[at])
+        message = Message(at, to, self.sent_on[at, to], value, len(self.events) + 1, len(self.saves[at]),
+                          self.phase[at])
         self.messages.append(message)
         self.transit[at, to].append(message)
         self.record("send", at, message)

@@ -70,7 +70,7 @@ def bundled(run, recovery, view):
 
 
 def lanes_of(channels, row):
-    """A lane for each channel, so that no two in a lane meet: from the top, each in the first lane that is free there."""
+    """A lane for each channel, so that no two in a lane meet: from the top, each in the first that is free there."""
     lanes, last = {}, []
     for channel in sorted(channels, key=lambda channel: sorted(row[process] for process in channel)):
         top, bottom = sorted(row[process] for process in channel)
@@ -95,7 +95,7 @@ class Layout:
         self.events = [place for place, event in enumerate(run.events, 1)
                        if view.first <= place <= view.last and event.at in self.row]
         count, rows = len(self.events), len(self.row)
-        # Roomy columns for few events; from 80 events on the width is held, until columns would become too narrow to see.
+        # Roomy columns for few events; from 80 events on the width is held, until columns would be too narrow to see.
         self.dx = max(8.0, min(22.0, 1760 / max(count, 1)), min(60.0, 860 / (count + 2)))
         self.dy = max(30.0, min(76.0, 608 / max(rows, 1)))
         self.half = min(15.0, self.dy / 3)                  # of the band around a process line
