@@ -132,13 +132,15 @@ stage.addEventListener("wheel", event => {
 const pointers = new Map();
 stage.addEventListener("pointerdown", event => {
     if (event.target.closest("button")) return;
+    point(event);       // a finger points by touching
     pointers.set(event.pointerId, event);
-    stage.setPointerCapture?.(event.pointerId);
+    stage.setPointerCapture(event.pointerId);
     stage.classList.add("moving");
 });
 stage.addEventListener("pointermove", event => {
     const before = pointers.get(event.pointerId);
     if (!before) return point(event);
+    hint(null);
     const box = stage.getBoundingClientRect();
     const other = [...pointers.values()].find(one => one.pointerId !== event.pointerId);
     if (other) {        // two fingers
@@ -336,7 +338,7 @@ find("tokens").append(halo);
 function position(process) {
     const done = processes[process].done, event = done.at(-1);
     if (!event) return data.processes[process].x;
-    return eventX(event) === null ? data.at[event < data.first ? "start" : "width"] : eventX(event) + data.at.mark + 1;
+    return eventX(event) === null ? data.at[event < data.first ? "start" : "end"] : eventX(event) + data.at.mark + 1;
 }
 
 /* Only what changes is written: with 64 processes most of a step is the same as before. */

@@ -277,8 +277,8 @@ class Picture:
                                  (self.recovery.kept, "kept message", "kept messages")):
             hidden = sum(name not in shown for name in names)
             missing += [counted(hidden, one, many)] if hidden else []
-        # "of 64" is the run's, so that nobody takes a part for the whole.
-        words = (f"drawn: events {self.at.first} to {self.at.last} of {count}, "
+        events = f"events {self.at.first} to {self.at.last}" if self.at.first <= self.at.last else "no event"
+        words = (f"drawn: {events} of {count}, "
                  f"{counted(len(self.view.processes), 'process', 'processes')} of {self.run.procs}")
         cut = "" if self.at.has_cut else f"; the cut is after event {self.run.cut}"
         return words + cut + (f"; not drawn: {' and '.join(missing)}" if missing else "")
