@@ -127,7 +127,7 @@ class Layout:
         """After how many columns names are repeated, counted from the cut on both sides; its own names are not here."""
         every = int(self.EVERY / self.dx)
         spots = range(self.before_cut % every, count, every)
-        return [spot for spot in spots if every / 3 < spot < count - every / 3 and
+        return [spot for spot in spots if every / 2 < spot < count - every / 2 and
                 (spot != self.before_cut or not self.has_cut)]
 
     def column(self, number):
