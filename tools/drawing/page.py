@@ -9,7 +9,7 @@ from xml.sax.saxutils import escape
 
 from .picture import Picture
 from .recovery import restart_events
-from .svg import STYLE, decimal, element, heads
+from .svg import STYLE, element, heads
 
 HERE = Path(__file__).resolve().parent
 
