@@ -20,9 +20,12 @@ use Rattle.theory.proofs.Events.{sends-is}
 use Rattle.theory.proofs.Flow.{inv-step}
 use Rattle.theory.specs.Inner.Flow.{ahead, Inv}
 use Rattle.machine.specs.Inner.Words.{noPhase, curW, orpW, takeW, putW, lowW, sendOk, eventOk, processOk, handOk, allowedW, movedW, putInW, eventStepW, processW, applyW}
-use Rattle.columns.specs.Inner.Full.{kindBy, kindW, peerW, phaseW}
+use Rattle.columns.specs.Inner.Full.{procsW, kindBy, kindW, peerW, phaseW}
 use Rattle.theory.specs.Inner.Lists.{head0}
-use Rattle.machine.specs.Inner.Related.{goes, orph, Cols, Chan, Rel}
+use Rattle.machine.specs.Inner.Related.{goes, evs, orph, Cols, Chan, Rel}
+use Rattle.columns.specs.Inner.Columns.{Tabled}
+use Rattle.columns.proofs.Full.{procs-most, size-most, size-is, send-kind}
+use Rattle.machine.specs.Inner.Shapes.{SentOn, Aimed}
 use Rattle.machine.proofs.Told.{told}
 use Rattle.machine.proofs.Facts.{ph-at, evs-head, goes-send, left-none, left-some, to-put, chan-none, chan-some}
 use Rattle.machine.proofs.Moves.{at-next, orp-test, rel-other, rel-drop, rel-send, rel-recv, rel-hand}
@@ -175,6 +178,30 @@ module _ (R : Run) (L : Laws R) (t l g : List ℕ) (K : Cols R t l g) where
         go : (F : List ℕ) → c .F ≡ F → (p < R .trace .procs) ⊎ (putW a (64 * p + q) ≡ 0)
         go [] e = inr (c .pt-is ∙ ap head0 e)
         go (f ∷ fs) e = let b = evs-head R L p q (c .y) f fs (c .y-le) (sym (c .rest) ∙ e) in inl (goes-in p q f (omega (arith, b .0)) (b .1) (b .2))
+
+    -- what the pointers point at
+    pub rel-aimed : Aimed t a
+    rel-aimed = record {
+      procs-few = procs-most (R .trace) t T;
+      events-few = size-most (R .trace) t T;
+      no-event = λ z l h. r .cur z l ∙ no-next z h (s .todo z) refl;
+      put-sent = λ p q hp hq n. let c = r .chan p q hp hq in on-channel p q (c .y) (c .y-le) (evs R p q (c .y)) refl (putW a (64 * p + q)) (c .pt-is ∙ ap head0 (c .rest)) n;
+    }
+      where
+        T : Tabled (R .trace) t
+        T = K .tells .tabled
+
+        no-next : (z : ℕ) → procsW t ≤ z → (es : List ℕ) → s .todo z ≡ es → head0 es ≡ 0
+        no-next z h [] e = refl
+        no-next z h (x ∷ es) e =
+            let n = at-next R L t l g K s i z x es e in absurd (let w : ⊥ = omega (arith, L .process-lt x (n .0) (n .1), n .2, (told R t l g K) .procs-is) in w)
+
+        on-channel : (p q y : ℕ) → y ≤ size (R .trace) → (es : List ℕ) → evs R p q y ≡ es → (m : ℕ) → m ≡ head0 es → (m ≡ 0 → ⊥) → SentOn t p q m
+        on-channel p q y h [] e m em n = absurd (n em)
+        on-channel p q y h (f ∷ fs) e m em n =
+            let b = evs-head R L p q y f fs h e in
+            let k = send-kind (R .trace) t T f (omega (arith, b .0)) (b .1) p q (goes-send R L p q f (b .2)) in
+            rw em (record { within = omega (arith, b .1, size-is (R .trace) t T); kind-is = k .0; from-is = k .1; to-is = k .2 })
 
     hand-from : (p q : ℕ) → p < 64 → q < 64 → (ls : List ℕ) → s .left p q ≡ ls → Agrees (handOk t g a p (64 * p + q)) (putInW l a (64 * p + q)) (handStep R s p q ls)
     unfolding handStep handOk

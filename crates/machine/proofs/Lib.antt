@@ -6,3 +6,5 @@ pub mod Moves
 pub mod Choices
 -- laws of the code
 pub mod Steps
+pub mod Remaining
+pub mod Tree

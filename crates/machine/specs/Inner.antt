@@ -1,3 +1,4 @@
 pub mod Related
 pub mod Shapes
+pub mod Tree
 pub mod Words

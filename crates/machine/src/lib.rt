@@ -5,10 +5,12 @@
 // proofs/Choices that the two agree choice by choice. Assumes nothing.
 ghost use mathlib.Core.Path.{_≡_};
 ghost use Prim.Native.Nat.{_≤_, _<_};
-ghost use lib.ListN.{length, getD};
+ghost use lib.ListN.{length, getD, replicate};
 ghost use Rattle.words.specs.Area.{areaWords};
-ghost use Rattle.machine.specs.Inner.Words.{currentBase, lowPlace, sendOk, eventOk, processOk, handOk, allowedW, lesser, leastWith, lowOf, notedW, noneFrom, keptPhase};
-ghost use Rattle.machine.specs.Inner.Shapes.{FullLong, Pointed, Ranged, Readable};
+ghost use Rattle.columns.specs.Inner.Full.{procsW};
+ghost use Rattle.machine.specs.Inner.Words.{currentBase, lowPlace, noPhase, sendOk, eventOk, processOk, handOk, handsAt, lesser, leastWith, lowOf, notedW, noneRuns, noneHands, noneAllowed, keptPhase};
+ghost use Rattle.machine.specs.Inner.Shapes.{FullLong, Pointed, Ranged, Readable, Aimed};
+ghost use Rattle.machine.specs.Inner.Tree.{Tree, Treed, Leafed};
 use columns::NUMBER_BASE;
 use columns::PHASE_BASE;
 use columns::RESTART_BASE;
@@ -43,7 +45,13 @@ pub const NO_PHASE: u32 = 4294967295;
 // are none.
 pub const HANDS: usize = 64;
 
-const CHOICES: usize = 4160;
+pub const CHOICES: usize = 4160;
+
+// Words of the tree that tells the least phase: word LEAVES + z is the phase of the next orphan of process z, NO_PHASE
+// where it has none; word i before the leaves is the lesser of words 2 i and 2 i + 1, so that word 1 is the least.
+pub const TREE_WORDS: usize = 128;
+
+const LEAVES: usize = 64;
 
 // A pointer of the area: an event, or 0.
 pub fn pointer(area: &[u32], k: usize) -> usize
@@ -66,7 +74,7 @@ pub fn note_taken(full: &[u32], area: &mut [u32], e: usize, m: usize)
 
 // Is no kept message left on a channel whose next message to put in is sent by event m, and whose sender restarts after
 // event x.
-fn send_ok(x: u32, m: usize) -> bool
+pub fn send_ok(x: u32, m: usize) -> bool
     ensures { λ r. ⌜ r ≡ sendOk x m ⌝ }
 {
     if m == 0 {
@@ -124,25 +132,11 @@ pub fn kept_phase(full: &[u32], gates: &[u32], area: &[u32], p: usize, c: usize)
 }
 
 // May the oldest kept message of channel c, of sender p, be handed over: there is one, and its own phase is ready.
-fn hand_ok(full: &[u32], gates: &[u32], area: &[u32], p: usize, c: usize) -> bool
+pub fn hand_ok(full: &[u32], gates: &[u32], area: &[u32], p: usize, c: usize) -> bool
     requires { ⌜ (p < 64) × (c < 4096) × Readable (now full) (now gates) (now area) ⌝ }
     ensures { λ r. ⌜ r ≡ handOk (now (full .entry)) (now (gates .entry)) (now (area .entry)) p c ⌝ }
 {
     kept_phase(full, gates, area, p, c) < area[LOW_PLACE]
-}
-
-// Is the choice allowed.
-pub fn allowed(full: &[u32], gates: &[u32], area: &[u32], c: usize) -> bool
-    requires { ⌜ Readable (now full) (now gates) (now area) ⌝ }
-    ensures { λ r. ⌜ r ≡ allowedW (now (full .entry)) (now (gates .entry)) (now (area .entry)) c ⌝ }
-{
-    if c < HANDS {
-        return process_ok(full, gates, area, c);
-    }
-    if c < CHOICES {
-        return hand_ok(full, gates, area, (c - HANDS) / 64, c - HANDS);
-    }
-    false
 }
 
 // The lesser of two phases.
@@ -181,17 +175,101 @@ pub fn lowest_phase(full: &[u32], area: &[u32], procs: usize) -> u32
     low
 }
 
-// Is no choice allowed.
-pub fn complete(full: &[u32], gates: &[u32], area: &[u32]) -> bool
-    requires { ⌜ Readable (now full) (now gates) (now area) ⌝ }
-    ensures { λ r. ⌜ r ≡ noneFrom (now (full .entry)) (now (gates .entry)) (now (area .entry)) 4160 ⌝ }
+// The leaf of process z becomes v, and the words above it follow, up to one that stays as it was.
+fn raise(tree: &mut [u32], z: usize, v: u32)
+    requires { ⌜ (z < 64) × Tree (now tree) ⌝ }
+    ensures { λ _. ⌜ Leafed (now (tree .entry)) (now (tree .exit)) z v ⌝ }
 {
-    let mut c: usize = 0;
-    while c < CHOICES {
-        if allowed(full, gates, area, c) {
+    tree[LEAVES + z] = v;
+    let mut i = (LEAVES + z) / 2;
+    while i > 0 {
+        let least = lesser(tree[2 * i], tree[2 * i + 1]);
+        if tree[i] == least {
+            return;
+        }
+        tree[i] = least;
+        i = i / 2;
+    }
+}
+
+// The next orphan of process z is sent by event o, if there is one. Mostly it has the phase of the one before.
+pub fn set_leaf(full: &[u32], tree: &mut [u32], z: usize, o: usize)
+    requires { ⌜ (z < 64) × (o < 2049) × FullLong (now full) × Tree (now tree) ⌝ }
+    ensures { λ _. ⌜ Leafed (now (tree .entry)) (now (tree .exit)) z (leastWith (now (full .entry)) o noPhase) ⌝ }
+{
+    let v = least_with(full, o, NO_PHASE);
+    if v != tree[LEAVES + z] {
+        raise(tree, z, v);
+    }
+}
+
+// The tree of a first state, from one that has no phase.
+pub fn build_tree(full: &[u32], area: &[u32], tree: &mut [u32])
+    requires { ⌜ (procsW (now full) ≤ 64) × Ranged (now full) (now area) × (now tree ≡ replicate 128 noPhase) ⌝ }
+    ensures { λ _. ⌜ Treed (now (full .entry)) (now (area .entry)) (now (tree .exit)) ⌝ }
+{
+    let procs = words::wide(full[0]);
+    let mut z: usize = 0;
+    while z < procs {
+        set_leaf(full, tree, z, pointer(area, ORPHAN_BASE + z));
+        z += 1;
+    }
+}
+
+// May none of the first n processes do its next event.
+fn none_runs(full: &[u32], gates: &[u32], area: &[u32], n: usize) -> bool
+    requires { ⌜ (n ≤ 64) × Readable (now full) (now gates) (now area) ⌝ }
+    ensures { λ r. ⌜ r ≡ noneRuns (now (full .entry)) (now (gates .entry)) (now (area .entry)) n ⌝ }
+{
+    let mut z: usize = 0;
+    while z < n {
+        if process_ok(full, gates, area, z) {
             return false;
         }
-        c += 1;
+        z += 1;
     }
     true
+}
+
+// May the message that event e sends be handed over: it is the oldest kept message of its channel, and that one may.
+fn hands(full: &[u32], gates: &[u32], area: &[u32], e: usize) -> bool
+    requires { ⌜ (e < 2049) × Readable (now full) (now gates) (now area) ⌝ }
+    ensures { λ r. ⌜ r ≡ handsAt (now (full .entry)) (now (gates .entry)) (now (area .entry)) e ⌝ }
+{
+    let w = full[EVENT_BASE + e];
+    if trace::kind(w) != SEND {
+        return false;
+    }
+    let p = trace::process(w);
+    let c = 64 * p + trace::peer(w);
+    if pointer(area, PUT_BASE + c) != e {
+        return false;
+    }
+    hand_ok(full, gates, area, p, c)
+}
+
+// May no message of the first n events be handed over.
+fn none_hands(full: &[u32], gates: &[u32], area: &[u32], n: usize) -> bool
+    requires { ⌜ (n ≤ 2048) × Readable (now full) (now gates) (now area) ⌝ }
+    ensures { λ r. ⌜ r ≡ noneHands (now (full .entry)) (now (gates .entry)) (now (area .entry)) n ⌝ }
+{
+    let mut e: usize = 0;
+    while e < n {
+        if hands(full, gates, area, e + 1) {
+            return false;
+        }
+        e += 1;
+    }
+    true
+}
+
+// Is no choice allowed. A kept message is found at its send, so that channels that keep none cost nothing.
+pub fn complete(full: &[u32], gates: &[u32], area: &[u32]) -> bool
+    requires { ⌜ Aimed (now full) (now area) × Readable (now full) (now gates) (now area) ⌝ }
+    ensures { λ r. ⌜ r ≡ noneAllowed (now (full .entry)) (now (gates .entry)) (now (area .entry)) ⌝ }
+{
+    if none_runs(full, gates, area, words::wide(full[0])) {
+        return none_hands(full, gates, area, words::wide(full[1]));
+    }
+    false
 }

@@ -1,36 +1,28 @@
-// One choice carried out in words: a step for each, that tests nothing (the tests are in crate machine, whose
-// specs/Inner/Words says what each step does). Assumes nothing.
+// One choice tried in words: where it may be carried out it is, and each word that this takes is read once. Crate
+// machine has the tests by themselves, and its specs/Inner/Words says what each test and each step does. Assumes
+// nothing.
 ghost use mathlib.Core.Path.{_≡_};
-ghost use Prim.Native.Nat.{_≤_, _<_};
+ghost use mathlib.Core.Bool.{true, false};
+ghost use mathlib.Core.List.{List};
+ghost use Prim.Native.Nat.{ℕ, _≤_, _<_};
 ghost use lib.ListN.{length};
-ghost use Rattle.machine.specs.Inner.Words.{lowOf, dropW, putInW, takeOutW, eventStepW, processW, applyW};
-ghost use Rattle.machine.specs.Inner.Shapes.{Pointed, Ranged, Movable};
+ghost use Rattle.columns.specs.Inner.Full.{procsW, kindW, peerW};
+ghost use Rattle.sets.specs.Inner.Sets.{withIn};
+ghost use Rattle.machine.specs.Inner.Words.{takeW, putW, eventOk, processOk, allowedW, dropW, putInW, takeOutW, eventStepW, processW, applyW, wakesAt, wakes};
+ghost use Rattle.machine.specs.Inner.Shapes.{Pointed, Movable, Tryable};
+ghost use Rattle.machine.specs.Inner.Tree.{Treed};
+ghost use Rattle.moves.specs.Inner.Tried.{Tried};
+use columns::RESTART_BASE;
+use machine::CHOICES;
 use machine::CURRENT_BASE;
 use machine::HANDS;
 use machine::LOW_PLACE;
-use machine::NO_PHASE;
 use machine::ORPHAN_BASE;
 use machine::PUT_BASE;
 use machine::TAKE_BASE;
 use trace::EVENT_BASE;
 use trace::RECEIVE;
 use trace::SEND;
-
-// The least phase of an orphan that is not sent again, where none is below the one given: an orphan of that phase is
-// looked for from one process on, before all are looked at.
-fn lowest_phase_from(full: &[u32], area: &[u32], from: usize, procs: usize, least: u32) -> u32
-    requires { ⌜ (procs ≤ 64) × Ranged (now full) (now area) × (least ≤ lowOf (now full) (now area) procs) ⌝ }
-    ensures { λ r. ⌜ r ≡ lowOf (now (full .entry)) (now (area .entry)) procs ⌝ }
-{
-    let mut z = from;
-    while z < procs {
-        if machine::least_with(full, machine::pointer(area, ORPHAN_BASE + z), NO_PHASE) <= least {
-            return least;
-        }
-        z += 1;
-    }
-    machine::lowest_phase(full, area, procs)
-}
 
 // A link as a word of the area, where pointers have 32 bits.
 fn linked(link: u16) -> u32
@@ -39,80 +31,171 @@ fn linked(link: u16) -> u32
     link as u32
 }
 
-// A message goes into channel c, by its send or handed over.
+// The message that event m sends goes into channel c, whose next one to put in it is.
+fn put(links: &[u16], area: &mut [u32], c: usize, m: usize)
+    requires { ⌜ (c < 4096) × (m < 2049) × (m ≡ putW (now area) c) × (8197 ≤ length (now links)) × Pointed (now area) ⌝ }
+    ensures { λ _. ⌜ now (area .exit) ≡ putInW (now (links .entry)) (now (area .entry)) c ⌝ }
+{
+    area[PUT_BASE + c] = linked(links[4 * m + 1]);
+}
+
+// A message goes into channel c, handed over.
 pub fn put_in(links: &[u16], area: &mut [u32], c: usize)
     requires { ⌜ (c < 4096) × (8197 ≤ length (now links)) × Pointed (now area) ⌝ }
     ensures { λ _. ⌜ now (area .exit) ≡ putInW (now (links .entry)) (now (area .entry)) c ⌝ }
 {
-    let m = machine::pointer(area, PUT_BASE + c);
-    area[PUT_BASE + c] = linked(links[4 * m + 1]);
+    put(links, area, c, machine::pointer(area, PUT_BASE + c));
 }
 
-// The receive e takes the oldest message of channel c, which goes on record.
-fn take_out(full: &[u32], links: &[u16], area: &mut [u32], c: usize, e: usize)
-    requires { ⌜ (c < 4096) × (e < 2049) × Movable (now full) (now links) (now area) ⌝ }
+// The receive e takes the oldest message of channel c, which event m sends and which goes on record.
+fn take_out(full: &[u32], links: &[u16], area: &mut [u32], c: usize, e: usize, m: usize)
+    requires { ⌜ (c < 4096) × (e < 2049) × (m < 2049) × (m ≡ takeW (now area) c) × Movable (now full) (now links) (now area) ⌝ }
     ensures { λ _. ⌜ now (area .exit) ≡ takeOutW (now (full .entry)) (now (links .entry)) (now (area .entry)) c e ⌝ }
 {
-    let m = machine::pointer(area, TAKE_BASE + c);
     area[TAKE_BASE + c] = linked(links[4 * m + 1]);
     machine::note_taken(full, area, e, m);
 }
 
-// The send e of process z is an orphan's: its message is dropped, and counts as sent again. No orphan has a phase below
-// the least so far, except perhaps the next of process z. Mostly that one has the least again, or one of a later
-// process, since in the lowest order those wait.
-fn drop_orphan(full: &[u32], links: &[u16], area: &mut [u32], z: usize, e: usize)
-    requires { ⌜ (z < 64) × (e < 2049) × Movable (now full) (now links) (now area) ⌝ }
-    ensures { λ _. ⌜ now (area .exit) ≡ dropW (now (full .entry)) (now (links .entry)) (now (area .entry)) z e ⌝ }
+// The send e of process z is an orphan's: its message is dropped, and counts as sent again.
+fn drop_orphan(full: &[u32], links: &[u16], tree: &mut [u32], area: &mut [u32], z: usize, e: usize)
+    requires { ⌜ (z < procsW (now full)) × (e < 2049) × Movable (now full) (now links) (now area) × Treed (now full) (now area) (now tree) ⌝ }
+    ensures words { λ _. ⌜ now (area .exit) ≡ dropW (now (full .entry)) (now (links .entry)) (now (area .entry)) z e ⌝ }
+    ensures leaves { λ _. ⌜ Treed (now (full .entry)) (now (area .exit)) (now (tree .exit)) ⌝ }
 {
     let o = linked(links[4 * e + 2]);
     area[ORPHAN_BASE + z] = o;
-    let procs = full[0] as usize;
-    let least = machine::least_with(full, words::wide(o), area[LOW_PLACE]);
-    let low = lowest_phase_from(full, area, z, procs, least);
-    area[LOW_PLACE] = low;
+    machine::set_leaf(full, tree, z, words::wide(o));
+    area[LOW_PLACE] = tree[1];
 }
 
-// Process z does event e, which may be done.
-fn do_event(full: &[u32], links: &[u16], area: &mut [u32], z: usize, e: usize)
-    requires { ⌜ (z < 64) × (e < 2049) × Movable (now full) (now links) (now area) ⌝ }
-    ensures { λ _. ⌜ now (area .exit) ≡ eventStepW (now (full .entry)) (now (links .entry)) (now (area .entry)) z e ⌝ }
+// Process z sends the message of event e, if no kept message of the channel is left to go before it.
+fn try_send(
+    full: &[u32],
+    links: &[u16],
+    gates: &[u32],
+    tree: &mut [u32],
+    area: &mut [u32],
+    z: usize,
+    e: usize,
+    peer: usize,
+) -> u64
+    requires { ⌜ (z < procsW (now full)) × (e < 2049) × (kindW (now full) e ≡ 1) × (peer < 64) × (peer ≡ peerW (now full) e) × Tryable (now full) (now links) (now gates) (now tree) (now area) ⌝ }
+    ensures tried { λ r. ⌜ Tried (eventOk (now (full .entry)) (now (gates .entry)) (now (area .entry)) z e) (eventStepW (now (full .entry)) (now (links .entry)) (now (area .entry)) z e) (wakesAt (now (full .entry)) (now (area .entry)) z e) (now (area .entry)) (now (tree .entry)) (now (area .exit)) (now (tree .exit)) r ⌝ }
+    ensures leaves { λ _. ⌜ Treed (now (full .entry)) (now (area .exit)) (now (tree .exit)) ⌝ }
+{
+    let c = 64 * z + peer;
+    let m = machine::pointer(area, PUT_BASE + c);
+    if machine::send_ok(gates[RESTART_BASE + z], m) {
+        if machine::pointer(area, ORPHAN_BASE + z) == e {
+            drop_orphan(full, links, tree, area, z, e);
+            return sets::with(0, z);
+        }
+        put(links, area, c, m);
+        return sets::with(0, peer);
+    }
+    0
+}
+
+// Process z takes a message from peer by its receive e, if one is in the channel.
+fn try_receive(
+    full: &[u32],
+    links: &[u16],
+    area: &mut [u32],
+    z: usize,
+    e: usize,
+    peer: usize,
+) -> u64
+    requires { ⌜ (z < 64) × (e < 2049) × (kindW (now full) e ≡ 2) × (peer < 64) × (peer ≡ peerW (now full) e) × Movable (now full) (now links) (now area) ⌝ }
+    ensures tried { λ r. ⌜ ((gates tree : List ℕ) → Tried (eventOk (now (full .entry)) gates (now (area .entry)) z e) (eventStepW (now (full .entry)) (now (links .entry)) (now (area .entry)) z e) (wakesAt (now (full .entry)) (now (area .entry)) z e) (now (area .entry)) tree (now (area .exit)) tree r) ⌝ }
+    ensures leaves { λ _. ⌜ ((tree : List ℕ) → Treed (now (full .entry)) (now (area .entry)) tree → Treed (now (full .entry)) (now (area .exit)) tree) ⌝ }
+{
+    let c = 64 * peer + z;
+    let m = machine::pointer(area, TAKE_BASE + c);
+    if m == machine::pointer(area, PUT_BASE + c) {
+        return 0;
+    }
+    take_out(full, links, area, c, e, m);
+    sets::with(0, z)
+}
+
+// Process z does event e, if that may be done; it does not move on.
+fn try_event(
+    full: &[u32],
+    links: &[u16],
+    gates: &[u32],
+    tree: &mut [u32],
+    area: &mut [u32],
+    z: usize,
+    e: usize,
+) -> u64
+    requires { ⌜ (z < procsW (now full)) × (e < 2049) × Tryable (now full) (now links) (now gates) (now tree) (now area) ⌝ }
+    ensures tried { λ r. ⌜ Tried (eventOk (now (full .entry)) (now (gates .entry)) (now (area .entry)) z e) (eventStepW (now (full .entry)) (now (links .entry)) (now (area .entry)) z e) (wakesAt (now (full .entry)) (now (area .entry)) z e) (now (area .entry)) (now (tree .entry)) (now (area .exit)) (now (tree .exit)) r ⌝ }
+    ensures leaves { λ _. ⌜ Treed (now (full .entry)) (now (area .exit)) (now (tree .exit)) ⌝ }
 {
     let w = full[EVENT_BASE + e];
     let kind = trace::kind(w);
     let peer = trace::peer(w);
     if kind == SEND {
-        let o = machine::pointer(area, ORPHAN_BASE + z);
-        if o == e {
-            drop_orphan(full, links, area, z, e);
-            return;
-        }
-        put_in(links, area, 64 * z + peer);
-        return;
+        return try_send(full, links, gates, tree, area, z, e, peer);
     }
     if kind == RECEIVE {
-        take_out(full, links, area, 64 * peer + z, e);
+        return try_receive(full, links, area, z, e, peer);
     }
+    sets::with(0, z)
 }
 
-// Process z does its next event, which may be done, and moves on.
-pub fn do_process(full: &[u32], links: &[u16], area: &mut [u32], z: usize)
-    requires { ⌜ (z < 64) × Movable (now full) (now links) (now area) ⌝ }
-    ensures { λ _. ⌜ now (area .exit) ≡ processW (now (full .entry)) (now (links .entry)) (now (area .entry)) z ⌝ }
+// Process z does its next event and moves on, if it may: the set of whom that may let run, 0 where it may not.
+pub fn try_process(
+    full: &[u32],
+    links: &[u16],
+    gates: &[u32],
+    tree: &mut [u32],
+    area: &mut [u32],
+    z: usize,
+) -> u64
+    requires { ⌜ (z < 64) × Tryable (now full) (now links) (now gates) (now tree) (now area) ⌝ }
+    ensures refused { λ r. ⌜ (r ≡ 0 → (processOk (now (full .entry)) (now (gates .entry)) (now (area .entry)) z ≡ false) × (now (area .exit) ≡ now (area .entry)) × (now (tree .exit) ≡ now (tree .entry))) ⌝ }
+    ensures done { λ r. ⌜ ((r ≡ 0 → ⊥) → (processOk (now (full .entry)) (now (gates .entry)) (now (area .entry)) z ≡ true) × (now (area .exit) ≡ processW (now (full .entry)) (now (links .entry)) (now (area .entry)) z)) ⌝ }
+    ensures woken { λ r. ⌜ ((r ≡ 0 → ⊥) → r ≡ withIn 0 (wakes (now (full .entry)) (now (area .entry)) z)) ⌝ }
+    ensures leaves { λ _. ⌜ Treed (now (full .entry)) (now (area .exit)) (now (tree .exit)) ⌝ }
 {
     let e = machine::pointer(area, CURRENT_BASE + z);
-    do_event(full, links, area, z, e);
+    if e == 0 {
+        return 0;
+    }
+    if gates[z] >= area[LOW_PLACE] {
+        return 0;
+    }
+    let woken = try_event(full, links, gates, tree, area, z, e);
+    if woken == 0 {
+        return 0;
+    }
     area[CURRENT_BASE + z] = linked(links[4 * e]);
+    woken
 }
 
-// Carries out a choice that is allowed.
-pub fn apply(full: &[u32], links: &[u16], area: &mut [u32], c: usize)
-    requires { ⌜ (c < 4160) × Movable (now full) (now links) (now area) ⌝ }
-    ensures { λ _. ⌜ now (area .exit) ≡ applyW (now (full .entry)) (now (links .entry)) (now (area .entry)) c ⌝ }
+// Carries out a choice, if it is allowed; says whether it is.
+pub fn try_choice(
+    full: &[u32],
+    links: &[u16],
+    gates: &[u32],
+    tree: &mut [u32],
+    area: &mut [u32],
+    c: usize,
+) -> bool
+    requires { ⌜ Tryable (now full) (now links) (now gates) (now tree) (now area) ⌝ }
+    ensures allowed { λ r. ⌜ r ≡ allowedW (now (full .entry)) (now (gates .entry)) (now (area .entry)) c ⌝ }
+    ensures done { λ r. ⌜ (r ≡ true → now (area .exit) ≡ applyW (now (full .entry)) (now (links .entry)) (now (area .entry)) c) ⌝ }
+    ensures leaves { λ _. ⌜ Treed (now (full .entry)) (now (area .exit)) (now (tree .exit)) ⌝ }
 {
     if c < HANDS {
-        do_process(full, links, area, c);
-        return;
+        return try_process(full, links, gates, tree, area, c) != 0;
     }
-    put_in(links, area, c - HANDS);
+    if c < CHOICES {
+        if machine::hand_ok(full, gates, area, (c - HANDS) / 64, c - HANDS) {
+            put_in(links, area, c - HANDS);
+            return true;
+        }
+    }
+    false
 }

@@ -9,22 +9,23 @@ use lib.ListN.{length, getD, replicate}
 use Rattle.words.specs.Area.{areaWords}
 use Rattle.theory.specs.Line.{Run}
 use Rattle.theory.specs.Order.{Outcome, carriedOut, refused, run}
-use Rattle.machine.specs.Inner.Words.{currentBase, lowPlace, allowedW, applyW, noneFrom}
+use Rattle.machine.specs.Inner.Words.{currentBase, lowPlace, allowedW, applyW, noneAllowed}
 use Rattle.orders.specs.Inner.Left.{Live, Left}
 use Rattle.orders.proofs.Orders.{live-bad, live-next, live-end, live-start, none-same, rel-bounded, record-left}
 use Rattle.orders.specs.declared.Replayed.{Replayed}
 use Rattle.machine.specs.Inner.Related.{Rel, Started}
-use Rattle.machine.proofs.Told.{told}
-use Rattle.machine.proofs.Facts.{ready-low}
-use Rattle.theory.specs.Replay.{State}
+use Rattle.machine.proofs.Choices.{rel-aimed}
+use Rattle.theory.specs.Replay.{State, start}
 use Rattle.theory.specs.Inner.Flow.{Inv}
-use Rattle.machine.specs.Inner.Shapes.{Pointed, Ranged, Readable, LowIs, Movable, Begun}
-use Rattle.machine.proofs.Steps.{low-same}
+use Rattle.theory.proofs.Loss.{inv-start}
+use Rattle.columns.specs.Inner.Full.{procsW}
+use Rattle.machine.specs.Inner.Shapes.{Pointed, Ranged, Readable, Aimed, Movable, Tryable, Begun}
+use Rattle.machine.specs.Inner.Tree.{Treed}
 use Rattle.orders.specs.Answer.{answerOf, wordsOf}
 
 -- ---- What the tests and the steps of a replay ask of the words, where these stand for a state
 module _ (t l g a₀ : List ℕ) (B : Begun t l g a₀) (a : List ℕ) (long : length a ≡ length a₀) (s : State) (r : Rel (B .run) a s) (i : Inv (B .run) s) where
-  ranged : Ranged t a
+  pub ranged : Ranged t a
   ranged =
       let S = B .started in
       let pointed : Pointed a = record { area-long = long ∙ B .area-long; bounded = rel-bounded (B .run) (S .laws) t l g (S .cols) a s r i } in
@@ -33,32 +34,25 @@ module _ (t l g a₀ : List ℕ) (B : Begun t l g a₀) (a : List ℕ) (long : l
   pub readable : Readable t g a
   readable = record { ranged = ranged; gates-long = B .started .cols .gated .long }
 
-  -- the least phase in a word is that of an orphan not sent again
-  low-is : LowIs t a
-  unfolding LowIs
-  low-is h =
-      let S = B .started in
-      low-same t a (getD t 0 0) h (λ x k. sym (r .low x k) ∙ ready-low (B .run) (S .laws) t g (told (B .run) t l g (S .cols)) s (i .cursors) a (r .orp) x k)
+  pub aimed : Aimed t a
+  aimed = let S = B .started in rel-aimed (B .run) (S .laws) t l g (S .cols) a s r i
 
   pub movable : Movable t l a
-  movable = record {
-    ranged = ranged;
-    procs-few = omega (arith, told (B .run) t l g (B .started .cols) .procs-is, B .started .laws .few);
-    links-long = B .started .cols .spread;
-    small = B .small;
-    low-is = low-is;
-  }
+  movable = record { ranged = ranged; aimed = aimed; links-long = B .started .cols .spread; small = B .small }
+
+  pub tryable : (tree : List ℕ) → Treed t a tree → Tryable t l g tree a
+  tryable tree T = record { movable = movable; gates-long = B .started .cols .gated .long; treed = T }
 
 -- ---- An order, choice by choice
 module _ (R : Run) (t l g a₀ : List ℕ) (S : Started R t l g a₀) where
   pub run-starts : (ns : List ℕ) → Live R a₀ 0 ns (run R ns)
   run-starts ns = live-start R (S .laws) t l g (S .cols) a₀ ns (S .rel)
 
-  pub run-bad : (a : List ℕ) (i : ℕ) (ns : List ℕ) (w : Outcome) (c : ℕ) (r : Bool) → Live R a i ns w → i < length ns → c ≡ getD ns i 0
-      → r ≡ allowedW t g a c → r ≡ false → Left R a (length ns) w i
+  pub run-bad : (a b : List ℕ) (i : ℕ) (ns : List ℕ) (w : Outcome) (c : ℕ) (r : Bool) → Live R a i ns w → i < length ns → c ≡ getD ns i 0
+      → r ≡ allowedW t g a c → r ≡ false → Left R b (length ns) w i
   unfolding Left
-  run-bad a i ns w c r v h ec er f =
-      subst (λ x. Left R a (length ns) x i) (sym (live-bad R (S .laws) t l g (S .cols) a i ns w v h (rw (← ec) (sym er ∙ f)))) (refl, h)
+  run-bad a b i ns w c r v h ec er f =
+      subst (λ x. Left R b (length ns) x i) (sym (live-bad R (S .laws) t l g (S .cols) a i ns w v h (rw (← ec) (sym er ∙ f)))) (refl, h)
 
   pub run-next : (a b : List ℕ) (i : ℕ) (ns : List ℕ) (w : Outcome) (c : ℕ) (r : Bool) → Live R a i ns w → i < length ns → c ≡ getD ns i 0
       → r ≡ allowedW t g a c → r ≡ true → b ≡ applyW t l a c → Live R b (i + 1) ns w
@@ -84,7 +78,7 @@ module _ (R : Run) (t l g a₀ : List ℕ) (S : Started R t l g a₀) where
   stop-words a b (refused i) r n v h j e = e ∙ ap (λ k. replicate k 0) j
 
   -- carried out: the steps that were counted are as many as the order has choices
-  pub went-answer : (a : List ℕ) (w : Outcome) (r n : ℕ) (x : Replayed) (b : Bool) → Left R a n w r → n ≤ r → b ≡ noneFrom t g a 4160
+  pub went-answer : (a : List ℕ) (w : Outcome) (r n : ℕ) (x : Replayed) (b : Bool) → Left R a n w r → n ≤ r → b ≡ noneAllowed t g a
       → x ≡ (record { number = 0; place = 0; steps = r; complete = b }) → x ≡ answerOf R w n
   unfolding Left answerOf
   went-answer a (carriedOut s) r n x b v h d e = e ∙ rw (v .0, d, none-same R (S .laws) t l g (S .cols) a s (v .1) (v .2))
@@ -96,7 +90,15 @@ module _ (R : Run) (t l g a₀ : List ℕ) (S : Started R t l g a₀) where
   went-words a b (carriedOut s) r n v h j others zeros = record-left R (S .laws) t l g (S .cols) a b s (v .1) j others zeros
   went-words a b (refused i) r n v h j others zeros = absurd (omega (arith, v .1))
 
-pub went-readable : (t l g a₀ : List ℕ) (B : Begun t l g a₀) (a : List ℕ) → length a ≡ length a₀ → (w : Outcome) (r n : ℕ) → Left (B .run) a n w r → n ≤ r → Readable t g a
+-- what the tests of an order that was carried out ask
+pub went-asked : (t l g a₀ : List ℕ) (B : Begun t l g a₀) (a : List ℕ) → length a ≡ length a₀ → (w : Outcome) (r n : ℕ) → Left (B .run) a n w r → n ≤ r → Aimed t a × Readable t g a
 unfolding Left
-went-readable t l g a₀ B a long (carriedOut s) r n v h = readable t l g a₀ B a long s (v .1) (v .2)
-went-readable t l g a₀ B a long (refused i) r n v h = absurd (omega (arith, v .1))
+went-asked t l g a₀ B a long (carriedOut s) r n v h = (aimed t l g a₀ B a long s (v .1) (v .2), readable t l g a₀ B a long s (v .1) (v .2))
+went-asked t l g a₀ B a long (refused i) r n v h = absurd (omega (arith, v .1))
+
+-- what its first state does
+pub first-asked : (t l g a₀ : List ℕ) (B : Begun t l g a₀) → (procsW t ≤ 64) × Ranged t a₀
+first-asked t l g a₀ B =
+    let S = B .started in
+    let i = inv-start (B .run) (S .laws) in
+    (aimed t l g a₀ B a₀ refl (start (B .run)) (S .rel) i .procs-few, ranged t l g a₀ B a₀ refl (start (B .run)) (S .rel) i)

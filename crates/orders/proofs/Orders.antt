@@ -1,7 +1,7 @@
 -- A whole order by words: what is still to do from a place on is what there was to do from the start (`Live`); which
 -- choices are left; and what the run area holds at the end (`record-left`). From Choices.
 use mathlib.Core.Path.{_≡_, refl, sym, _∙_, ap}
-use mathlib.Core.Bool.{Bool, true, false, _&&_, not}
+use mathlib.Core.Bool.{true, false, not}
 use mathlib.Core.List.{List, [], _∷_}
 use mathlib.Core.Option.{Option, none, some}
 use Prim.Native.Nat.{ℕ, zero, suc, _+_, _-_, _*_, _/_, _%_, _≤_, _<_}
@@ -12,17 +12,17 @@ use borrow.Author.Tests.{lt-ltb, le-ltb}
 use Rattle.words.specs.Area.{wordsFrom}
 use Rattle.words.specs.Halves.{half}
 use Rattle.words.proofs.Area.{words-ext}
-use Rattle.theory.specs.Lists.{keep, all-below, ifSome}
+use Rattle.theory.specs.Lists.{keep, ifSome}
 use Rattle.theory.specs.Events.{size}
 use Rattle.theory.specs.Line.{Run}
 use Rattle.theory.specs.Replay.{State, start}
 use Rattle.theory.specs.Order.{Outcome, carriedOut, refused, isNone, choose, carry, run, complete}
 use Rattle.theory.specs.Inner.Laws.{Laws}
-use Rattle.theory.proofs.Base.{on, clash, le?}
+use Rattle.theory.proofs.Base.{on, clash, le?, all-same}
 use Rattle.theory.specs.Inner.Flow.{Inv}
 use Rattle.theory.proofs.Loss.{inv-start}
 use Rattle.machine.specs.Taken.{takenBase, recordEnd, takenValue}
-use Rattle.machine.specs.Inner.Words.{currentBase, orphanBase, takeBase, putBase, lowPlace, takeW, putW, allowedW, applyW, Bounded, noneFrom}
+use Rattle.machine.specs.Inner.Words.{currentBase, orphanBase, takeBase, putBase, lowPlace, takeW, putW, allowedW, applyW, Bounded, noneAllowed}
 use Rattle.theory.specs.Inner.Lists.{head0}
 use Rattle.machine.specs.Inner.Related.{evs, orph, Cols, Chan, Rel}
 use Rattle.orders.specs.Record.{recordWord, recordAt}
@@ -78,25 +78,13 @@ module _ (R : Run) (L : Laws R) (t l g : List ℕ) (K : Cols R t l g) where
   live-start a ns r = record { state = start R; rel = r; inv = inv-start R L; rest = refl }
 
   -- the words tell whether an order is complete
-  none-below : (a : List ℕ) (s : State) → Rel R a s → Inv R s → (c : ℕ) → noneFrom t g a c ≡ all-below c (λ c. isNone (choose R s c))
-  unfolding noneFrom all-below
-  none-below a s r i zero = refl
-  none-below a s r i (suc c) =
-      rw (none-below a s r i c, go (choose R s c) (choice-agrees R L t l g K a s r i c)) (swap (all-below c (λ c. isNone (choose R s c))) (isNone (choose R s c)))
+  pub none-same : (a : List ℕ) (s : State) → Rel R a s → Inv R s → noneAllowed t g a ≡ complete R s
+  unfolding noneAllowed complete
+  none-same a s r i = all-same 4160 _ _ (λ c h. go c (choose R s c) (choice-agrees R L t l g K a s r i c))
     where
-      go : (o : Option State) → Agrees R L t l g K (allowedW t g a c) (applyW t l a c) o → not (allowedW t g a c) ≡ isNone o
-      go none (refuses y) = rw y
-      go (some u) (allows v′ y r j) = rw y
-
-      swap : (x y : Bool) → (x && y) ≡ (y && x)
-      swap true true = refl
-      swap true false = refl
-      swap false true = refl
-      swap false false = refl
-
-  pub none-same : (a : List ℕ) (s : State) → Rel R a s → Inv R s → noneFrom t g a 4160 ≡ complete R s
-  unfolding complete
-  none-same a s r i = none-below a s r i 4160
+      go : (c : ℕ) (o : Option State) → Agrees R L t l g K (allowedW t g a c) (applyW t l a c) o → not (allowedW t g a c) ≡ isNone o
+      go c none (refuses y) = rw y
+      go c (some u) (allows v′ y r j) = rw y
 
   -- every pointer is an event
   pub rel-bounded : (a : List ℕ) (s : State) → Rel R a s → Inv R s → Bounded a

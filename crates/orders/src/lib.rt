@@ -8,6 +8,7 @@ ghost use Rattle.machine.specs.Inner.Words.{currentBase, lowPlace};
 ghost use Rattle.theory.specs.Line.{Run};
 ghost use Rattle.machine.specs.Inner.Related.{Started};
 ghost use Rattle.machine.specs.Inner.Shapes.{Begun};
+ghost use Rattle.machine.specs.Inner.Tree.{Treed};
 ghost use Rattle.theory.specs.Order.{run};
 ghost use Rattle.orders.specs.Inner.Left.{Left};
 ghost use Rattle.columns.specs.Inner.Given.{Given};
@@ -15,6 +16,8 @@ ghost use Rattle.orders.specs.Answer.{answerOf, wordsOf};
 use links::LINK_WORDS;
 use machine::CURRENT_BASE;
 use machine::LOW_PLACE;
+use machine::NO_PHASE;
+use machine::TREE_WORDS;
 
 // What a replay answers: 0, or 11 with the place of the first choice that is not allowed, from 1; how many choices were
 // carried out, and whether no choice is left.
@@ -34,15 +37,21 @@ fn choice(c: u16) -> usize
 
 // Carries out an order, as far as its choices are allowed: how many were carried out. The step counter is the place in
 // the order too.
-fn carry_out(full: &[u32], links: &[u16], gates: &[u32], order: &[u16], area: &mut [u32]) -> usize
-    requires { ⌜ Begun (now full) (now links) (now gates) (now area) ⌝ }
+fn carry_out(
+    full: &[u32],
+    links: &[u16],
+    gates: &[u32],
+    order: &[u16],
+    tree: &mut [u32],
+    area: &mut [u32],
+) -> usize
+    requires { ⌜ Begun (now full) (now links) (now gates) (now area) × Treed (now full) (now area) (now tree) ⌝ }
     ensures { λ r. ⌜ ((R : Run) → Started R (now (full .entry)) (now (links .entry)) (now (gates .entry)) (now (area .entry)) → Left R (now (area .exit)) (length (now (order .entry))) (run R (now (order .entry))) r) ⌝ }
 {
     let mut steps: usize = 0;
     while steps < order.len() {
         let c = choice(order[steps]);
-        if machine::allowed(full, gates, area, c) {
-            moves::apply(full, links, area, c);
+        if moves::try_choice(full, links, gates, tree, area, c) {
             steps += 1;
         } else {
             return steps;
@@ -93,7 +102,9 @@ fn replay_in(
     ensures answer { λ r. ⌜ ((R : Run) → Started R (now (full .entry)) (now (links .entry)) (now (gates .entry)) (now (area .entry)) → r ≡ answerOf R (run R (now (order .entry))) (length (now (order .entry)))) ⌝ }
     ensures words { λ _. ⌜ ((R : Run) → Started R (now (full .entry)) (now (links .entry)) (now (gates .entry)) (now (area .entry)) → now (area .exit) ≡ wordsOf R (run R (now (order .entry)))) ⌝ }
 {
-    let steps = carry_out(full, links, gates, order, area);
+    let mut tree = [NO_PHASE; TREE_WORDS];
+    machine::build_tree(full, area, &mut tree);
+    let steps = carry_out(full, links, gates, order, &mut tree, area);
     if steps < order.len() {
         words::zero(area);
         return Replayed {

@@ -2,12 +2,13 @@
 -- the run area are described here. Links of event e: word 4 e the next event of its process; 4 e + 1 the next send
 -- whose message goes through its channel; 4 e + 2 the next orphan's send of its process. Gates of process z: word z its
 -- gate, word 64 + z the event that it restarts after. Every "next" is an event, 0 where there is none.
-use mathlib.Core.Bool.{Bool, true, false, _&&_, _||_, not, cond}
+use mathlib.Core.Bool.{Bool, true, false, _||_, not, cond}
 use mathlib.Core.List.{List}
 use Prim.Native.Nat.{ℕ, zero, suc, _+_, _-_, _*_, _/_, _≤_, _<_}
 use lib.ListN.{getD, set}
 use lib.Dec.{ltb, eqb}
-use Rattle.columns.specs.Inner.Full.{peerW, kindW, phaseW, valueW, numberW}
+use Rattle.theory.specs.Lists.{all-below}
+use Rattle.columns.specs.Inner.Full.{atW, peerW, kindW, phaseW, valueW, numberW}
 use Rattle.machine.specs.Taken.{takenBase}
 
 -- of each process its next event, and the send of its next orphan that is not sent again
@@ -104,6 +105,13 @@ processW t l a z = movedW l (eventStepW t l a z (curW a z)) z (curW a z)
 unfoldable pub applyW : List ℕ → List ℕ → List ℕ → ℕ → List ℕ
 applyW t l a c = cond (ltb c 64) (processW t l a c) (putInW l a (c - 64))
 
+-- whom it may let run that process z does event e: the receiver of the message that it puts in, else z itself
+unfoldable pub wakesAt : List ℕ → List ℕ → ℕ → ℕ → ℕ
+wakesAt t a z e = cond (eqb (kindW t e) 1) (cond (eqb (orpW a z) e) z (peerW t e)) z
+
+unfoldable pub wakes : List ℕ → List ℕ → ℕ → ℕ
+wakes t a z = wakesAt t a z (curW a z)
+
 -- every pointer is an event or 0
 unfoldable pub Bounded : List ℕ → Type 0
 Bounded a = (k : ℕ) → currentBase ≤ k → k < lowPlace → getD a k 0 < 2049
@@ -111,10 +119,20 @@ Bounded a = (k : ℕ) → currentBase ≤ k → k < lowPlace → getD a k 0 < 20
 unfoldable pub Small : List ℕ → Type 0
 Small l = (k : ℕ) → getD l k 0 < 2049
 
--- is no choice below c allowed
-unfoldable pub noneFrom : List ℕ → List ℕ → List ℕ → ℕ → Bool
-noneFrom t g a zero = true
-noneFrom t g a (suc c) = noneFrom t g a c && not (allowedW t g a c)
+-- may the message that event e sends be handed over: it is the next one to put into its channel, and that one may
+unfoldable pub handsAt : List ℕ → List ℕ → List ℕ → ℕ → Bool
+handsAt t g a e =
+    cond (eqb (kindW t e) 1) (cond (eqb (putW a (64 * atW t e + peerW t e)) e) (handOk t g a (atW t e) (64 * atW t e + peerW t e)) false) false
+
+-- is no process before the n-th allowed, no message of the first n events, no choice
+unfoldable pub noneRuns : List ℕ → List ℕ → List ℕ → ℕ → Bool
+noneRuns t g a n = all-below n (λ z. not (processOk t g a z))
+
+unfoldable pub noneHands : List ℕ → List ℕ → List ℕ → ℕ → Bool
+noneHands t g a n = all-below n (λ e. not (handsAt t g a (suc e)))
+
+unfoldable pub noneAllowed : List ℕ → List ℕ → List ℕ → Bool
+noneAllowed t g a = all-below 4160 (λ c. not (allowedW t g a c))
 
 -- the phase of the oldest kept message of channel c, of sender p; above all phases where none is left
 unfoldable pub keptPhase : List ℕ → List ℕ → List ℕ → ℕ → ℕ → ℕ

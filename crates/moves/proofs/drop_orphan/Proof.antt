@@ -1,46 +1,39 @@
--- `moves::drop_orphan` meets its contract: the stores themselves, the phase by the area after the first.
+-- `moves::drop_orphan` meets its contract: the stores themselves, the least phase by the tree of the area after the first.
 use Prim.Native.Nat.{_+_, _*_}
-use Rattle.moves.proofs.Steps.{pointed-set}
-use Rattle.machine.proofs.Steps.{low-bound}
-use Rattle.machine.specs.Inner.Words.{dropW, Small}
+use lib.ListN.{length-set}
+use Rattle.machine.specs.Inner.Words.{Small}
+use Rattle.machine.proofs.Tree.{treed-next}
+use Rattle.moves.proofs.Steps.{treed-low, dropped}
 use native.Mathlib.Omega.{arith}
 use borrow.Author.Needs.{needs}
 use Rattle.moves.proofs.drop_orphan.Statement.{statement}
 use Rattle.moves.proofs.drop_orphan.Tie as tie
 
-least-with-requires : tie.Need-least-with-requires
+set-leaf-requires : tie.Need-set-leaf-requires
 unfolding Small
-least-with-requires c κs =
-    let wide = c .before .wide in
-    let linked = c .before .before .before .linked in
+set-leaf-requires c κs =
     let pre = c .before .before .before .before .before .before .before .before .pre in
+    let wide = c .wide in
+    let linked = c .before .before .linked in
     let args = c .before .before .before .before .before .before .before .before .args in
-    (omega (arith, (wide .ensures), (linked .ensures), (pre .2 .small) (4 * (args .e) + 2)), (pre .2 .ranged .full-long))
+    (omega (arith, (pre .0), (pre .2 .aimed .procs-few)), omega (arith, (wide .ensures), (linked .ensures), (pre .2 .small) (4 * (args .e) + 2)), (pre .2 .ranged .full-long), (pre .3 .tree))
 
-lowest-phase-from-requires : tie.Need-lowest-phase-from-requires
-lowest-phase-from-requires c κs =
-    let slice-known2 = c .before .before .slice-known2 in
-    let pre = c .before .before .before .before .before .before .before .before .before .before .pre in
-    let linked = c .before .before .before .before .before .linked in
-    let least-with = c .before .least-with in
-    let wide = c .before .before .before .wide in
-    let args = c .before .before .before .before .before .before .before .before .before .before .args in
-    let low = (slice-known2 .given) 14467 in
-    let pointed = (pre .2 .ranged .pointed) in
-    let long = pointed .area-long in (
-      (pre .2 .procs-few),
-      record { full-long = (pre .2 .ranged .full-long); pointed = rw (linked .ensures) (pointed-set _ _ _ _ pointed (pre .2 .small) (omega (arith, (pre .0)))) },
-      rw ((least-with .ensures), (wide .ensures)) (low-bound _ _ (args .z) _ (pre .0) (omega (arith, (pre .0), long)) (omega (arith, low)) (pre .2 .low-is)),
-    )
+slice-write-area-2 : tie.Need-slice-write-area-2
+slice-write-area-2 c = simp length-set (omega arith)
 
 returns : tie.Need-returns
-unfolding dropW
 returns c =
-    let lowest-phase-from = c .lowest-phase-from in
+    let pre = c .before .before .before .before .before .before .before .before .before .before .before .before .pre in
+    let args = c .before .before .before .before .before .before .before .before .before .before .before .before .args in
+    let wide = c .before .before .before .before .wide in
+    let set-leaf = c .before .before .before .set-leaf in
     let linked = c .before .before .before .before .before .before .linked in
-    rw ((lowest-phase-from .ensures), (linked .ensures))
+    let few = (pre .2 .aimed .procs-few) in
+    let long = (pre .2 .ranged .pointed .area-long) in
+    let T = treed-next _ (args .area .now) _ _ (args .z) _ (omega (arith, (pre .0), few)) (pre .0) (omega (arith, (pre .0), few, long)) (pre .3) (rw (wide .ensures) at (set-leaf .ensures)) in
+    (dropped _ _ _ _ _ _ _ few (linked .ensures) T, treed-low _ (args .links .now) _ _ T _)
 
 pub drop-orphan-spec : {M : Type 1} → statement M
 drop-orphan-spec =
     tie.close
-    (tie.spec (λ c. search needs) (λ c. search needs) (λ c. search needs) (λ c. search needs) (λ c κs. search needs) (λ c. search needs) (λ c. search needs) (λ c. search needs) (λ c. search needs) (λ c. search needs) (λ c κs. search needs) (λ c. search needs) least-with-requires lowest-phase-from-requires (λ c. search needs) (λ c. search needs) returns)
+    (tie.spec (λ c. search needs) (λ c. search needs) (λ c. search needs) (λ c. search needs) (λ c κs. search needs) (λ c. search needs) (λ c. search needs) (λ c. search needs) (λ c κs. search needs) set-leaf-requires (λ c. search needs) slice-write-area-2 (λ c. search needs) (λ c. search needs) returns)

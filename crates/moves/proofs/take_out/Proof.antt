@@ -16,10 +16,10 @@ unfolding takeOutW
 returns c =
     let note-taken = c .before .before .note-taken in
     let linked = c .before .before .before .before .linked in
-    let pointer = c .before .before .before .before .before .before .pointer in
-    (note-taken .ensures) ∙ rw ((linked .ensures), (pointer .ensures .0))
+    let pre = c .before .before .before .before .before .before .before .before .before .pre in
+    (note-taken .ensures) ∙ rw ((linked .ensures), (pre .3))
 
 pub take-out-spec : {M : Type 1} → statement M
 take-out-spec =
     tie.close
-    (tie.spec (λ c. search needs) (λ c κs. search needs) (λ c. search needs) (λ c. search needs) (λ c. search needs) (λ c. search needs) (λ c κs. search needs) (λ c. search needs) (λ c. search needs) (λ c. search needs) (λ c κs. search needs) same-length returns)
+    (tie.spec (λ c. search needs) (λ c. search needs) (λ c. search needs) (λ c. search needs) (λ c κs. search needs) (λ c. search needs) (λ c. search needs) (λ c. search needs) (λ c κs. search needs) same-length returns)

@@ -1,0 +1,2 @@
+-- internal: no contract of a function that users call reaches these
+pub mod Inner
