@@ -22,7 +22,7 @@ use Rattle.columns.proofs.Full.{fit, few, procs-most, size-is, send-kind, kind-
 use Rattle.machine.specs.Inner.Words.{lowPlace, lowOf, Bounded, Small}
 use Rattle.machine.specs.Inner.Related.{goes, Started}
 use Rattle.links.specs.Inner.Linking.{sentClass, linkedL, linkedH, linkedA, beginA}
-use Rattle.links.specs.Inner.Listed.{Rising, Listed}
+use Rattle.links.specs.Inner.Listed.{Listed}
 use Rattle.links.specs.Inner.Shapes.{PairedTo, PhasedTo, Linkable}
 use Rattle.links.proofs.Listed.{heads-small, all-listed}
 use Rattle.links.proofs.Passes.{linked-small}
@@ -132,10 +132,15 @@ module _ (R : Run) (cut : ℕ) (full gates : List ℕ) (G : Given R cut full gat
     listed-in l′ h e f =
         let A = all-listed full gates cut (eventsW full) (omega (arith, count-few)) phases l a l-long l-zero in
         rw (e, f) (record {
-          heads-long = A .heads-long;
-          heads-small = heads-small full gates cut (eventsW full) (eventsW full) (omega (arith, count-few));
-          rising = A .rising;
-          few = count-few;
+          walkable = record {
+            full-long = T .columns .whole;
+            few = count-few;
+            links-long = A .links-long;
+            links-small = small;
+            heads-long = A .heads-long;
+            heads-small = heads-small full gates cut (eventsW full) (eventsW full) (omega (arith, count-few));
+            rising = A .rising;
+          };
           phases = phase-lt;
           kept = λ p q m h k w r. let i = is-kept p q m h k w r in (i .0, i .1, A .on m h (omega (arith, k, count)) (i .2));
         })

@@ -1,6 +1,6 @@
-// What a replay begins with: the links between events, and the words of the first state, from the full table of a trace
-// and the gates of a line. specs/Inner/Linking says what the pass over the events does; proofs/Claims says that what it
-// leaves stands for the theory's first state. Assumes nothing.
+// What a replay begins with: the links between events, lists of kept messages by phase, and the words of the first
+// state, from the full table of a trace and the gates of a line. specs/Inner/Linking says what the pass over the events
+// does; proofs/Claims says that what it leaves stands for the theory's first state. Assumes nothing.
 ghost use mathlib.Core.Path.{_≡_};
 ghost use mathlib.Core.Bool.{true};
 ghost use Prim.Native.Nat.{_+_, _≤_, _<_};
