@@ -1,23 +1,30 @@
 -- What a replay is given begins it: the words of the first state are in their ranges and stand for the run, whichever
 -- run it is.
-use mathlib.Core.Path.{_≡_, _∙_, ap}
+use mathlib.Core.Path.{_≡_, sym, _∙_, ap}
+use mathlib.Core.Bool.{true}
 use mathlib.Core.List.{List}
 use Prim.Native.Nat.{ℕ, _+_, _≤_, _<_}
 use native.Mathlib.Omega.{arith}
 use lib.ListN.{length, getD, set, replicate, length-replicate}
+use borrow.Author.Tests.{eqb-true, eq-eqb, le-leb}
 use Rattle.words.specs.Area.{areaWords}
 use Rattle.words.proofs.Area.{zero-word}
 use Rattle.trace.specs.Trace.{Trace}
-use Rattle.theory.specs.Events.{size}
-use Rattle.theory.specs.Line.{Run}
+use Rattle.theory.specs.Events.{size, at, sends, sent}
+use Rattle.theory.specs.Line.{Run, kept}
+use Rattle.theory.proofs.Base.{both}
+use Rattle.classes.proofs.Classes.{class-is}
 use Rattle.columns.specs.Inner.Columns.{Tabled}
-use Rattle.columns.specs.Inner.Full.{eventsW, atW, peerW}
+use Rattle.columns.specs.Inner.Full.{eventsW, kindW, atW, peerW, phaseW}
 use Rattle.columns.specs.Inner.Given.{Given}
-use Rattle.columns.proofs.Full.{few, procs-most, size-is, kind-send, kind-receive, send-match-most, recv-match}
+use Rattle.columns.proofs.Bounds.{phase-most}
+use Rattle.columns.proofs.Full.{fit, few, procs-most, size-is, send-kind, kind-send, kind-receive, send-match-most, recv-match}
 use Rattle.machine.specs.Inner.Words.{lowPlace, lowOf, Bounded, Small}
-use Rattle.machine.specs.Inner.Related.{Started}
-use Rattle.links.specs.Inner.Linking.{linkedL, linkedA, beginA}
-use Rattle.links.specs.Inner.Shapes.{PairedTo, Linkable}
+use Rattle.machine.specs.Inner.Related.{goes, Started}
+use Rattle.links.specs.Inner.Linking.{sentClass, linkedL, linkedH, linkedA, beginA}
+use Rattle.links.specs.Inner.Listed.{Listed}
+use Rattle.links.specs.Inner.Shapes.{PairedTo, PhasedTo, Linkable}
+use Rattle.links.proofs.Listed.{heads-small, all-listed}
 use Rattle.links.proofs.Passes.{linked-small}
 use Rattle.links.proofs.Columns.{tested}
 use Rattle.links.proofs.Claims.{started}
@@ -57,6 +64,22 @@ module _ (R : Run) (cut : ℕ) (full gates : List ℕ) (G : Given R cut full gat
         λ c. omega (arith, (recv-match t full T (peerW full e) (atW full e) e (kind-receive t full T e h le c) h le) .1, few t full T),
       )
 
+  phase-lt : (e : ℕ) → 0 < e → e ≤ size t → phaseW full e < eventsW full + 2
+  phase-lt e h k = omega (arith, count, T .columns .phase e h k, phase-most t (fit t full T) (at t e) e k)
+
+  phases : PhasedTo full (eventsW full)
+  unfolding PhasedTo
+  phases e h k = omega (arith, phase-lt e h (omega (arith, k, count)), count-few)
+
+  -- a message that goes through its channel, sent before its sender's restart, is a kept one
+  is-kept : (p q m : ℕ) → 0 < m → m ≤ size t → goes R p q m ≡ true → m ≤ R .restart p → (atW full m ≡ p) × (peerW full m ≡ q) × (sentClass full gates cut m ≡ 2)
+  unfolding goes sentClass
+  is-kept p q m h k w r =
+      let s = (both (sends t p q m) _ w) .0 in
+      let i = send-kind t full T m h k p q s in
+      let y : kept R p q (sent t p q m) ≡ true = (rw (s, le-leb m (R .restart p) r) at w) in
+      (i .1, i .2, rw (eq-eqb (kindW full m) 1 (i .0)) (eqb-true _ 2 (sym (class-is R cut full gates G p q m s h k .is-kept) ∙ y)))
+
   module _ (l a : List ℕ) (el : l ≡ replicate 8200 0) (ea : a ≡ replicate areaWords 0) where
     abbrev linksOf : ℕ → List ℕ
     linksOf n = linkedL full gates cut n n l a
@@ -92,6 +115,7 @@ module _ (R : Run) (cut : ℕ) (full gates : List ℕ) (G : Given R cut full gat
         gates-long = G .gated .long;
         links-long = l-long;
         paired = pairs;
+        phased = phases;
         pointed = record { area-long = a-long; bounded = λ k h j. rw (a-zero k) (omega arith) };
       };
       procs-few = procs-most t full T;
@@ -102,3 +126,21 @@ module _ (R : Run) (cut : ℕ) (full gates : List ℕ) (G : Given R cut full gat
 
     pub begun-in : (l′ a′ : List ℕ) → l′ ≡ linksOf (eventsW full) → a′ ≡ beginA full (wordsAt (eventsW full)) → Started R full l′ gates a′
     begun-in l′ a′ e f = rw (e, f) begun
+
+    pub listed-in : (l′ h : List ℕ) → l′ ≡ linksOf (eventsW full) → h ≡ linkedH full gates cut (eventsW full) (eventsW full) → Listed R full l′ h
+    unfolding Small
+    listed-in l′ h e f =
+        let A = all-listed full gates cut (eventsW full) (omega (arith, count-few)) phases l a l-long l-zero in
+        rw (e, f) (record {
+          walkable = record {
+            full-long = T .columns .whole;
+            few = count-few;
+            links-long = A .links-long;
+            links-small = small;
+            heads-long = A .heads-long;
+            heads-small = heads-small full gates cut (eventsW full) (eventsW full) (omega (arith, count-few));
+            rising = A .rising;
+          };
+          phases = phase-lt;
+          kept = λ p q m h k w r. let i = is-kept p q m h k w r in (i .0, i .1, A .on m h (omega (arith, k, count)) (i .2));
+        })

@@ -2,6 +2,7 @@
 pub mod Claims
 -- one event, all events, what the tests mean, the run of a trace
 pub mod Linking
+pub mod Listed
 pub mod FirstState
 pub mod Passes
 pub mod Matches

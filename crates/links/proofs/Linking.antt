@@ -31,7 +31,7 @@ unfolding chainA
 far-A true a k v j n = getD-set-other a k j v 0 n
 far-A false a k v j n = refl
 
-at-A : (b : Bool) (a : List ℕ) (k v : ℕ) → k < length a → getD (chainA b a k v) k 0 ≡ cond b v (getD a k 0)
+pub at-A : (b : Bool) (a : List ℕ) (k v : ℕ) → k < length a → getD (chainA b a k v) k 0 ≡ cond b v (getD a k 0)
 unfolding chainA
 at-A true a k v h = getD-set-same a k v 0 h
 at-A false a k v h = refl
@@ -40,6 +40,21 @@ pub len-A : (b : Bool) (a : List ℕ) (k v : ℕ) → length (chainA b a k v) �
 unfolding chainA
 len-A true a k v = length-set a k v
 len-A false a k v = refl
+
+-- links are events or 0
+pub small-A : (b : Bool) (l : List ℕ) (j w : ℕ) → w < 2049 → Small l → Small (chainA b l j w)
+unfolding chainA Small
+small-A true l j w h s i = by (eqb i j)
+    (λ t. let o : i ≡ j = eqb-true i j t in on (le? (length l) j)
+    (λ u. rw (set-past l j w u) (s i))
+    (λ u. rw (o, getD-set-same l j w 0 u) h))
+    (λ t. rw (getD-set-other l j i w 0 (eqb-false i j t)) (s i))
+  where
+    set-past : (l : List ℕ) (j w : ℕ) → length l ≤ j → set l j w ≡ l
+    set-past [] j w h = refl
+    set-past (y ∷ ys) zero w h = absurd (omega arith)
+    set-past (y ∷ ys) (suc j) w h = ap (λ r. y ∷ r) (set-past ys j w (omega arith))
+small-A false l j w h s i = s i
 
 -- the same of the record
 module _ (full : List ℕ) where
@@ -276,20 +291,6 @@ module _ (R : Run) where
         rw (i, s .0, s .1) (at-A f₃ l₂ (4 * e + 1) (putW a c) (omega (arith, m₂, H .l-long, n-le)) ∙ rw (b .1) (H .puts z q zl ql)))
         (λ u. link-far (4 * d + 1) (omega arith) ∙ H .next-message p r d u g m)
 
-    small-A : (b : Bool) (l : List ℕ) (j w : ℕ) → w < 2049 → Small l → Small (chainA b l j w)
-    unfolding chainA Small
-    small-A true l j w h s i = by (eqb i j)
-        (λ t. let o : i ≡ j = eqb-true i j t in on (le? (length l) j)
-        (λ u. rw (set-past l j w u) (s i))
-        (λ u. rw (o, getD-set-same l j w 0 u) h))
-        (λ t. rw (getD-set-other l j i w 0 (eqb-false i j t)) (s i))
-      where
-        set-past : (l : List ℕ) (j w : ℕ) → length l ≤ j → set l j w ≡ l
-        set-past [] j w h = refl
-        set-past (y ∷ ys) zero w h = absurd (omega arith)
-        set-past (y ∷ ys) (suc j) w h = ap (λ r. y ∷ r) (set-past ys j w (omega arith))
-    small-A false l j w h s i = s i
-
     -- one event of the pass
     pub chained-next : curW a z < 2049 → orpW a z < 2049 → putW a c < 2049 → Chained R x l₃ a₅
     chained-next b₁ b₂ b₃ = record {
@@ -308,3 +309,21 @@ module _ (R : Run) where
           ∙ chan-far k (omega arith) ∙ H .beyond k h;
       small = small-A f₃ l₂ (4 * e + 1) (putW a c) b₃ (small-A f₂ l₁ (4 * e + 2) (orpW a z) b₂ (small-A f₁ l (4 * e) (curW a z) b₁ (H .small)));
     }
+
+  -- a link of the lists by phase is none of those
+  pub chained-slot : (x : ℕ) (l a : List ℕ) (b : Bool) (e v : ℕ) → v < 2049 → Chained R x l a → Chained R x (chainA b l (4 * e + 3) v) a
+  chained-slot x l a b e v h H = record {
+    l-long = omega (arith, len-A b l (4 * e + 3) v, H .l-long);
+    a-long = H .a-long;
+    cur = H .cur;
+    orp = H .orp;
+    puts = H .puts;
+    takes = H .takes;
+    next = λ d i k m. far-A b l (4 * e + 3) v (4 * d) (λ w. omega arith) ∙ H .next d i k m;
+    next-message = λ p q d i k m. far-A b l (4 * e + 3) v (4 * d + 1) (λ w. omega arith) ∙ H .next-message p q d i k m;
+    next-orphan = λ d i k m. far-A b l (4 * e + 3) v (4 * d + 2) (λ w. omega arith) ∙ H .next-orphan d i k m;
+    num = H .num;
+    val = H .val;
+    beyond = H .beyond;
+    small = small-A b l (4 * e + 3) v h (H .small);
+  }

@@ -17,13 +17,14 @@ use Rattle.theory.specs.Replay.{start}
 use Rattle.theory.proofs.Base.{by, keep-head}
 use Rattle.machine.specs.Taken.{takenBase, takenNumber, takenValue}
 use Rattle.machine.specs.Inner.Words.{currentBase, orphanBase, takeBase, putBase, curW, orpW, putW, Small}
-use Rattle.columns.specs.Inner.Full.{peerW, atW, matchW}
+use Rattle.columns.specs.Inner.Full.{peerW, atW, matchW, phaseW}
 use Rattle.theory.specs.Inner.Lists.{head0}
 use Rattle.machine.specs.Inner.Related.{goes, evs, orph, Cols, Rel}
 use Rattle.columns.specs.Inner.Given.{Tells, Gated}
-use Rattle.links.specs.Inner.Linking.{mineW, orphanW, goesW, earlyW, linkL, linkA, linkedL, linkedA, beginA}
+use Rattle.links.specs.Inner.Linking.{mineW, orphanW, goesW, earlyW, linkL, linkA, keptL, linkedL, linkedH, linkedA, beginA}
 use Rattle.links.specs.Inner.Linked.{mine, rest, Chained}
-use Rattle.links.proofs.Linking.{Tests, stepL, stepA, chained-next}
+use Rattle.links.proofs.Linking.{Tests, stepL, stepA, chained-next, chained-slot}
+use Rattle.links.proofs.Listed.{heads-small}
 use Rattle.links.proofs.FirstState.{begin-cols, begin-rel}
 
 -- the tests by words mean what they should, at every event
@@ -102,11 +103,12 @@ module _ (R : Run) (t g : List ℕ) (cut : ℕ) where
 
     -- after the last d events
     chained-after : (d : ℕ) → d ≤ n → Chained R (n - d) (linkedL t g cut n d l a) (linkedA t g cut n d a)
-    unfolding linkedL linkedA
+    unfolding linkedL linkedA keptL Small
     chained-after zero h = let e : n - 0 ≡ n = omega arith in rw e (chained-start l a hl ha zl za)
     chained-after (suc d) h =
         let e : n - suc d ≡ n - d - 1 = omega arith in
-        rw e (link-turn (n - d) (omega arith) (omega arith) few Q (linkedL t g cut n d l a) (linkedA t g cut n d a) _ _ (chained-after d (omega arith)) refl refl)
+        let c = link-turn (n - d) (omega arith) (omega arith) few Q (linkedL t g cut n d l a) (linkedA t g cut n d a) _ _ (chained-after d (omega arith)) refl refl in
+        rw e (chained-slot R (n - d - 1) _ _ _ (n - d) _ (heads-small t g cut n d few (phaseW t (n - d))) c)
 
     pub all-chained : Chained R 0 (linkedL t g cut n n l a) (linkedA t g cut n n a)
     all-chained = let e : n - n ≡ 0 = omega arith in rw e at (chained-after n (omega arith))

@@ -5,7 +5,7 @@ use mathlib.Core.Bool.{Bool, true, false}
 use mathlib.Core.List.{List}
 use Prim.Native.Nat.{ℕ, suc, _+_, _-_, _*_, _≤_, _<_}
 use native.Mathlib.Omega.{arith}
-use lib.ListN.{length, length-set, getD, set}
+use lib.ListN.{length, length-set, getD, set, replicate}
 use lib.Seq.{getD-set-same, getD-set-other}
 use lib.Dec.{ltb, eqb}
 use borrow.Author.Tests.{lt-leb, le-leb, eq-eqb, ne-eqb}
@@ -14,15 +14,19 @@ use Rattle.words.specs.Area.{areaWords}
 use Rattle.machine.specs.Inner.Words.{currentBase, orphanBase, takeBase, putBase, curW, orpW, putW, Bounded}
 use Rattle.machine.specs.Inner.Shapes.{Pointed}
 use Rattle.machine.proofs.Noted.{length-noted, noted-other}
-use Rattle.columns.specs.Inner.Full.{kindW, peerW, atW, matchW}
+use Rattle.columns.specs.Inner.Full.{kindW, peerW, atW, matchW, phaseW}
 use Rattle.classes.specs.Inner.Words.{classW}
-use Rattle.links.specs.Inner.Linking.{mineW, sentClass, goesClass, earlyW, chainA, recordA, sentL, sentA, linkL, linkA, linkedA, linkedL}
-use Rattle.links.specs.Inner.Shapes.{Paired, PairedTo}
+use Rattle.links.specs.Inner.Linking.{mineW, sentClass, goesClass, earlyW, chainA, recordA, sentL, sentA, linkL, linkA, headWords, keptL, keptH, linkedA, linkedH, linkedL}
+use Rattle.links.specs.Inner.Shapes.{Paired, PairedTo, PhasedTo}
 use Rattle.links.proofs.Linking.{far-A}
 
 pub paired-at : (t : List ℕ) (n e : ℕ) → PairedTo t n → 0 < e → e ≤ n → Paired t e
 unfolding PairedTo
 paired-at t n e h p q = h e p q
+
+pub phased-at : (t : List ℕ) (n e : ℕ) → PhasedTo t n → 0 < e → e ≤ n → phaseW t e < headWords
+unfolding PhasedTo
+phased-at t n e h p q = h e p q
 
 pub chain-yes : (b : Bool) (a : List ℕ) (k v : ℕ) → b ≡ true → set a k v ≡ chainA b a k v
 unfolding chainA
@@ -31,6 +35,16 @@ chain-yes b a k v h = rw h
 pub chain-no : (b : Bool) (a : List ℕ) (k v : ℕ) → b ≡ false → a ≡ chainA b a k v
 unfolding chainA
 chain-no b a k v h = rw h
+
+-- a kept message goes before those of its phase
+module _ (l h : List ℕ) (f v e class : ℕ) (ef : f ≡ v) where
+  pub list-yes : class ≡ 2 → (set l (4 * e + 3) (getD h f 0) ≡ keptL l h v e class) × (set h f e ≡ keptH h v e class)
+  unfolding keptL keptH chainA
+  list-yes c = rw (ef, c) (refl, refl)
+
+  pub list-no : class ≢ 2 → (l ≡ keptL l h v e class) × (h ≡ keptH h v e class)
+  unfolding keptL keptH chainA
+  list-no c = rw (ne-eqb class 2 c) (refl, refl)
 
 -- the class of what event e sends, by its kind k
 module _ (t g : List ℕ) (cut e k : ℕ) (ek : k ≡ kindW t e) where
@@ -113,9 +127,15 @@ module _ (t g : List ℕ) (cut n x : ℕ) (p : 0 < x) (q : x ≤ n) (l₀ a₀ l
   unfolding linkedA
   words-turn ea e = rw (last, here, ← ea) e
 
-  pub links-turn : a ≡ linkedA t g cut n (n - x) a₀ → l ≡ linkedL t g cut n (n - x) l₀ a₀ → l′ ≡ linkL t g cut l a x → l′ ≡ linkedL t g cut n (n - (x - 1)) l₀ a₀
-  unfolding linkedL
-  links-turn ea el e = rw (last, here, ← ea, ← el) e
+  module _ (h h′ : List ℕ) (class : ℕ) (eh : h ≡ linkedH t g cut n (n - x)) (ec : class ≡ sentClass t g cut x) where
+    pub links-turn : a ≡ linkedA t g cut n (n - x) a₀ → l ≡ linkedL t g cut n (n - x) l₀ a₀ → (l₁ : List ℕ) → l₁ ≡ linkL t g cut l a x
+        → l′ ≡ keptL l₁ h (phaseW t x) x class → l′ ≡ linkedL t g cut n (n - (x - 1)) l₀ a₀
+    unfolding linkedL
+    links-turn ea el l₁ e₁ e = rw (last, here, ← ea, ← el, ← eh, ← ec, ← e₁) e
+
+    pub heads-turn : h′ ≡ keptH h (phaseW t x) x class → h′ ≡ linkedH t g cut n (n - (x - 1))
+    unfolding linkedH
+    heads-turn e = rw (last, here, ← eh, ← ec) e
 
 -- Every pointer that the pass writes is an event; the record is before the pointers.
 pointed-chain : (b : Bool) (a : List ℕ) (k v : ℕ) → k < areaWords → v < 2049 → Pointed a → Pointed (chainA b a k v)
@@ -150,9 +170,11 @@ pointed-turn t g cut e a b h p eb =
     (pointed-chain _ _ _ _ (omega (arith, z)) h (pointed-chain _ _ _ _ (omega (arith, z)) h p)))))
 
 -- the events after x are linked
-pub record LinkedTo (t g : List ℕ) (cut n : ℕ) (l₀ a₀ l a : List ℕ) (x : ℕ) : Type 0 where
+pub record LinkedTo (t g : List ℕ) (cut n : ℕ) (l₀ a₀ l h a : List ℕ) (x : ℕ) : Type 0 where
   pub within : x ≤ n
   pub links-same : length l ≡ length l₀
+  pub heads-long : length h ≡ headWords
+  pub heads-are : h ≡ linkedH t g cut n (n - x)
   pub links-are : l ≡ linkedL t g cut n (n - x) l₀ a₀
   pub words-are : a ≡ linkedA t g cut n (n - x) a₀
   pub pointed : Pointed a
@@ -160,6 +182,10 @@ pub record LinkedTo (t g : List ℕ) (cut n : ℕ) (l₀ a₀ l a : List ℕ) (x
 pub words-none : (t g : List ℕ) (cut n : ℕ) (a₀ : List ℕ) → a₀ ≡ linkedA t g cut n (n - n) a₀
 unfolding linkedA
 words-none t g cut n a₀ = let e : n - n ≡ 0 = omega arith in rw e
+
+pub heads-none : (t g : List ℕ) (cut n : ℕ) (h : List ℕ) → h ≡ replicate headWords 0 → h ≡ linkedH t g cut n (n - n)
+unfolding linkedH
+heads-none t g cut n h i = let e : n - n ≡ 0 = omega arith in rw e i
 
 pub links-none : (t g : List ℕ) (cut n : ℕ) (l₀ a₀ : List ℕ) → l₀ ≡ linkedL t g cut n (n - n) l₀ a₀
 unfolding linkedL

@@ -1,3 +1,4 @@
 pub mod Linked
 pub mod Linking
+pub mod Listed
 pub mod Shapes

@@ -1,2 +1,4 @@
 pub mod Lowering
 pub mod Searching
+pub mod Opening
+pub mod Looking

@@ -4,11 +4,15 @@
 use mathlib.Core.Bool.{Bool, false, _||_, cond}
 use mathlib.Core.List.{List}
 use Prim.Native.Nat.{ℕ, zero, suc, _+_, _-_, _*_}
-use lib.ListN.{getD, set}
+use lib.ListN.{getD, set, replicate}
 use lib.Dec.{leb, ltb, eqb}
 use Rattle.machine.specs.Inner.Words.{currentBase, orphanBase, takeBase, putBase, lowPlace, curW, orpW, putW, lowOf, notedW}
-use Rattle.columns.specs.Inner.Full.{kindW, peerW, atW, matchW}
+use Rattle.columns.specs.Inner.Full.{kindW, peerW, atW, matchW, phaseW}
 use Rattle.classes.specs.Inner.Words.{classW}
+
+-- how many words the heads have, by phase the first kept message of it: a phase is at most one more than the events
+abbrev pub headWords : ℕ
+headWords = 2056
 
 -- event e is after the restart of its process
 abbrev pub mineW : List ℕ → List ℕ → ℕ → Bool
@@ -64,14 +68,27 @@ linkA t g cut a e =
     (putBase + (64 * atW t e + peerW t e)) e) (takeBase + (64 * atW t e + peerW t e)) e)
     e (matchW t e)
 
--- the run area and the links after the last d of n events
+-- the links and the heads after event e of phase f, by the class of the message that it sends: a kept one goes before
+-- those of its phase
+unfoldable pub keptL : List ℕ → List ℕ → ℕ → ℕ → ℕ → List ℕ
+keptL l h f e class = chainA (eqb class 2) l (4 * e + 3) (getD h f 0)
+
+unfoldable pub keptH : List ℕ → ℕ → ℕ → ℕ → List ℕ
+keptH h f e class = chainA (eqb class 2) h f e
+
+-- the run area, the heads and the links after the last d of n events
 unfoldable pub linkedA : List ℕ → List ℕ → ℕ → ℕ → ℕ → List ℕ → List ℕ
 linkedA t g cut n zero a = a
 linkedA t g cut n (suc d) a = linkA t g cut (linkedA t g cut n d a) (n - d)
 
+unfoldable pub linkedH : List ℕ → List ℕ → ℕ → ℕ → ℕ → List ℕ
+linkedH t g cut n zero = replicate headWords 0
+linkedH t g cut n (suc d) = keptH (linkedH t g cut n d) (phaseW t (n - d)) (n - d) (sentClass t g cut (n - d))
+
 unfoldable pub linkedL : List ℕ → List ℕ → ℕ → ℕ → ℕ → List ℕ → List ℕ → List ℕ
 linkedL t g cut n zero l a = l
-linkedL t g cut n (suc d) l a = linkL t g cut (linkedL t g cut n d l a) (linkedA t g cut n d a) (n - d)
+linkedL t g cut n (suc d) l a =
+    keptL (linkL t g cut (linkedL t g cut n d l a) (linkedA t g cut n d a) (n - d)) (linkedH t g cut n d) (phaseW t (n - d)) (n - d) (sentClass t g cut (n - d))
 
 -- the run area of the first state, once all events are linked: the least phase of an orphan is set
 unfoldable pub beginA : List ℕ → List ℕ → List ℕ

@@ -6,9 +6,10 @@ use mathlib.Core.Bool.{Bool, true}
 use mathlib.Core.List.{List}
 use lib.ListN.{length, getD}
 use Rattle.words.specs.Area.{areaWords}
-use Rattle.columns.specs.Inner.Full.{eventsW, kindW, matchW}
+use Rattle.columns.specs.Inner.Full.{eventsW, kindW, matchW, phaseW}
 use Rattle.machine.specs.Inner.Words.{currentBase, lowPlace}
 use Rattle.machine.specs.Inner.Shapes.{FullLong, Pointed}
+use Rattle.links.specs.Inner.Linking.{headWords}
 
 -- the event that a send's or a receive's message is matched with is one of the trace, or 0
 abbrev pub Paired : List ℕ → ℕ → Type 0
@@ -16,6 +17,10 @@ Paired full e = (kindW full e ≡ 1 → matchW full e < 2049) × (kindW full e �
 
 unfoldable pub PairedTo : List ℕ → ℕ → Type 0
 PairedTo full n = (e : ℕ) → 0 < e → e ≤ n → Paired full e
+
+-- the phase of each event has a place in the heads
+unfoldable pub PhasedTo : List ℕ → ℕ → Type 0
+PhasedTo full n = (e : ℕ) → 0 < e → e ≤ n → phaseW full e < headWords
 
 -- the words that tell an event, and what becomes of the message that it sends
 pub record SendReadable (full gates : List ℕ) (e : ℕ) : Type 0 where
@@ -44,6 +49,14 @@ pub record Recordable (full area : List ℕ) (e : ℕ) (before : Bool) : Type 0 
   pub area-long : length area ≡ areaWords
   pub matched : before ≡ true → matchW full e < 2049
 
+-- so do the link and the head of a kept message
+pub record Listable (full links heads : List ℕ) (e : ℕ) : Type 0 where
+  pub event-lt : e < 2049
+  pub full-long : FullLong full
+  pub links-long : 8197 ≤ length links
+  pub heads-long : length heads ≡ headWords
+  pub phase-lt : phaseW full e < headWords
+
 -- event e can be linked; all n events can; those of the table, and their processes are few
 pub record EventLinkable (full gates links area : List ℕ) (e : ℕ) : Type 0 where
   pub readable : SendReadable full gates e
@@ -56,6 +69,7 @@ pub record AllLinkable (full gates links area : List ℕ) (n : ℕ) : Type 0 whe
   pub gates-long : 128 ≤ length gates
   pub links-long : 8197 ≤ length links
   pub paired : PairedTo full n
+  pub phased : PhasedTo full n
   pub pointed : Pointed area
 
 pub record Linkable (full gates links area : List ℕ) : Type 0 where
