@@ -182,9 +182,10 @@ static inline uint64_t hallback_taken_value(const uint32_t *run, size_t event) {
 
 /* ---- A trace, from a table area that a call accepted ---- */
 
-/* How many processes there are: they are 0 to one less. */
-static inline uint32_t hallback_procs(const uint32_t *table) {
-    return table[HALLBACK_PROCS_WORD];
+/* How many processes there are: they are 0 to one less. Never more than 64, whatever the area holds. */
+static inline size_t hallback_procs(const uint32_t *table) {
+    uint32_t procs = table[HALLBACK_PROCS_WORD];
+    return procs < HALLBACK_MAX_PROCS ? procs : (uint32_t)HALLBACK_MAX_PROCS;
 }
 
 /* How many events there are: they are 1 to this number. Never more than 2,048, whatever the area holds, so that a walk
@@ -361,25 +362,26 @@ uint32_t hallback_write(const uint32_t *table, size_t table_len, uint8_t *out, s
    process keep more of its work. For a failure right after event `step` (the cut) of the processes in `set` (bit z is
    process z). Answer: place, count of processes, how many go back, the set of those; then 64 numbers each: the line,
    the epochs at the cut, finished or not, the phases at the restart or, for a process that stays, at the cut; 0 past
-   the last process. Refusals: 12, 13, 8, 9. Changes only `answer`. */
+   the last process (hallback_restart_process and hallback_restart_line read it). Refusals: 12, 13, 8, 9. Changes only
+   `answer`. */
 uint32_t hallback_restart(const uint32_t *table, size_t table_len, uint64_t step, uint64_t set, uint64_t *answer,
                           size_t answer_len);
 
-/* The messages of a line, listed in the run area: orphans (received before their receiver's restart, sent after their
-   sender's), kept (sent before their sender's restart, and handed over in a replay), lost (sent before it too and to be
-   received again, but not logged). A received message is logged if its sender's epoch at the send is less than its
-   receiver's at the receipt. For a process that stays, the cut takes the place of its restart; only events up to the
-   cut count. No message is counted as lost exactly if the line loses none. Answer: place, how many of each. Refusals:
-   12, 13, 8, 9, 10; none changes the run area. */
+/* The messages of a line, listed in the run area (hallback_row reads the list): orphans (received before their
+   receiver's restart, sent after their sender's), kept (sent before their sender's restart, and handed over in a
+   replay), lost (sent before it too and to be received again, but not logged). A received message is logged if its
+   sender's epoch at the send is less than its receiver's at the receipt. For a process that stays, the cut takes the
+   place of its restart; only events up to the cut count. No message is counted as lost exactly if the line loses none.
+   Answer: place, how many of each. Refusals: 12, 13, 8, 9, 10; none changes the run area. */
 uint32_t hallback_messages(const uint32_t *table, size_t table_len, uint64_t step, uint64_t set, const uint32_t *line,
                            size_t line_len, uint32_t *run, size_t run_len, uint64_t *answer, size_t answer_len);
 
-/* Carries out an order of choices from a line: 0 to 63 is the next event of that process, 64 + 64 P + Q hands over the
-   oldest kept message from P to Q. Leaves the delivery record in the run area. Answer: place, steps, 1 if the order is
-   complete (no choice is left). The record after a complete order is that of the run without failure exactly if the
-   line loses no message; that record is what hallback_lowest leaves from the line of ones. Refusals: 12, 13, 8, 9, 10,
-   and 11 with the place of the choice in the order, from 1; after 11 the first 16,384 words of the run area are zero,
-   the others change nothing.
+/* Carries out an order of choices from a line: 0 to 63 is the next event of that process, 64 + 64 P + Q
+   (hallback_hand_over) hands over the oldest kept message from P to Q. Leaves the delivery record in the run area
+   (hallback_next_delivery reads it). Answer: place, steps, 1 if the order is complete (no choice is left). The record
+   after a complete order is that of the run without failure exactly if the line loses no message; that record is what
+   hallback_lowest leaves from the line of ones. Refusals: 12, 13, 8, 9, 10, and 11 with the place of the choice in the
+   order, from 1; after 11 the first 16,384 words of the run area are zero, the others change nothing.
 
    A choice is allowed when it need not wait. A process waits until every orphan of phase r or less has been sent again,
    r being its phase at the cut if it stays, else its phase at the restart less 1; its send also until all kept messages

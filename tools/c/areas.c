@@ -72,12 +72,14 @@ static void check_events(void) {
     CHECK(hallback_sent(table, 1, 2, 2) == 13 && hallback_sent(table, 2, 0, 1) == 15);
     CHECK(hallback_sent(table, 0, 1, 3) == 0 && hallback_sent(table, 0, 1, 0) == 0);
     CHECK(hallback_sent(table, 0, 2, 1) == 0);
-    /* An area that holds no trace has no more events than there are words for. */
-    uint32_t count = table[HALLBACK_EVENTS_WORD];
-    table[HALLBACK_EVENTS_WORD] = 4294967295u;
+    /* An area that holds no trace has no more processes than a line has numbers, and no more events than words. */
+    uint32_t procs = table[HALLBACK_PROCS_WORD], count = table[HALLBACK_EVENTS_WORD];
+    table[HALLBACK_PROCS_WORD] = table[HALLBACK_EVENTS_WORD] = 4294967295u;
+    CHECK(hallback_procs(table) == HALLBACK_MAX_PROCS);
     CHECK(hallback_events(table) == HALLBACK_MAX_EVENTS);
     CHECK(HALLBACK_EVENT_BASE + HALLBACK_MAX_EVENTS + 1 == HALLBACK_VALUE_BASE);
     CHECK(hallback_sent(table, 0, 1, 3) == 0);
+    table[HALLBACK_PROCS_WORD] = procs;
     table[HALLBACK_EVENTS_WORD] = count;
 }
 
