@@ -209,10 +209,11 @@ impl Cause {
             Cause::NothingInTransit => "a receive with nothing in transit on its channel",
             Cause::Saves => "a 31st save of a process",
             Cause::Events => "a 2,049th event",
-            Cause::Step => "the failure is after the last event",
+            Cause::Step => "the step of the failure is beyond the last event",
             Cause::Set => "the set of failed processes is empty or names one that there is not",
             Cause::Line => {
-                "the recovery line has not one number for each process, or one not permitted"
+                "the recovery line does not have one number for each process, or has one that is not \
+                 permitted"
             }
             Cause::Choice => "a choice is not allowed where it comes in the order",
             Cause::Area => "a table area or a run area has fewer than 16,384 words",
