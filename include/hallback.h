@@ -144,8 +144,8 @@ static inline const char *hallback_refusal(uint32_t number) {
     case HALLBACK_REFUSED_EVENTS: return "a 2,049th event";
     case HALLBACK_REFUSED_STEP: return "the step of the failure is beyond the last event";
     case HALLBACK_REFUSED_SET: return "the set of failed processes is empty or names one that there is not";
-    case HALLBACK_REFUSED_LINE: return "the recovery line does not have one number for each process, or has one that is "
-                                       "not permitted";
+    case HALLBACK_REFUSED_LINE: return "the recovery line does not have one number for each process, or has one that "
+                                       "is not permitted";
     case HALLBACK_REFUSED_CHOICE: return "a choice is not allowed where it comes in the order";
     case HALLBACK_REFUSED_AREA: return "a table area or a run area has fewer than 16,384 words";
     case HALLBACK_REFUSED_TABLE: return "the table area is not what reading some trace leaves";
