@@ -16,6 +16,7 @@
 
 use crate::{Cause, Counts, Failure, Refusal, Replayed, Restart, AREA_WORDS};
 use crate::{HIGH_BASE, MAX_EVENTS, MAX_PROCS, TAKEN_BASE, TAKEN_HIGH_BASE, VALUE_BASE};
+use crate::{ROW_BASE, ROW_NUMBER_BASE, ROW_PHASE_BASE};
 
 mod lines;
 mod machine;
@@ -31,15 +32,6 @@ mod trace_text;
 pub use machine::{Machine, NotAllowed};
 use recorded::{Event, Recorded};
 pub use report::report;
-
-/// Word `ROW_BASE + i` of a list of messages is sender, receiver and class of row i, from 1.
-const ROW_BASE: usize = 16;
-
-/// Word `ROW_NUMBER_BASE + i` of a list of messages is the number of row i.
-const ROW_NUMBER_BASE: usize = 2_065;
-
-/// Word `ROW_PHASE_BASE + i` of a list of messages is the phase of row i.
-const ROW_PHASE_BASE: usize = 4_114;
 
 /// The kinds of events, as in a table area.
 const DONE: u8 = 0;

@@ -1,5 +1,6 @@
 //! Traces of several shapes, made at random, to try calls on.
 
+pub use crate::Event;
 use crate::{Failure, MAX_PROCS};
 use std::io::Write;
 
@@ -50,37 +51,6 @@ pub const LONG_VALUES: [u64; 8] = [
     u64::MAX,
 ];
 
-/// What an event of a trace does.
-#[derive(Clone, Copy, Debug, PartialEq, Eq)]
-pub enum Event {
-    /// Process `at` sends a value to process `to`.
-    Send {
-        /// The sender.
-        at: usize,
-        /// The receiver.
-        to: usize,
-        /// The value.
-        val: u64,
-    },
-    /// Process `at` receives the oldest message from process `from`.
-    Recv {
-        /// The receiver.
-        at: usize,
-        /// The sender.
-        from: usize,
-    },
-    /// Process `at` saves its state.
-    Save {
-        /// The process.
-        at: usize,
-    },
-    /// The oldest unfinished save of process `at` is finished.
-    Done {
-        /// The process.
-        at: usize,
-    },
-}
-
 /// A trace: how many processes, and what they do.
 #[derive(Clone, Debug, PartialEq, Eq)]
 pub struct Trace {
@@ -95,15 +65,7 @@ impl Trace {
     pub fn text(&self) -> Vec<u8> {
         let mut text = format!("procs={}\n", self.procs).into_bytes();
         for event in &self.events {
-            match event {
-                Event::Send { at, to, val } => {
-                    writeln!(text, "ev=send at={at} to={to} val={val}")
-                }
-                Event::Recv { at, from } => writeln!(text, "ev=recv at={at} from={from}"),
-                Event::Save { at } => writeln!(text, "ev=save at={at}"),
-                Event::Done { at } => writeln!(text, "ev=done at={at}"),
-            }
-            .expect("a vector takes all bytes");
+            writeln!(text, "{event}").expect("a vector takes all bytes");
         }
         text
     }

@@ -24,7 +24,7 @@ static const char text[] =
     "fail=11 set=2\n";
 
 static uint32_t table[HALLBACK_WORDS], run[HALLBACK_WORDS], whole[HALLBACK_WORDS];
-static uint32_t line[64];
+static uint32_t line[HALLBACK_MAX_PROCS];
 static uint64_t failure[3], restart[HALLBACK_RESTART_NUMBERS], answer[3];
 static uint8_t out[HALLBACK_TEXT_BYTES];
 
@@ -36,23 +36,21 @@ static int refused(const char *call, uint32_t number, uint64_t place) {
 
 /* The kind of an event of the table. */
 static uint32_t kind(size_t e) {
-    return table[HALLBACK_EVENT_BASE + e] >> 12;
+    return hallback_event(table, e).kind;
 }
 
 /* The line for a failure, left in `line` and printed; gives how many processes there are, 0 if it is refused. */
 static size_t find_line(uint64_t step, uint64_t set) {
     uint32_t number = hallback_restart(table, HALLBACK_WORDS, step, set, restart, HALLBACK_RESTART_NUMBERS);
     if (number != 0) {
-        refused("restart", number, restart[0]);
+        refused("restart", number, restart[HALLBACK_PLACE]);
         return 0;
     }
     printf("after event %llu: line", (unsigned long long)step);
-    for (size_t z = 0; z < restart[1]; z++) {
-        line[z] = restart[4 + z];
-        printf(" %u", (unsigned)line[z]);
-    }
-    printf(", %llu go back\n", (unsigned long long)restart[2]);
-    return restart[1];
+    size_t count = hallback_restart_line(restart, line);
+    for (size_t z = 0; z < count; z++) printf(" %u", (unsigned)line[z]);
+    printf(", %llu go back\n", (unsigned long long)restart[HALLBACK_RESTART_BACK]);
+    return count;
 }
 
 /* The sum of the values that were received, by the words of a delivery record. */
@@ -83,7 +81,7 @@ static int longest_fits(void) {
 int main(void) {
     uint32_t number = hallback_read_failure((const uint8_t *)text, strlen(text), table, HALLBACK_WORDS, failure, 3);
     if (number != 0) return refused("read", number, failure[0]);
-    uint64_t step = failure[1], set = failure[2];
+    uint64_t step = failure[HALLBACK_FAILURE_STEP], set = failure[HALLBACK_FAILURE_SET];
 
     /* Event 3 is a save of process 1, event 4 its done. In between a line may not name its epoch, 2. */
     size_t count = find_line(3, set);
@@ -97,7 +95,8 @@ int main(void) {
     if (count != 3) return 1;
     number = hallback_lowest(table, HALLBACK_WORDS, step, set, line, count, run, HALLBACK_WORDS, answer, 3);
     if (number != 0) return refused("lowest", number, answer[0]);
-    printf("%llu steps, %s\n", (unsigned long long)answer[1], answer[2] ? "complete" : "not complete");
+    printf("%llu steps, %s\n", (unsigned long long)answer[HALLBACK_REPLAY_STEPS],
+           answer[HALLBACK_REPLAY_COMPLETE] ? "complete" : "not complete");
 
     /* From the start of all processes nothing is lost, so that its record is that of the run without failure. */
     uint32_t start[3] = {1, 1, 1};
@@ -126,7 +125,7 @@ int main(void) {
     /* The record has all that was received: by events 2, 6 and 10, and not the last message, which nobody receives. */
     number = hallback_lowest(table, HALLBACK_WORDS, step, set, line, count, run, HALLBACK_WORDS, answer, 3);
     if (number != 0) return refused("lowest", number, answer[0]);
-    uint64_t sum = sum_received(run, table[1]);
+    uint64_t sum = sum_received(run, hallback_events(table));
     printf("the values received are %llu together\n", (unsigned long long)sum);
     return !(hallback_taken_value(run, 2) == edited_value && sum == edited_value + 7 + 9 && longest_fits());
 }
