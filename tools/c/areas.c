@@ -1,4 +1,4 @@
-/* The accessors of the header, on a run whose results are known: H of document 01 with more messages, so that there are
+/* The accessors of the header, on a run whose results are known: H (MANUAL 10.1) with more messages, so that there are
    orphans, kept and lost ones, several messages on a channel and values of more than 32 bits; and on a short one of 64
    processes. C99, and C++ as well: tools/outside compiles it as both. Prints each check that failed, and ends with 1
    then. */

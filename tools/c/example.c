@@ -1,4 +1,4 @@
-/* The library from C: reads the trace H of document 01, finds the restart line after its failure, carries out the
+/* The library from C: reads the trace H (MANUAL 10.1), finds the restart line after its failure, carries out the
    lowest order from it, and compares the record with that of the line on which every process goes back to its start.
    It finds the line of a failure while a save is being written, too, and has one that names this save refused. Then it
    changes the value of the first send and writes the trace back, and finds that value in the record of another replay;

@@ -1,6 +1,7 @@
-// The rules of documents 01 and 02 by brute force, for traces of at most 7 events: which are fit, which epochs are
-// finished, what a line loses, which phases and steps there are, worked out from the few events alone, by counting them
-// anew in the documents' words. It names nothing of the engine: gate programs hold the engine to it. Assumes nothing.
+// The rules of the requirements (MANUAL 2 to 5) by brute force, for traces of at most 7 events: which are fit, which
+// epochs are finished, what a line loses, which phases and steps there are, worked out from the few events alone, by
+// counting them anew in the words of those rules. It names nothing of the engine: gate programs hold the engine to it.
+// Assumes nothing.
 mod events;
 mod rules;
 

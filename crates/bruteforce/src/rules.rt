@@ -1,4 +1,4 @@
-// Epochs, phases, restarts, and what a line loses and keeps, in the words of document 01 and of request 5.
+// Epochs, phases, restarts, and what a line loses and keeps, in the words of MANUAL 3 and 4.
 ghost use mathlib.Core.Bool.{false};
 ghost use mathlib.Core.Path.{_≡_};
 ghost use Prim.Native.Nat.{_+_, _*_, _%_, _≤_, _<_};

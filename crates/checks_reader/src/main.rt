@@ -1,7 +1,7 @@
 // Sizes and refusals of the reader, run and printed: a line for each case, with the answer's number and place, how many
 // of the area's first 16,384 words are not 0, and how many later words changed, or else the words themselves; where a
-// text is accepted, also its trace written back and read again. The file `stdout` has what documents 01 and 02 ask of
-// each. Proved safe and ending; what is printed no contract can say. Assumes what `libc` assumes.
+// text is accepted, also its trace written back and read again. The file `stdout` has what MANUAL 2 and 6 ask of each.
+// Proved safe and ending; what is printed no contract can say. Assumes what `libc` assumes.
 ghost use Prim.Native.Nat.{_≤_};
 ghost use lib.ListN.{length};
 ghost use Rattle.io.specs.Counts.{Counts};
@@ -370,7 +370,7 @@ fn largest_text() {
     case(b"largest-text", &text[..n]);
 }
 
-// 12, before anything else, and the words of document 01's trace H, with a done after each checkpoint: that of process
+// 12, before anything else, and the words of trace H (MANUAL 10.1), with a done after each checkpoint: that of process
 // 1 is word 20, and that of process 0, word 24, is 0.
 fn areas() {
     small(b"small-fit", b"procs=2\n");

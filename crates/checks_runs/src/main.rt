@@ -1,7 +1,7 @@
 // Recoveries run from texts, and printed. Standard input has two parts, with a byte `~` between them. The first has
 // traces with their failure lines, each ended by a byte `-`, which no fit text has. For each, the report, which is what
-// the program prints, and a line `-`. They are, in this order: trace H of document 01 (R1) and its other runs that have
-// a failure line (R4, R5, R7 to R10, R11 with both sets, R12); the run D1 of the proof plan, whose orphan has its
+// the program prints, and a line `-`. They are, in this order: trace H (MANUAL 10.1; R1) and the other runs of the
+// requirements that have a failure line (R4, R5, R7 to R10, R11 with both sets, R12); the run D1, whose orphan has its
 // sender's phase and not its receiver's; D2, D3, D4 and D6 to D9, of which each tells one plausible mistake; V1 to V3,
 // whose values take more than 32 bits; all these with a done after each checkpoint. Then U1 to U6, with checkpoints
 // that are unfinished at the cut: of the process that failed, and nothing else (U1); of a sender, which goes back to
@@ -12,8 +12,8 @@
 // the program's own limit, with its status, and that the report has none. The second has the runs that have a line or
 // an order of choices, through the library: a trace, and a row for each call (crate `calls`); U7 is H without a done.
 // Every trace of the first part is also written back and read again (crate `roundtrip`); those of the second are among
-// them. The file `stdout` was worked out from documents 01 and 02 by a model that has nothing of the engine. Proved
-// safe and ending; what is printed no contract can say. Assumes what `libc` assumes.
+// them. The file `stdout` was worked out from the requirements by a model that has nothing of the engine. Proved safe
+// and ending; what is printed no contract can say. Assumes what `libc` assumes.
 use words::AREA_WORDS;
 
 // The trace of a text written back, which is all of the text but its failure line; where the text is refused, the zeros

@@ -1,8 +1,8 @@
 // The end of a line, run and printed. A line `beside B length L:` is of the first L of 17 bytes, all of them B but for
 // an LF, which stands at each of the 17 places in turn, and last at none; a line `lf I and J from:` is of 25 bytes 0x0b
 // with LF at places I and J (25: at none), searched from each place in turn up to the one after the end. What follows
-// is where `text::line_end` found the first LF, 99 for nowhere. The file `stdout` has what document 02 asks of each
-// (item 3). Proved safe and ending; what is printed no contract can say. Assumes what `libc` assumes.
+// is where `text::line_end` found the first LF, 99 for nowhere. The file `stdout` has what MANUAL 2.1 asks of each.
+// Proved safe and ending; what is printed no contract can say. Assumes what `libc` assumes.
 use text::LineEnd;
 
 // How long a text with one LF can be, and how long one with two is.

@@ -1,7 +1,8 @@
--- Demand 2: "Epochs, phases, kept messages, orphans and lost messages are those of the send-deterministic protocol ..,
--- as document 01 fixes it, each counted if and only if its definition holds. A replay does the one step of each choice
--- and no other; its record, steps and completeness are those of the order it was given, whatever the line. The line
--- given is the greatest that loses no message: in no other such line does any zone keep more of its work."
+-- Demand 2 (MANUAL 9.1): "Epochs, phases, kept messages, orphans and lost messages are those of the send-deterministic
+-- protocol ..", as MANUAL 3 and 4 fix it, "each counted if and only if its definition holds. A replay does the one step
+-- of each choice and no other; its record, steps and completeness are those of the order it was given, whatever the
+-- line. The line given is the greatest that loses no message: in no other such line does any zone keep more of its
+-- work."
 -- Of what `restart`, `messages` and `replay` answer and leave, by their definitions, for every input that is not
 -- refused.
 -- What the definitions of epochs, phases and classes mean by events: crates/theory/proofs/Claims.
@@ -50,10 +51,10 @@ module _ (a : List ℕ) (step set : ℕ) (ok : restartAnswer a step set .number 
   pub zero-past : (z : ℕ) → t .procs ≤ z → getD (restartAnswer a step set .line .epochs) z 0 ≡ 0
   zero-past = number-past a step set ok
 
-  -- "The engine's line is the greatest without a lost message." Document 02, item 5: "The floor becomes the smallest,
-  -- over the failed zones and those with an unfinished save, of the latest finished epoch at the cut. In a trace with
-  -- no `done`, each zone that goes back goes to epoch 1." "The zones that go back form a set of the same kind, and back
-  -- is its size." (the contract of `restart` has the same clause)
+  -- "The engine's line is the greatest without a lost message." With unfinished saves (MANUAL 4.6): "The floor becomes
+  -- the smallest, over the failed zones and those with an unfinished save, of the latest finished epoch at the cut. In
+  -- a trace with no `done`, each zone that goes back goes to epoch 1." "The zones that go back form a set of the same
+  -- kind, and back is its size." (the contract of `restart` has the same clause)
   pub line-given : Restarts t step set (restartAnswer a step set)
   line-given = restart-promised a step set ok
 
@@ -111,6 +112,6 @@ module _ (a area : List ℕ) (step set : ℕ) (l : Line) (order : List ℕ) wher
   pub at-most-twice : StepsAtMost a step l (replayAnswer a area step set l order)
   at-most-twice = promised a area step set l order .1 .1 .1 .1 .0
 
-  -- Document 02, item 2: exactly so many, where the order is complete and the line loses nothing
+  -- MANUAL 5.8: exactly so many, where the order is complete and the line loses nothing
   pub exactly : StepsExact a step l (replayAnswer a area step set l order)
   exactly = promised a area step set l order .1 .1 .1 .0

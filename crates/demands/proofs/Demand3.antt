@@ -96,10 +96,10 @@ pub records-told : (a area other : List ℕ) (step other-step set other-set : �
     (take areaWords one ≡ take areaWords two) ↔ ((p q : ℕ) → listIn (held a) one p q ≡ listIn (held a) two p q)
 records-told a = two-told a a (alike-self (held a))
 
--- "Records and equality of records use the wide value" (document 02, item 4): of two table areas whose traces receive
--- alike, two accepted calls leave the same words exactly if the delivery records of the states that their orders come
--- to are the same, numbers and values (`entry`: the `val` of each send, whole). Where a message that both records have
--- has another value, if only in its high half, the words differ; a record without the high half would leave the same.
+-- "Records and equality of records use the wide value" (MANUAL 5.7): of two table areas whose traces receive alike, two
+-- accepted calls leave the same words exactly if the delivery records of the states that their orders come to are the
+-- same, numbers and values (`entry`: the `val` of each send, whole). Where a message that both records have has another
+-- value, if only in its high half, the words differ; a record without the high half would leave the same.
 pub values-told : (a b : List ℕ) → Alike (held a) (held b) → (area other : List ℕ) (step other-step set other-set : ℕ) (l m : Line) (order other-order : List ℕ)
     → replayAnswer a area step set l order .number ≡ 0 → replayAnswer b other other-step other-set m other-order .number ≡ 0
     → (s u : State) → run (runOf a step l) order ≡ carriedOut s → run (runOf b other-step m) other-order ≡ carriedOut u

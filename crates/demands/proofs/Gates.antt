@@ -1,5 +1,5 @@
--- Document 01, "Gates and steps": which choices are allowed in a state of the machine, each claim under its sentence.
--- Of every run and state; what a replay reaches is Demand3's `leaves-its-record`.
+-- MANUAL 5.2 and 5.3: which choices are allowed in a state of the machine, each claim under its sentence of the
+-- requirements. Of every run and state; what a replay reaches is Demand3's `leaves-its-record`.
 use Prim.Native.Nat.{ℕ, _+_, _*_, _≤_, _<_}
 use mathlib.Core.Path.{_≡_, refl, sym, _∙_}
 use mathlib.Core.Logic.{_↔_}

@@ -1,9 +1,9 @@
--- What is printed means what demands 1 and 2 ask: "Runs to check" (document 01). Of the definitions that the contracts
--- of `report::report` and `program::respond` give for every text (`reported`, `printed`, by `recovery`, `answerTo`).
--- A text that is recovered is that of a well-formed trace and a fit failure; what is printed of it is the greatest line
--- without a lost message, the epochs, phases, orphans and kept messages of document 01, and the exact steps. Of a text
--- that is refused it is the number and the place of the reader's first faulty line, or 8 or 9 at place 0; the program
--- adds its limit.
+-- What is printed means what demands 1 and 2 ask (MANUAL 8.2; quotations are from the requirements). Of the definitions
+-- that the contracts of `report::report` and `program::respond` give for every text (`reported`, `printed`, by
+-- `recovery`, `answerTo`). A text that is recovered is that of a well-formed trace and a fit failure; what is printed
+-- of it is the greatest line without a lost message, the epochs, phases, orphans and kept messages of MANUAL 3 and 4,
+-- and the exact steps. Of a text that is refused it is the number and the place of the reader's first faulty line, or 8
+-- or 9 at place 0; the program adds its limit.
 use Prim.Native.Nat.{ℕ, zero, suc, _^_, _≤_, _<_}
 use mathlib.Core.Path.{_≡_, refl, sym, _∙_}
 use mathlib.Core.Logic.{_⊎_, inl, inr, ⊎-elim}
@@ -68,8 +68,8 @@ pub record Recovers (text : List ℕ) (r : Recovery) : Type 0 where
   pub kept-are : r .kept ≡ keptOnes (runAt trace step (lineIn (r .restarted .line)))
   pub orphans-named : (p q k : ℕ) → names p q k (r .orphans) ≡ orphan (runAt trace step (lineIn (r .restarted .line))) p q k
   pub kept-named : (p q k : ℕ) → names p q k (r .kept) ≡ kept (runAt trace step (lineIn (r .restarted .line))) p q k
-  -- "Steps are those of the order that always picks the lowest allowed choice.", and of every complete order (document
-  -- 02, item 2)
+  -- "Steps are those of the order that always picks the lowest allowed choice.", and of every complete order (MANUAL
+  -- 5.8)
   pub lowest : r .steps ≡ steps (lowestOrder (runAt trace step (lineIn (r .restarted .line))))
   pub exact : r .steps ≡ exactSteps (runAt trace step (lineIn (r .restarted .line)))
 
@@ -136,7 +136,7 @@ recovers-by text (given f) e r h =
     let same : recoveryOf f ≡ r = cc in
     rw (← same) (failure-recovers text (lastFailure text) refl f e)
 
--- A text with a recovery is fit, and the recovery is the one that document 01 asks for.
+-- A text with a recovery is fit, and the recovery is the one that the requirements ask for.
 pub recovered-means : (text : List ℕ) (r : Recovery) → recovery text ≡ given r → Recovers text r
 recovered-means text = recovers-by text (failureOf text) refl
 

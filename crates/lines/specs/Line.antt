@@ -1,4 +1,5 @@
--- What a line of the text says (document 01, "The trace text"). A line is its bytes without the LF that ends it.
+-- What a line of the text says. A line is its bytes without the LF that ends it. Quotations are from the requirements
+-- (MANUAL 2).
 use Prim.Native.Nat.{ℕ}
 use mathlib.Core.List.{List}
 use mathlib.Core.Bool.{Bool, true, false, cond}
@@ -43,8 +44,8 @@ kFail = bytesOf "fail="
 abbrev pub kSet : List ℕ
 kSet = bytesOf " set="
 
--- The largest number a key can hold: "4294967295; for `set`, 18446744073709551615". Document 02, item 4: "`val` now
--- runs to 18446744073709551615", "a zone, step or count above 4294967295 is still 1".
+-- The largest number a key can hold: "4294967295; for `set`, 18446744073709551615"; "`val` now runs to
+-- 18446744073709551615", "a zone, step or count above 4294967295 is still 1" (MANUAL 2.2).
 abbrev pub most : ℕ
 most = 4294967295
 
@@ -81,7 +82,7 @@ recvSaid l =
     thenLine (numberAt l (length kRecv) most) (λ a p.
     thenLine (fieldAt l p kFrom most) (λ b q. whenEnd (eqb q (length l)) (Recv a b)))
 
--- `ev=save at=A`; `ev=done at=A` (document 02, item 5): by the key, and what it says of A
+-- `ev=save at=A`; `ev=done at=A`: by the key, and what it says of A
 unfoldable pub processSaid : List ℕ → (ℕ → Line) → List ℕ → Line
 processSaid key says l = thenLine (numberAt l (length key) most) (λ a p. whenEnd (eqb p (length l)) (says a))
 

@@ -1,5 +1,5 @@
--- What the list of messages in a run area means (document 01, "The restart line"; docs/LAYOUT.md): which messages it
--- names, with which phases, and in which order.
+-- What the list of messages in a run area means (MANUAL 4.4, docs/LAYOUT.md): which messages it names, with which
+-- phases, and in which order. Quotations are from the requirements.
 use Prim.Native.Nat.{ℕ, _+_, _/_, _%_, _<_, _≤_}
 use mathlib.Core.Path.{_≡_}
 use mathlib.Core.Logic.{_⊎_, _↔_}

@@ -1,5 +1,5 @@
--- What `messages` answers and leaves: the classes of document 01, "The restart line", each counted and listed if and
--- only if its definition holds.
+-- What `messages` answers and leaves: the classes of MANUAL 4.4, each counted and listed if and only if its definition
+-- holds. Quotations are from the requirements.
 use Prim.Native.Nat.{ℕ}
 use mathlib.Core.List.{List, _++_}
 use lib.ListN.{length, drop}

@@ -1,5 +1,5 @@
 -- What a replay leaves in the run area: the record. Word e the number, word `takenBase b + e` half b of the value of
--- the message that receive e took; the rest 0. Definitions only.
+-- the message that receive e took; the rest 0. Definitions only. Quotations are from the requirements (MANUAL 5.6).
 use Prim.Native.Nat.{ℕ, _+_, _-_}
 use lib.Dec.{ltb}
 use lib.ListN.{getD}
@@ -25,8 +25,8 @@ module _ (R : Run) where
   unfoldable pub recordAt : State → ℕ → ℕ
   recordAt s = recordWord (takenNumber R s) (takenValue R s)
 
--- what the words of a run area say of receive e: number and value. Document 02, item 4: "Records and equality of
--- records use the wide value".
+-- what the words of a run area say of receive e: number and value. "Records and equality of records use the wide
+-- value".
 abbrev pub entryIn : List ℕ → ℕ → ℕ × ℕ
 entryIn w e = (getD w e 0, fromHalves (getD w (takenBase 0 + e) 0) (getD w (takenBase 1 + e) 0))
 

@@ -1,5 +1,5 @@
--- What is wrong with what a call is given, for every input (document 01, "Numbers given by whoever causes them": the
--- order is 12, 13, 8, 9, 10), and the run that it names.
+-- What is wrong with what a call is given, for every input (MANUAL 6.3: the order is 12, 13, 8, 9, 10), and the run
+-- that it names. Quotations are from the requirements.
 use Prim.Native.Nat.{ℕ}
 use mathlib.Core.Bool.{not, cond}
 use mathlib.Core.List.{List}

@@ -1,4 +1,4 @@
--- The lines that the program prints (document 01, "Runs to check"), each from its numbers.
+-- The lines that the program prints (MANUAL 8.2), each from its numbers. Quotations are from the requirements.
 use mathlib.Core.List.{List, [], _∷_, _++_}
 use Prim.Native.Nat.{ℕ}
 use Prim.Native.String.{String}

@@ -1,4 +1,4 @@
--- What the program prints for its whole input, and how it ends.
+-- What the program prints for its whole input, and how it ends. Quotations are from the requirements (MANUAL 8.1).
 use Prim.Native.Nat.{ℕ, _≤_}
 use mathlib.Core.Path.{_≡_}
 use mathlib.Core.List.{List}

@@ -1,5 +1,5 @@
--- What the protocol part promises: the columns and the flags of the full table (crates/columns/specs/Inner/Columns.antt,
--- by the contract of `tabulate`), and the laws of a recorded run.
+-- What the protocol part promises: the columns and the flags of the full table (crates/columns/specs/Inner, by the
+-- contract of `tabulate`), and the laws of a recorded run. The quotation is from the requirements.
 use Prim.Native.Nat.{ℕ, _≤_}
 use mathlib.Core.Path.{_≡_}
 use mathlib.Core.Bool.{true}

@@ -1,5 +1,5 @@
--- What the reader promises of texts and traces, over its definitions alone: each claim under the sentence that it
--- stands for.
+-- What the reader promises of texts and traces, over its definitions alone: each claim under the sentence of the
+-- requirements that it stands for (MANUAL 2 and 6).
 use Prim.Native.Nat.{ℕ, _<_, _≤_}
 use mathlib.Core.Path.{_≡_, refl, sym, ap, _∙_}
 use mathlib.Core.Logic.{_↔_, ⊎-elim}

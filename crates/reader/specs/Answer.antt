@@ -1,5 +1,5 @@
--- What reading a text answers, and what it leaves in the table area (document 01, "Numbers given by whoever causes
--- them").
+-- What reading a text answers, and what it leaves in the table area. Quotations are from the requirements (MANUAL 6.2
+-- to 6.4).
 use Prim.Native.Nat.{ℕ}
 use mathlib.Core.List.{List}
 use mathlib.Core.Bool.{cond}
@@ -14,8 +14,8 @@ abbrev pub verdictAnswer : Verdict → Answer
 verdictAnswer (refused n k) = record { number = n; place = k }
 verdictAnswer (accepted t) = record { number = 0; place = 0 }
 
--- "After 1 to 7 the first 16,384 words of the table area are zero"; of 15, "place and table area are as for 1 to 7"
--- (document 02, item 5); accepted: the trace's words
+-- "After 1 to 7 the first 16,384 words of the table area are zero"; of 15, "place and table area are as for 1 to 7";
+-- accepted: the trace's words
 abbrev pub verdictWord : Verdict → ℕ → ℕ
 verdictWord (refused n k) i = 0
 verdictWord (accepted t) i = tableWord t i

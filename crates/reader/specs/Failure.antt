@@ -1,4 +1,4 @@
--- The program's text has one more line, the last: `fail=K set=M` (document 01, "The trace text").
+-- The program's text has one more line, the last: `fail=K set=M`. Quotations are from the requirements (MANUAL 2.5).
 use Prim.Native.Nat.{ℕ, _+_}
 use mathlib.Core.List.{List, [], _∷_}
 use lib.ListN.{length}

@@ -1,5 +1,6 @@
 -- What an answer to reading means, over texts and traces: what is accepted, and which line a refusal is for. The
--- contracts of `read` and `read_failure` promise it, beside the answer itself (Answer, Failure).
+-- contracts of `read` and `read_failure` promise it, beside the answer itself (Answer, Failure). Quotations are from
+-- the requirements (MANUAL 2 and 6).
 use Prim.Native.Nat.{ℕ, _+_, _<_, _≤_}
 use mathlib.Core.Path.{_≡_}
 use mathlib.Core.Logic.{_↔_, _⊎_}
@@ -115,7 +116,7 @@ ReadAs r text = (a : List ℕ) → areaWords ≤ length a → readAnswer text a 
 abbrev pub FailureReadAs : FailureAnswer → List ℕ → Type 0
 FailureReadAs r text = (a : List ℕ) → areaWords ≤ length a → failureAnswer text a ≡ r
 
--- "Who writes the trace": 1 to 7, and 15 (document 02, item 5: "when a `done` finds no unfinished save")
+-- "Who writes the trace": 1 to 7, and 15 ("when a `done` finds no unfinished save")
 abbrev pub TextNumber : ℕ → Type 0
 TextNumber n = ((1 ≤ n) × (n ≤ 7)) ⊎ (n ≡ 15)
 

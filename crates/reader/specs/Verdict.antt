@@ -1,6 +1,6 @@
--- The reader's verdict on a text: line by line from the top, the first faulty line decides (document 01, "Numbers given
--- by whoever causes them": "for text line by line 1, 7, 2, 3, 4, 5, 6"; document 02, item 5: "15 when a `done` finds no
--- unfinished save, after 6").
+-- The reader's verdict on a text: line by line from the top, the first faulty line decides (MANUAL 2.6 and 6.3;
+-- quotations are from the requirements): "for text line by line 1, 7, 2, 3, 4, 5, 6"; "15 when a `done` finds no
+-- unfinished save, after 6".
 use Prim.Native.Nat.{ℕ, _+_}
 use mathlib.Core.List.{List, [], _∷_}
 use mathlib.Core.Bool.{cond}

@@ -1,4 +1,4 @@
--- A recovery line as a struct: the numbers that it gives to processes, and who goes back.
+-- A recovery line as a struct: the numbers that it gives to processes, and who goes back. Quotations: the requirements.
 use Prim.Native.Nat.{ℕ, _+_, _*_}
 use mathlib.Core.Bool.{not, cond}
 use mathlib.Core.List.{List, [], _∷_}

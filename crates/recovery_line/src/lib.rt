@@ -1,6 +1,6 @@
-// A recovery line of a trace (document 01 calls it a restart line): the epoch that each process restarts in, or that it
-// stays; and the set of those that go back. specs/Given says how a line stands in words. No public function has a
-// `requires`. Assumes nothing.
+// A recovery line of a trace (the requirements call it a restart line; MANUAL 4.2): the epoch that each process
+// restarts in, or that it stays; and the set of those that go back. specs/Given says how a line stands in words. No
+// public function has a `requires`. Assumes nothing.
 ghost use mathlib.Core.Path.{_≡_};
 ghost use mathlib.Core.Bool.{_&&_, not};
 ghost use lib.Count.{ones};

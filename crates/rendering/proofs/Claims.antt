@@ -1,5 +1,5 @@
--- What writing promises, over definitions alone: each claim under the sentence that it stands for (document 02, item
--- 1).
+-- What writing promises, over definitions alone: each claim under the sentence of the requirements that it stands for
+-- (MANUAL 7.3).
 use Prim.Native.Nat.{ℕ, _<_, _≤_}
 use mathlib.Core.Path.{_≡_, refl, sym, ap, _∙_}
 use mathlib.Core.Bool.{true, false}

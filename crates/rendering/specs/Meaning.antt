@@ -1,4 +1,4 @@
--- What writing means, both ways (document 02, item 1).
+-- What writing means, both ways (MANUAL 7.3 and 9.2). Quotations are from the requirements.
 use Prim.Native.Nat.{ℕ, _<_, _≤_}
 use mathlib.Core.Path.{_≡_}
 use mathlib.Core.List.{List, _++_}
@@ -47,5 +47,5 @@ pub record RoundTrip (a out : List ℕ) (r : WriteAnswer) (after : List ℕ) : T
   pub too-short : r .number ≡ 14 → (text : List ℕ) × Restores a text × (length out < length text)
   -- a buffer of so many bytes holds every text
   pub enough : textBytes ≤ length out → r .number ≡ 14 → ⊥
-  -- "it changes nothing", and no other refusal does; document 01: "In a refused answer every other number is 0"
+  -- "it changes nothing", and no other refusal does; "In a refused answer every other number is 0"
   pub nothing : (r .number ≡ 0 → ⊥) → (r .place ≡ 0) × (r .length ≡ 0) × (after ≡ out)

@@ -1,5 +1,5 @@
--- What writing the trace of a table area answers, and what it leaves in the byte buffer (document 02, item 1: "From a
--- table area we need the text, in a lent byte buffer, and its length in the answer").
+-- What writing the trace of a table area answers, and what it leaves in the byte buffer (MANUAL 7.3; quotations are
+-- from the requirements): "From a table area we need the text, in a lent byte buffer, and its length in the answer".
 use Prim.Native.Nat.{ℕ}
 use mathlib.Core.Bool.{not, cond}
 use mathlib.Core.List.{List, _++_}
@@ -19,7 +19,7 @@ textOf a = render (held a)
 unfoldable pub writeFault : List ℕ → ℕ → ℕ
 writeFault a n = cond (ltb (length a) areaWords) 12 (cond (not (holdsTrace a)) 13 (cond (ltb n (length (textOf a))) 14 0))
 
--- "its length in the answer"; document 01: "In a refused answer every other number is 0"
+-- "its length in the answer"; "In a refused answer every other number is 0"
 unfoldable pub writeAnswer : List ℕ → ℕ → WriteAnswer
 writeAnswer a n = record { number = writeFault a n; place = 0; length = cond (eqb (writeFault a n) 0) (length (textOf a)) 0 }
 

@@ -1,4 +1,5 @@
 -- What `restart` answers: the engine's line for a failure, who goes back, and what the program prints of each process.
+-- Quotations are from the requirements (MANUAL 4).
 use Prim.Native.Nat.{ℕ, _<_, _≤_}
 use mathlib.Core.Path.{_≡_}
 use mathlib.Core.Bool.{true, false, _&&_, _||_, not, cond}
@@ -61,9 +62,9 @@ restartAnswer a step set =
     cond (eqb (failureFaultOf a step set) 0) (restartOf (held a) step set) (restartRefusal (failureFaultOf a step set))
 
 -- Demand 2, of an answer that is no refusal: permitted, loss-free, at or above every permitted line without loss, for
--- every process. Of document 02, item 5: "The floor becomes the smallest, over the failed zones and those with an
--- unfinished save, of the latest finished epoch at the cut." (y's, where none of them has a smaller); "In a trace with
--- no `done`, each zone that goes back goes to epoch 1." The set of those that go back, and its size twice over.
+-- every process. "The floor becomes the smallest, over the failed zones and those with an unfinished save, of the
+-- latest finished epoch at the cut." (y's, where none of them has a smaller); "In a trace with no `done`, each zone
+-- that goes back goes to epoch 1." The set of those that go back, and its size twice over.
 pub record Restarts (t : Trace) (step set : ℕ) (r : Restarted) : Type 0 where
   pub greatest : Greatest t (ruleOf t) step (usableAt t step) (inSet set) (lineIn (r .line))
   pub floor : (y : ℕ)

@@ -1,7 +1,7 @@
--- The runs R1 to R12 of document 01, now of the code: what its public functions answer and leave, by their contracts.
--- The same rows as in Table, from which they follow by the laws of Calls; that every complete order has the steps of
--- document 02's formula, by the contract of `replay` alone. A table area and a run area are any that the caller lends,
--- of 16,384 words or more.
+-- The runs R1 to R12 of the requirements, now of the code: what its public functions answer and leave, by their
+-- contracts. The same rows as in Table, from which they follow by the laws of Calls; that every complete order has the
+-- steps of MANUAL 5.8, by the contract of `replay` alone. A table area and a run area are any that the caller lends, of
+-- 16,384 words or more.
 use Prim.Native.Nat.{ℕ, zero, suc, _≤_, _<_}
 use Prim.Native.String.{String}
 use mathlib.Core.Path.{_≡_, refl, sym, ap, _∙_}
@@ -318,7 +318,7 @@ c12 =
 pub code-table : C1 × C2 × C3 × C4 × C5 × C6 × C7 × C8 × C9 × C10 × C11 × C12
 code-table = (c1, c2, c3, c4, c5, c6, c7, c8, c9, c10, c11, c12)
 
--- ---- Document 02, item 5: saves that are not finished (`Unfinished` and `NoSave` of Table)
+-- ---- Saves that are not finished (`Unfinished` and `NoSave` of Table)
 
 failsFloor : lastFailure (failing linesFloor "fail=5 set=2") ≡ Failing.failing traceFloor 5 2
 unfolding opens reads
@@ -357,8 +357,8 @@ code-unfinished =
     )
 
 -- What the contract of `restart` says (`Restarts`), applied to runs. The floor: in H it is 2, of process 1; process 2,
--- which did not fail and has no save, is not asked. Where process 0 fails, whose latest finished epoch is 3, it is 2, of
--- process 1, which did not fail and has an unfinished save
+-- which did not fail and has no save, is not asked. Where process 0 fails, whose latest finished epoch is 3, it is 2,
+-- of process 1, which did not fail and has an unfinished save
 abbrev pub traceUnfailed : Trace
 traceUnfailed = two (Save 0 ∷ Done 0 ∷ Save 0 ∷ Done 0 ∷ Save 1 ∷ Done 1 ∷ Save 1 ∷ [])
 

@@ -1,5 +1,5 @@
--- The runs R1 to R12 of document 01 ("Runs to check"), each computed from its text, with its steps by the formula of
--- document 02, item 2, and all of them together.
+-- The runs R1 to R12 of the requirements, from which the quotations are (Texts says more), each computed from its text,
+-- with its steps by the formula of MANUAL 5.8, and all of them together.
 use mathlib.Core.Path.{_≡_, refl}
 use mathlib.Core.Bool.{true, false}
 use mathlib.Core.List.{List, [], _∷_, _++_}
@@ -137,7 +137,7 @@ r3 : R3
 unfolding opens reads
 r3 = ((refl, refl), not-greatest, refl)
 
--- "R4: H, step 0, set 1: line 1,32,32", and "R4 has 11 steps" (document 02, item 5)
+-- "R4: H, step 0, set 1: line 1,32,32", and, with dones, "R4 has 11 steps"
 abbrev pub recovery4 : Recovery
 recovery4 =
     recoveryIn (record { epochs = 1 ∷ 1 ∷ 1 ∷ []; line = 1 ∷ 32 ∷ 32 ∷ []; phases = 1 ∷ 1 ∷ 1 ∷ []; going = 1; back = 1; orphans = []; kept = []; steps = 11 })
@@ -174,7 +174,7 @@ r5 : R5
 unfolding opens reads
 r5 = (refl, refl, refl, refl, refl, (refl, refl))
 
--- "R6: order 1 alone is 11 at place 1."; by document 02, item 5, "R6 is order 1,1, refused at place 2"
+-- "R6: order 1 alone is 11 at place 1."; with dones "R6 is order 1,1, refused at place 2"
 abbrev pub R6 : Type 0
 R6 = replay (failing linesL "fail=4 set=2") (32 ∷ 2 ∷ []) (1 ∷ 1 ∷ []) ≡ refused 11 2
 
@@ -278,7 +278,7 @@ r12 = (refl, (refl, refl, refl))
 pub table : R1 × R2 × R3 × R4 × R5 × R6 × R7 × R8 × R9 × R10 × R11 × R12
 table = (r1, r2, r3, r4, r5, r6, r7, r8, r9, r10, r11, r12)
 
--- ---- Document 02, item 5: saves that are not finished
+-- ---- Saves that are not finished (MANUAL 3.4)
 
 -- "Restart lines may name finished epochs only": a save that no `done` has finished is not gone back to, though epoch
 -- and phase have risen at it
@@ -389,8 +389,8 @@ pub words-wide : WordsWide
 unfolding opens reads tableWord
 words-wide = (refl, refl, refl)
 
--- Document 02, item 4: the two messages from 0 to 1 differ only in the high halves of their values. The line of R1
--- loses none of them, and the record tells them apart; that of R2 loses the second, and the records differ.
+-- Values of 64 bits: the two messages from 0 to 1 differ only in the high halves of their values. The line of R1 loses
+-- none of them, and the record tells them apart; that of R2 loses the second, and the records differ.
 abbrev pub RecordsWide : Type 0
 RecordsWide =
     Delivered textWide (2 ∷ 2 ∷ 32 ∷ []) (0 ∷ 0 ∷ 1 ∷ 1 ∷ 1 ∷ 1 ∷ []) ((1, 7) ∷ (2, 4294967303) ∷ []) ((1, 18446744073709551615) ∷ [])
@@ -423,8 +423,8 @@ no-failure = (refl, refl, refl, refl)
 abbrev pub At : String → ℕ → ℕ → Type 0
 At line n k = verdict (linesOf ("procs=2" ∷ line ∷ [])) ≡ Verdict.refused n k
 
--- Document 02, item 4: "a zone, step or count above 4294967295 is still 1", where 4294967295 is 3, 8 or 2; a value and
--- a set go to 18446744073709551615 (the set names processes that are not there, 9), and above it they are 1
+-- "a zone, step or count above 4294967295 is still 1", where 4294967295 is 3, 8 or 2; a value and a set go to
+-- 18446744073709551615 (the set names processes that are not there, 9), and above it they are 1
 abbrev pub Ranges : Type 0
 Ranges =
     (verdict (linesOf ("procs=4294967295" ∷ [])) ≡ Verdict.refused 2 1)
@@ -469,8 +469,8 @@ lines = (refl, refl, refl, refl, refl, refl)
 
 -- ---- "Misreadings"
 
--- "Logging at equal epochs: the line of R2 would then lose nothing." By document 01's rule it loses message 2 from 0 to
--- 1; by the rule that logs at equal epochs too it loses none
+-- "Logging at equal epochs: the line of R2 would then lose nothing." By the requirements' rule it loses message 2 from
+-- 0 to 1; by the rule that logs at equal epochs too it loses none
 abbrev lineR2 : ℕ → ℕ
 lineR2 = lineOf (32 ∷ 2 ∷ 32 ∷ [])
 

@@ -1,5 +1,6 @@
 -- A recovery by its numbers, and more answers to a text that ends with a failure line: the messages that another line
--- loses, what an order does, the delivery record that it leaves, and how many steps document 02's formula gives.
+-- loses, what an order does, the delivery record that it leaves, and how many steps the formula of MANUAL 5.8 gives.
+-- Quotations: the requirements.
 use mathlib.Core.List.{List}
 use mathlib.Core.Bool.{Bool}
 use Prim.Native.Nat.{ℕ}
@@ -112,7 +113,7 @@ takenWordsOf R (Outcome.refused i) = refused (orderFault (Outcome.refused i)) i
 unfoldable pub takenWords : List ℕ → List ℕ → List ℕ → Answer TakenWords
 takenWords text l order = then (failureOf text) (λ f. unless (fault f l) (takenWordsOf (runWith f l) (run (runWith f l) order)))
 
--- ---- Document 02, item 2: how many steps every complete order from a line has, if it loses no message
+-- ---- How many steps every complete order from a line has, if it loses no message (MANUAL 5.8)
 
 unfoldable pub exactStepsOf : List ℕ → List ℕ → Answer ℕ
 exactStepsOf text l = then (failureOf text) (λ f. unless (fault f l) (given (exactSteps (runWith f l))))

@@ -1,6 +1,6 @@
--- The texts of the runs (document 01, "Runs to check"), line by line. H stands as it is printed there. L, S, T and the
--- text of R12 are given there in words: here they are texts, and the value 6 in them is ours. "The runs of document 01
--- are read with a `done` of the same zone put after each save" (document 02, item 5).
+-- The texts of the runs of the requirements, line by line; quotations are from these. H stands as it is printed there
+-- (MANUAL 10.1). L, S, T and the text of R12 are given there in words (MANUAL 10.3 has L, S and T): here they are
+-- texts, and the value 6 in them is ours. The runs "are read with a `done` of the same zone put after each save".
 use mathlib.Core.List.{List, [], _∷_, _++_}
 use Prim.Native.Nat.{ℕ}
 use Prim.Native.String.{String}
@@ -35,8 +35,8 @@ linesH = take 4 linesPrinted ++ "ev=done at=1" ∷ take 3 (drop 4 linesPrinted) 
 abbrev pub textH : List ℕ
 textH = failing linesH "fail=11 set=2"
 
--- H with other values in three of its sends: those of the two messages from 0 to 1 differ only in their high halves
--- (document 02, item 4), and the first message from 1 to 2 has the largest
+-- H with other values in three of its sends: those of the two messages from 0 to 1 differ only in their high halves,
+-- and the first message from 1 to 2 has the largest
 abbrev pub linesWide : List String
 linesWide =
     "procs=3"
@@ -66,7 +66,7 @@ linesT = "procs=2" ∷ "ev=send at=0 to=1 val=6" ∷ "ev=recv at=1 from=0" ∷ [
 abbrev pub linesFirst : List String
 linesFirst = "procs=2" ∷ "ev=recv at=1 from=0" ∷ []
 
--- ---- Document 02, item 5: saves that are not finished
+-- ---- Saves that are not finished (MANUAL 3.4)
 
 -- a save that is being written
 abbrev pub linesUnfinished : List String

@@ -1,4 +1,4 @@
--- What the check of a table area promises, over definitions alone: each claim under the sentence that it stands for.
+-- What the check of a table area promises, over definitions alone: each claim under its sentence of the requirements.
 use Prim.Native.Nat.{ℕ, _≤_}
 use mathlib.Core.Path.{_≡_, sym, subst, _∙_}
 use mathlib.Core.Logic.{_↔_}

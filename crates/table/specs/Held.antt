@@ -1,5 +1,5 @@
--- The trace that a table area holds (document 01, 13: "the first 16,384 words of the table area aren't what reading
--- some accepted trace leaves there"). proofs/Claims states that this is what `holdsTrace` refuses.
+-- The trace that a table area holds (MANUAL 7.1; of 13 the requirements say: "the first 16,384 words of the table area
+-- aren't what reading some accepted trace leaves there"). proofs/Claims states that this is what `holdsTrace` refuses.
 use Prim.Native.Nat.{ℕ, zero, suc, _+_}
 use mathlib.Core.List.{List, [], _∷_}
 use mathlib.Core.Bool.{Bool, true, _&&_, cond}

@@ -1,4 +1,4 @@
--- Keys (document 01: "Keys and the order of keys are fixed, byte for byte").
+-- Keys: "Keys and the order of keys are fixed, byte for byte" (the requirements; MANUAL 2.1).
 use Prim.Native.Nat.{ℕ, _+_}
 use mathlib.Core.List.{List, [], _∷_}
 use mathlib.Core.Bool.{Bool, true, false, _&&_}

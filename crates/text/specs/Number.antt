@@ -1,4 +1,4 @@
--- Decimal numbers (document 01: "Numbers are plain decimal without leading zeros (0 itself is "0")").
+-- Decimal numbers: "plain decimal without leading zeros (0 itself is "0")" (the requirements; MANUAL 2.2).
 use Prim.Native.Nat.{ℕ, suc, zero, _+_, _-_, _*_, _/_, _%_}
 use mathlib.Core.List.{List, [], _∷_, _++_}
 use mathlib.Core.Bool.{Bool, true, false, _&&_, cond}

@@ -1,8 +1,8 @@
--- What document 01 promises of recovery, and document 02 of its steps (item 2) and of unfinished saves (item 5), each
--- claim under its sentence. Read this file first, with the definitions of specs/; the other files of proofs/ say why.
--- `demand-3` is demand 3 whole. All claims hold for every well-formed trace (crate trace), every cut, and, where `rule`
--- and `usable` are named, for every rule of logging and every set of usable checkpoints; the papers' own are `ruleOf`
--- and `usableAt`.
+-- What the requirements promise of recovery (MANUAL 3 to 5), of its steps (5.8) and of unfinished saves (3.4, 4.6),
+-- each claim under its sentence, which is a quotation. Read this file first, with the definitions of specs/; the other
+-- files of proofs/ say why. `demand-3` is demand 3 whole. All claims hold for every well-formed trace (crate trace),
+-- every cut, and, where `rule` and `usable` are named, for every rule of logging and every set of usable checkpoints;
+-- the requirements' own are `ruleOf` and `usableAt`.
 use mathlib.Core.Path.{_≡_, sym, _∙_, ap}
 use mathlib.Core.Logic.{_⊎_, inl, inr, _↔_, _≢_}
 use mathlib.Core.Bool.{Bool, true, false, _&&_, _||_, not}
@@ -112,7 +112,7 @@ module _ (t : Trace) (w : wellFormed t ≡ true) (rule : Rule) where
       unfolding orphanPhase
       orphan-phase = phaseOf-send t rule
 
-      -- undone, lost, orphan, kept, which document 01 words by events, are comparisons with three counts on the channel
+      -- undone, lost, orphan, kept, defined by events (MANUAL 4.4), are comparisons with three counts on the channel
       abbrev rBefore : ℕ → ℕ → ℕ
       rBefore p q = rcvd t p q (restartIn t cut line q)
 
@@ -210,8 +210,8 @@ module _ (t : Trace) (w : wellFormed t ≡ true) (rule : Rule) where
         pub steps-at-most : steps order ≤ mostSteps t
         steps-at-most = order-bound R the-laws order s h
 
-        -- Document 02, item 2: "For a line without loss, every complete order has exactly as many steps as there are
-        -- listed events after the restarts (after the cut for staying zones) plus kept messages."
+        -- "For a line without loss, every complete order has exactly as many steps as there are listed events after the
+        -- restarts (after the cut for staying zones) plus kept messages."
         pub steps-exactly : LossFree R → Complete R s → steps order ≡ exactSteps R
         steps-exactly = exact-steps R the-laws order s h
 
@@ -270,7 +270,7 @@ module _ (t : Trace) (w : wellFormed t ≡ true) (rule : Rule) where
       pub lowering-ends : (m : ℕ → ℕ) → Above t rule cut usable failed m → LossFree (recorded t rule cut m) → Greatest t rule cut usable failed m
       lowering-ends m a f = record { permitted = a .permitted; loss-free = f; top = a .top }
 
--- ---- The floor, for document 01's rule
+-- ---- The floor, for the requirements' rule
 
 module _ (t : Trace) (w : wellFormed t ≡ true) (cut : ℕ) (cl : cut ≤ size t) (failed : ℕ → Bool) where
   -- in general: below an epoch f that each process can restart in, or that lies above the current epoch of one that did
@@ -284,9 +284,8 @@ module _ (t : Trace) (w : wellFormed t ≡ true) (cut : ℕ) (cl : cut ≤ size 
   unfinished-above : (z : ℕ) → finishedAt t z cut < current t (ruleOf t) cut z → unfinishedAt t cut z ≡ true
   unfinished-above z h = lt-ltb (cnt (finishes t z) cut) (cnt (checkpoints t z) cut) (omega (arith, now-is t (ruleOf t) (valid t w) cut cl z))
 
-  -- Document 02, item 5: "The floor becomes the smallest, over the failed zones and those with an unfinished save, of
-  -- the latest finished epoch at the cut." It is y's, where no failed process and none with an unfinished save has a
-  -- smaller.
+  -- "The floor becomes the smallest, over the failed zones and those with an unfinished save, of the latest finished
+  -- epoch at the cut." It is y's, where no failed process and none with an unfinished save has a smaller.
   pub floor-finished : (y : ℕ)
       → ((z : ℕ) → z < t .procs → (failed z || unfinishedAt t cut z) ≡ true → finishedAt t y cut ≤ finishedAt t z cut)
       → (l : ℕ → ℕ) → Greatest t (ruleOf t) cut (usableAt t cut) failed l → (z : ℕ) → z < t .procs → finishedAt t y cut ≤ l z
@@ -377,7 +376,7 @@ module _ (t : Trace) (step set : ℕ) where
         let f = (line-taken .0) e in
         demand-3 t w step (f .failure .step-most) (inSet set) line (f .permitted)
 
--- Not claims of document 01, but for code that is to meet them: Lines.lost-epochs and epochs-lost (a permitted line
--- loses a message by epochs alone), Counters.counted (a channel is two numbers), Steps.reach-work (each step takes one
--- from the work that is left), Classes (counts), Refusals.set-shifted (a set names a process N or more if a shift by N
--- leaves something).
+-- Not claims of the requirements, but for code that is to meet them: Lines.lost-epochs and epochs-lost (a permitted
+-- line loses a message by epochs alone), Counters.counted (a channel is two numbers), Steps.reach-work (each step takes
+-- one from the work that is left), Classes (counts), Refusals.set-shifted (a set names a process N or more if a shift
+-- by N leaves something).

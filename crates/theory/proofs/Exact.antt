@@ -1,5 +1,5 @@
--- The exact number of steps (document 02, item 2): the work at the start is the listed events and the kept messages, no
--- order does more than it, and a complete order from a line without loss leaves none of it. From Orders and Steps.
+-- The exact number of steps (MANUAL 5.8): the work at the start is the listed events and the kept messages, no order
+-- does more than it, and a complete order from a line without loss leaves none of it. From Orders and Steps.
 use mathlib.Core.Path.{_≡_, refl, sym, _∙_}
 use mathlib.Core.Bool.{true}
 use mathlib.Core.List.{List, [], _∷_}

@@ -105,7 +105,7 @@ module _ (t : Trace) (rule : Rule) (A : Valid t) (cut : ℕ) (cl : cut ≤ size 
   pub greatest-unique : (l m : ℕ → ℕ) → Greatest t rule cut usable failed l → Greatest t rule cut usable failed m → (z : ℕ) → z < t .procs → l z ≡ m z
   greatest-unique l m a b z h = omega (arith, a .top m (b .permitted) (b .loss-free) z h, b .top l (a .permitted) (a .loss-free) z h)
 
--- ---- The floor, for document 01's rule
+-- ---- The floor, for the requirements' rule
 
 module _ (t : Trace) (A : Valid t) (cut : ℕ) (cl : cut ≤ size t) (usable : ℕ → ℕ → Bool) (U : Usable t (ruleOf t) cut usable) (failed : ℕ → Bool) where
   module _ (f : ℕ) (small : f ≤ 32)

@@ -246,7 +246,7 @@ module _ (t : Trace) (rule : Rule) (A : Valid t) (cut : ℕ) (cl : cut ≤ size 
             above = c;
           }
 
--- under document 01's rule a message that is not logged is received in no later epoch than it is sent in
+-- under the requirements' rule a message that is not logged is received in no later epoch than it is sent in
 pub past-unlogged : (t : Trace) (A : Valid t) (cut : ℕ) (cl : cut ≤ size t) (l : ℕ → ℕ) (p q k : ℕ) (x : ByEpochs t (ruleOf t) cut l p q k)
     → epochAt t (ruleOf t) q (x .e) ≤ epochAt t (ruleOf t) p (x .d)
 past-unlogged t A cut cl l p q k x =

@@ -29,7 +29,7 @@ unfoldable pub every : List Bool → Bool
 every [] = true
 every (b ∷ bs) = b && every bs
 
--- a trace of two processes, recovered under document 01's rule
+-- a trace of two processes, recovered under the requirements' rule
 abbrev at-cut : List Event → ℕ → List ℕ → Run
 at-cut es cut l = runAt (two es) cut (lineOf l)
 
@@ -56,7 +56,7 @@ differs R order =
 abbrev waits : List Event → ℕ → List ℕ → List ℕ → List ℕ → Bool
 waits es cut l early later = stops (at-cut es cut l) early 1 && completes (at-cut es cut l) later
 
--- the order is complete with as many steps as document 02's formula says; it is complete with another number of them
+-- the order is complete with as many steps as MANUAL 5.8 says; it is complete with another number of them
 abbrev exact : Run → List ℕ → Bool
 exact R order = leaves (λ s. isNone (lowest R s) && eqb (steps order) (exactSteps R)) (run R order)
 
@@ -196,7 +196,7 @@ d15 :
 unfolding opens
 d15 = refl
 
--- document 02, item 5: a save that is not finished at the cut cannot be restarted from; a done finishes the oldest
+-- a save that is not finished at the cut cannot be restarted from (MANUAL 4.2); a done finishes the oldest
 d16 : (line-is t16 1 1 1 32 && (line-is t16 2 1 1 32 && line-is t16 3 1 2 32)) ≡ true
 unfolding opens
 d16 = refl

@@ -1,4 +1,4 @@
--- What an answer holds, as it can be computed: lines, lists of messages, steps.
+-- What an answer holds, as it can be computed: lines, lists of messages, steps. Quotations are from the requirements.
 use mathlib.Core.Bool.{Bool}
 use mathlib.Core.List.{List, [], _++_, map}
 use Prim.Native.Nat.{ℕ, zero, suc, _+_}
@@ -40,7 +40,7 @@ module _ (R : Run) where
   abbrev pub lostOnes : List Listed
   lostOnes = messages (lost R) (R .carries)
 
-  -- Document 02, item 2: "as many steps as there are listed events after the restarts (after the cut for staying zones)
-  -- plus kept messages". Listed events go to the end of the trace; the restart of a process that stays is the cut.
+  -- "as many steps as there are listed events after the restarts (after the cut for staying zones) plus kept messages"
+  -- (MANUAL 5.8). Listed events go to the end of the trace; the restart of a process that stays is the cut.
   unfoldable pub exactSteps : ℕ
   exactSteps = sum (R .trace .procs) (λ z. length (listed R z (R .restart z))) + length keptOnes

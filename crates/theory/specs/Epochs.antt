@@ -1,5 +1,5 @@
--- Epochs, phases, logged messages (document 01, "Epochs, phases, kept messages"), for any rule that says of each
--- received message whether it is logged.
+-- Epochs, phases, logged messages (MANUAL 3.3 to 3.6), for any rule that says of each received message whether it is
+-- logged. Quotations are from the requirements.
 use mathlib.Core.Bool.{Bool, true, false}
 use Prim.Native.Nat.{ℕ, zero, suc, max}
 use lib.Dec.{ltb}
@@ -65,7 +65,7 @@ module _ (t : Trace) (rule : Rule) where
     phases = put (n .phases) z (suc (n .phases z));
     carried = n .carried;
   }
-  -- document 02, item 5: "Epochs and phases rise at the save as before."
+  -- "Epochs and phases rise at the save as before." (as before there was a `done`)
   note n e (Done z) = n
 
   -- the notes after event x
@@ -91,7 +91,7 @@ module _ (t : Trace) (rule : Rule) where
   unfoldable pub loggedBy : ℕ → ℕ → ℕ → Bool
   loggedBy p q k = rule p q k (epochOf p q k) (epochAt q (recvOf t p q k))
 
--- The latest finished epoch of process z after event x (document 02, item 5). "A `done` finishes the oldest unfinished
--- save of A", so that the finished epochs are those from 1 to this one, "epoch 1 being always finished".
+-- The latest finished epoch of process z after event x (MANUAL 3.4). "A `done` finishes the oldest unfinished save of
+-- A", so that the finished epochs are those from 1 to this one, "epoch 1 being always finished".
 abbrev pub finishedAt : Trace → ℕ → ℕ → ℕ
 finishedAt t z x = suc (cnt (finishes t z) x)

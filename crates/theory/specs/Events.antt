@@ -1,5 +1,5 @@
--- Events, channels and message numbers of a trace (document 01, "The trace text"). A process is document 01's zone, a
--- checkpoint its save.
+-- Events, channels and message numbers of a trace (MANUAL 3.1, 3.2). Quotations here and in the other files are from
+-- the requirements: their zone is our process, their save our checkpoint.
 use mathlib.Core.Bool.{Bool}
 use Prim.Native.Nat.{ℕ, zero, suc}
 use lib.ListN.{length, getD}

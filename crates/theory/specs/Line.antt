@@ -1,5 +1,5 @@
--- The recovery line (document 01, "The restart line"): what a line may hold, where it restarts each process, and what
--- becomes of each message.
+-- The recovery line (MANUAL 4): what a line may hold, where it restarts each process, and what becomes of each message.
+-- Quotations are from the requirements.
 use mathlib.Core.Path.{_≡_}
 use mathlib.Core.Bool.{Bool, true, false, _&&_, _||_, not, cond}
 use mathlib.Core.Option.{Option, none, some}
@@ -140,8 +140,8 @@ module _ (t : Trace) (rule : Rule) (cut : ℕ) where
 
 -- ---- The run of a trace, by its own rule
 
--- The epochs that each process can restart in (document 02, item 5): "Restart lines may name finished epochs only,
--- epoch 1 being always finished".
+-- The epochs that each process can restart in (MANUAL 4.2): "Restart lines may name finished epochs only, epoch 1 being
+-- always finished".
 abbrev pub usableAt : Trace → ℕ → ℕ → ℕ → Bool
 usableAt t cut z e = leb 1 e && leb e (finishedAt t z cut)
 

@@ -1,5 +1,5 @@
--- Orders of choice numbers (document 01, "Gates and steps"): allowed, carried out or refused at a place, complete, the
--- lowest order.
+-- Orders of choice numbers (MANUAL 5.3, 5.5, 5.9): allowed, carried out or refused at a place, complete, the lowest
+-- order. Quotations are from the requirements.
 use mathlib.Core.Path.{_≡_}
 use mathlib.Core.Bool.{Bool, true, false, cond}
 use mathlib.Core.List.{List, [], _∷_}

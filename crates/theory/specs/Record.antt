@@ -1,6 +1,6 @@
--- The delivery record of a replay and of the run without failure (document 01, "Gates and steps"), by lists: "The
--- delivery record has one list for each channel: number and value of each message its receiver received there, in that
--- order."
+-- The delivery record of a replay and of the run without failure (MANUAL 5.6), by lists. Quotations are from the
+-- requirements: "The delivery record has one list for each channel: number and value of each message its receiver
+-- received there, in that order."
 use mathlib.Core.Path.{_≡_}
 use mathlib.Core.List.{List, map}
 use Prim.Native.Nat.{ℕ}

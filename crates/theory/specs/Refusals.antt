@@ -1,5 +1,5 @@
--- The numbers 8 to 11, "Who names the failure and the replay" (document 01): what is wrong with a failure, a line, an
--- order, or 0. The first that is wrong decides, in that order.
+-- The numbers 8 to 11 (MANUAL 6.2): what is wrong with a failure, a line, an order, or 0. The first that is wrong
+-- decides, in that order. Quotations are from the requirements.
 use mathlib.Core.Bool.{Bool, _&&_, _||_, not, cond}
 use Prim.Native.Nat.{ℕ, _^_}
 use lib.Dec.{leb, ltb, eqb}

@@ -1,5 +1,5 @@
--- The replay machine (document 01, "Gates and steps"): its states, when a phase is ready, and the one step of each
--- choice.
+-- The replay machine (MANUAL 5.1 to 5.4): its states, when a phase is ready, and the one step of each choice.
+-- Quotations are from the requirements.
 use mathlib.Core.Bool.{Bool, true, false, _&&_, cond}
 use mathlib.Core.List.{List, [], _∷_, _++_, map}
 use mathlib.Core.Option.{Option, none, some}

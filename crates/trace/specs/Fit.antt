@@ -1,4 +1,4 @@
--- Which traces are well formed (document 01, "The trace text" and numbers 2 to 7; document 02, item 5, number 15).
+-- Which traces are well formed (MANUAL 2.4): numbers 2 to 7 and 15. Quotations are from the requirements.
 use Prim.Native.Nat.{ℕ}
 use mathlib.Core.List.{List, [], _∷_, _++_}
 use mathlib.Core.Bool.{Bool, true, _&&_, cond}
@@ -18,7 +18,7 @@ eventFault n before (Recv at from) =
 eventFault n before (Save at) = cond (leb n at) 3 (cond (leb 30 (savesIn at before)) 6 0)
 eventFault n before (Done at) = cond (leb n at) 3 (cond (leb (savesIn at before) (donesIn at before)) 15 0)
 
--- "`val` now runs to 18446744073709551615" (document 02, item 4)
+-- "`val` now runs to 18446744073709551615"
 abbrev pub valueFits : Event → Bool
 valueFits (Send at to val) = leb val 18446744073709551615
 valueFits (Recv at from) = true

@@ -1,4 +1,4 @@
--- Events and traces (document 01, "The trace text"). A process is document 01's zone, a checkpoint its save.
+-- Events and traces (MANUAL 2.3). A process is the requirements' zone, a checkpoint their save.
 use Prim.Native.Nat.{ℕ, _+_}
 use mathlib.Core.List.{List, [], _∷_, _++_}
 use mathlib.Core.Bool.{Bool, true, false, _&&_}
@@ -30,8 +30,8 @@ valueOf (Recv at from) = 0
 valueOf (Save at) = 0
 valueOf (Done at) = 0
 
--- a send, a receive on the channel from p to q; a checkpoint of z; a line that finishes one of z (document 02, item 5:
--- "A `done` finishes the oldest unfinished save of A")
+-- a send, a receive on the channel from p to q; a checkpoint of z; a line that finishes one of z (the requirements: "A
+-- `done` finishes the oldest unfinished save of A")
 abbrev pub isSend : ℕ → ℕ → Event → Bool
 isSend p q (Send at to val) = eqb p at && eqb q to
 isSend p q (Recv at from) = false

@@ -620,7 +620,7 @@ fn writes_changed_areas() {
     }
 }
 
-/// A trace of two processes in the short form of the proof plan: `v0` a save, `d0` a done, `s01` a
+/// A trace of two processes in a short form: `v0` a save, `d0` a done, `s01` a
 /// send from 0 to 1, `r10` a receive by 1 from 0.
 fn short(events: &str) -> String {
     let mut text = "procs=2\n".to_string();

@@ -4,7 +4,7 @@ use Prim.Native.Nat.{ℕ}
 use Prim.Native.String.{String}
 use Rattle.text.specs.Bytes.{bytesOf}
 
--- "Lines end with LF (byte 10)."
+-- "Lines end with LF (byte 10)." (the requirements; MANUAL 2.1)
 unfoldable pub linesOf : List String → List ℕ
 linesOf [] = []
 linesOf (l ∷ ls) = bytesOf l ++ 10 ∷ linesOf ls

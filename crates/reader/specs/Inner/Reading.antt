@@ -72,7 +72,7 @@ refusalOf (Refused n k) = record { number = n; place = k }
 refusalOf (Ended k) = record { number = 1; place = k }
 refusalOf (Stopped step set k next) = record { number = 1; place = k }
 
--- "In a refused answer every other number is 0."
+-- "In a refused answer every other number is 0." (the requirements; MANUAL 6.1)
 abbrev pub failureRefusal : Answer → FailureAnswer
 failureRefusal a = record { number = a .number; place = a .place; step = 0; set = 0 }
 

@@ -1,11 +1,12 @@
--- Several bytes looked at together, as one number (document 02, item 3). No public contract cites these.
+-- Several bytes looked at together, as one number. No public contract cites these. Quotations are from the
+-- requirements.
 use Prim.Native.Nat.{ℕ, suc, zero, _+_, _*_, _/_, _%_, _^_, _<_}
 use mathlib.Core.Path.{_≡_}
 use mathlib.Core.List.{List, [], _∷_}
 use mathlib.Core.Bool.{cond}
 use lib.Dec.{eqb}
 
--- the first k bytes as one number, the first of them lowest (item 3: "eight bytes into one 64-bit number")
+-- the first k bytes as one number, the first of them lowest ("eight bytes into one 64-bit number")
 unfoldable pub packed : ℕ → List ℕ → ℕ
 packed zero bs = 0
 packed (suc k) [] = 0
@@ -15,7 +16,7 @@ packed (suc k) (b ∷ bs) = b + 256 * packed k bs
 unfoldable pub byteOf : ℕ → ℕ → ℕ
 byteOf w i = w / 256 ^ i % 256
 
--- one of the k lowest bytes of a number is LF (item 3: "exactly when one of the eight is LF")
+-- one of the k lowest bytes of a number is LF ("exactly when one of the eight is LF")
 abbrev pub AnyLf : ℕ → ℕ → Type 0
 AnyLf k w = (i : ℕ) × (i < k) × (byteOf w i ≡ 10)
 

@@ -1,4 +1,4 @@
--- Where a line ends (document 01: "Lines end with LF (byte 10)").
+-- Where a line ends: "Lines end with LF (byte 10)" (the requirements; MANUAL 2.1).
 use Prim.Native.Nat.{ℕ, _+_, _<_, _≤_}
 use mathlib.Core.Path.{_≡_}
 use mathlib.Core.List.{List, [], _∷_}
@@ -17,9 +17,9 @@ lfFrom at (b ∷ bs) = cond (eqb b 10) (At at) (lfFrom (at + 1) bs)
 abbrev pub lineEnd : List ℕ → ℕ → LineEnd
 lineEnd text at = lfFrom at (drop at text)
 
--- what `lineEnd` says of a text from a place on (document 02, item 3: "the search finds the first LF or that there is
--- none"): LF stands at place k and, from the start on, nowhere before it; or nowhere at all. By claim `line-ends` it
--- says so, and by `ends-only` nothing else does.
+-- what `lineEnd` says of a text from a place on ("the search finds the first LF or that there is none"): LF stands at
+-- place k and, from the start on, nowhere before it; or nowhere at all. By claim `line-ends` it says so, and by
+-- `ends-only` nothing else does.
 pub record FirstAt (text : List ℕ) (from k : ℕ) : Type 0 where
   pub after : from ≤ k
   pub within : k < length text
