@@ -12,7 +12,7 @@ use Rattle.words.proofs.Area.{zero-word}
 use Rattle.words.proofs.Cases.{by-bool, by-eq, clash}
 use Rattle.machine.specs.Inner.Words.{Small}
 use Rattle.columns.specs.Inner.Full.{phaseW}
-use Rattle.links.specs.Inner.Linking.{headWords, sentClass, chainA, linkL, keptL, keptH, linkedL, linkedH, linkedA}
+use Rattle.links.specs.Inner.Linking.{headWords, sentClass, chainA, linkL, keptL, keptH, linkedL, linkedH}
 use Rattle.links.specs.Inner.Listed.{OnList, here, later, Rising}
 use Rattle.links.specs.Inner.Shapes.{PhasedTo}
 use Rattle.links.proofs.Linking.{far-A, len-A, small-A}

@@ -6,7 +6,7 @@ use mathlib.Core.List.{List}
 use Prim.Native.Nat.{ℕ, _+_, _/_, _%_, _^_, _≤_, _<_}
 use native.Mathlib.Omega.{arith}
 use lib.ListN.{length, getD}
-use Rattle.words.proofs.Cases.{by-bool, clash}
+use Rattle.words.proofs.Cases.{by-bool}
 use Rattle.theory.specs.Line.{Run, inSet}
 use Rattle.theory.specs.Replay.{process, State}
 use Rattle.theory.specs.Inner.Flow.{Inv}

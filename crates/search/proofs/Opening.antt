@@ -8,8 +8,8 @@ use Prim.Native.Nat.{ℕ, _+_, _-_, _*_, _%_, _^_, _≤_, _<_}
 use native.Mathlib.Omega.{arith}
 use lib.ListN.{length, getD, set}
 use lib.Seq.{getD-set-same, getD-set-other}
-use lib.Dec.{ltb, eqb}
-use borrow.Author.Tests.{lt-ltb, le-ltb, ltb-false, eq-eqb, ne-eqb, eqb-false}
+use lib.Dec.{eqb}
+use borrow.Author.Tests.{lt-ltb, le-ltb, eq-eqb, ne-eqb}
 use Rattle.words.proofs.Cases.{by-bool, by-lt, by-eq, clash}
 use Rattle.theory.specs.Events.{size}
 use Rattle.theory.specs.Line.{Run, inSet}
@@ -25,7 +25,7 @@ use Rattle.sets.specs.Inner.Sets.{firstIn, restOf, withIn}
 use Rattle.sets.proofs.Sets.{none-in, rest-out, with-out, with-members}
 use Rattle.links.specs.Inner.Listed.{OnList, here, later, Rising, Listed}
 use Rattle.search.specs.Inner.Lowest.{Unready, Waiting}
-use Rattle.search.specs.Inner.Opened.{Shut, GatesOpened, Grown, Joined, ListJoined, PhasesJoined}
+use Rattle.search.specs.Inner.Opened.{GatesOpened, Grown, Joined, ListJoined, PhasesJoined}
 
 -- ---- Members
 

@@ -9,10 +9,11 @@
 //
 // The cost is linear in the events: a try without success takes a member from its set, and members join one at a step,
 // two where a message is handed over, each process once by its gate, each kept message once by its list. Shut gates
-// are looked at only where one of them opens, at most 64 times 64 in all; each phase is passed once, and there are at
-// most two more of them than events. No term is events times processes.
+// are looked at only where the least phase is above the least of them, so that after the first look at least one opens:
+// at most 64 looks and 2,080. Each phase is passed once, and there are at most two more of them than events. No term is
+// events times processes.
 ghost use mathlib.Core.Path.{_≡_};
-ghost use mathlib.Core.Bool.{true, false};
+ghost use mathlib.Core.Bool.{true};
 ghost use Prim.Native.Nat.{ℕ, _+_, _*_, _/_, _%_, _≤_, _<_};
 ghost use lib.ListN.{length, getD};
 ghost use Rattle.words.specs.Area.{areaWords};
@@ -176,8 +177,8 @@ fn open_gates(gates: &[u32], low: u32, o: Open) -> Open
     }
 }
 
-// A link as an event.
-fn linked(link: u16) -> usize
+// The event that a link or a head is.
+fn event_of(link: u16) -> usize
     ensures { λ r. ⌜ r ≡ link ⌝ }
 {
     link as usize
@@ -195,7 +196,7 @@ fn join_list(full: &[u32], links: &[u16], ready: &mut [u64], first: usize, set: 
         let p = trace::process(w);
         ready[p] = sets::with(ready[p], trace::peer(w));
         senders = sets::with(senders, p);
-        m = linked(links[4 * m + 3]);
+        m = event_of(links[4 * m + 3]);
     }
     senders
 }
@@ -216,7 +217,7 @@ fn join_phases(
     let mut senders = set;
     let mut f = from;
     while f < to {
-        senders = join_list(full, links, ready, linked(heads[f]), senders);
+        senders = join_list(full, links, ready, event_of(heads[f]), senders);
         f += 1;
     }
     senders

@@ -6,7 +6,6 @@ use mathlib.Core.List.{List}
 use lib.ListN.{getD}
 use Rattle.columns.specs.Inner.Full.{eventsW, atW, peerW}
 use Rattle.theory.specs.Line.{inSet}
-use Rattle.sets.specs.Inner.Sets.{Outside}
 use Rattle.links.specs.Inner.Listed.{OnList}
 
 -- the gates of a set of processes are not below a phase, and that is not below the least one
