@@ -66,10 +66,14 @@ module _ (t : Trace) (A : Valid t) where
   pub epoch-most : (z x : ℕ) → x ≤ size t → epochAt t (ruleOf t) z x ≤ 31
   epoch-most z x l = omega (arith, epoch-is t (ruleOf t) x z, A .checkpoints-few z x l)
 
-pub well-few : (t : Trace) → wellFormed t ≡ true → size t ≤ 2048
-unfolding wellFormed
-well-few t w =
-    let fits = allFit (t .procs) [] (t .events) in
-    let b = and-right (leb 2 (t .procs)) (leb (t .procs) 64 && (leb (size t) 2048 && fits)) w in
-    let c = and-right (leb (t .procs) 64) (leb (size t) 2048 && fits) b in
-    leb-true (size t) 2048 (and-left (leb (size t) 2048) fits c)
+-- what a well-formed trace has
+module _ (t : Trace) (w : wellFormed t ≡ true) where
+  sized-fit : leb (size t) 2048 && allFit (t .procs) [] (t .events) ≡ true
+  unfolding wellFormed
+  sized-fit = and-right (leb (t .procs) 64) _ (and-right (leb 2 (t .procs)) _ w)
+
+  pub well-few : size t ≤ 2048
+  well-few = leb-true (size t) 2048 (and-left (leb (size t) 2048) _ sized-fit)
+
+  pub well-fit : allFit (t .procs) [] (t .events) ≡ true
+  well-fit = and-right (leb (size t) 2048) _ sized-fit

@@ -11,7 +11,7 @@ use lib.ListN.{length, getD, set, length-set}
 use lib.Seq.{getD-set-same, getD-set-other}
 use borrow.Author.Tests.{le-leb, lt-leb, lt-ltb}
 use Rattle.words.proofs.Cases.{by-eq, by-lt, clash}
-use Rattle.trace.specs.declared.Event.the-variants.{Send, Recv, Save}
+use Rattle.trace.specs.declared.Event.the-variants.{Send, Recv}
 use Rattle.trace.specs.Trace.{Trace}
 use Rattle.theory.specs.Events.{send, recv, size, eventAt, at, kind, sends, recvs, sent, rcvd, sendOf, recvOf}
 use Rattle.theory.specs.Epochs.{epochAt, phaseAt, loggedBy, ruleOf}
@@ -124,7 +124,7 @@ module _ (t : Trace) (x : ℕ) (full : List ℕ) (F : Filled t x full) (A : Vali
       waiting : rcvd t b a x < sent t b a x
       waiting = omega (arith, rcvd-more t x b a here, sent-same t x b a (recv-sends t x a b e b a), A .causal b a (suc x) l)
 
-      pub oldest-is : getD work (128 + (64 * b + a)) 0 ≡ sendOf t b a (rcvd t b a (suc x))
+      pub oldest-is : getD work (192 + (64 * b + a)) 0 ≡ sendOf t b a (rcvd t b a (suc x))
       oldest-is = W .oldest b a lb la ∙ rw (lt-ltb (rcvd t b a x) (sent t b a x) waiting) (ap (sendOf t b a) (sym (rcvd-more t x b a here)))
 
       abbrev d : ℕ

@@ -8,7 +8,7 @@ use mathlib.Core.List.{List, [], _∷_, _++_}
 use Prim.Native.Nat.{ℕ, zero, suc, _+_, _*_, _%_, _≤_, _<_}
 use native.Mathlib.Omega.{arith}
 use lib.ListN.{getD}
-use lib.Dec.{leb, eqb}
+use lib.Dec.{eqb}
 use borrow.Author.Tests.{eqb-true, leb-true}
 use Rattle.words.specs.Halves.{half}
 use Rattle.words.proofs.Cases.{by-bool, and-left, and-right}
@@ -25,7 +25,7 @@ use Rattle.theory.proofs.Events.{sends-is, recvs-is, sends-of, recvs-of, sendOf
 use Rattle.theory.proofs.WellFormed.{Valid, valid}
 use Rattle.columns.specs.Inner.Columns.{Flagged, Tabled}
 use Rattle.columns.specs.Inner.Full.{procsW, eventsW, eventW, atW, peerW, kindW, numberW, valueW, matchW, loggedW, kindBy}
-use Rattle.columns.proofs.Bounds.{well-few}
+use Rattle.columns.proofs.Bounds.{well-few, well-fit}
 use Rattle.columns.proofs.Moves.{send-epoch, send-phase, recv-at, recv-epoch, recv-phase-other, Local, save-local, done-local, local-at, local-epoch-other, local-phase-other}
 
 -- an event changes the epoch and the phase of its own process only
@@ -61,13 +61,9 @@ fits-most (Done a) h = omega arith
 module _ (t : Trace) (w : wellFormed t ≡ true) where
   -- a value of a well-formed trace has 64 bits: its halves tell it
   pub value-most : (e : ℕ) → valueOf (eventAt t e) ≤ 18446744073709551615
-  unfolding wellFormed eventAt
+  unfolding eventAt
   value-most zero = omega arith
-  value-most (suc i) =
-      let fits = allFit (t .procs) [] (t .events) in
-      let b = and-right (leb 2 (t .procs)) (leb (t .procs) 64 && (leb (size t) 2048 && fits)) w in
-      let c = and-right (leb (size t) 2048) fits (and-right (leb (t .procs) 64) (leb (size t) 2048 && fits) b) in
-      fits-most (getD (t .events) i (Save (t .procs))) (fit-values (t .procs) (t .procs) [] (t .events) c i)
+  value-most (suc i) = fits-most (getD (t .events) i (Save (t .procs))) (fit-values (t .procs) (t .procs) [] (t .events) (well-fit t w) i)
 
   pub message-most : (p q k : ℕ) → value t p q k ≤ 18446744073709551615
   unfolding value

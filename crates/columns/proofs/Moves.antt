@@ -1,6 +1,6 @@
 -- How the theory's counts, epochs and phases move at one event, by its kind. From the definitions, and the claims of
 -- the theory on what a message carries.
-use Prim.Native.Nat.{ℕ, suc, _+_, _<_, _≤_}
+use Prim.Native.Nat.{ℕ, suc, _+_, _-_, _<_, _≤_}
 use mathlib.Core.Path.{_≡_, refl, sym, ap, _∙_}
 use mathlib.Core.Logic.{_⊎_, inl, inr, ⊎-elim, _≢_}
 use mathlib.Core.Bool.{Bool, true, false, _&&_}
@@ -11,9 +11,9 @@ use Rattle.trace.specs.declared.Event.{Event}
 use Rattle.trace.specs.declared.Event.the-variants.{Send, Recv, Save, Done}
 use Rattle.trace.specs.Trace.{Trace}
 use Rattle.words.proofs.Cases.{by-eq}
-use Rattle.theory.specs.Events.{size, eventAt, at, sends, recvs, sent, rcvd}
-use Rattle.theory.specs.Epochs.{Notes, joined, note, notes, epochAt, phaseAt, phaseOf, loggedBy, ruleOf}
-use Rattle.theory.proofs.Base.{eqb-self}
+use Rattle.theory.specs.Events.{size, eventAt, at, sends, recvs, finishes, sent, rcvd}
+use Rattle.theory.specs.Epochs.{Notes, joined, note, notes, epochAt, phaseAt, phaseOf, loggedBy, ruleOf, finishedAt}
+use Rattle.theory.proofs.Base.{eqb-self, cnt-suc, cnt-skip}
 use Rattle.theory.proofs.WellFormed.{Valid}
 use Rattle.theory.proofs.Epochs.{phase-recv, phaseOf-send, logged-is}
 
@@ -55,6 +55,10 @@ module _ (t : Trace) (x : ℕ) where
     unfolding note
     send-phase z = ap (λ (n : Notes). n .phases z) (noted (Send a b v) e)
 
+    pub send-finished : (z : ℕ) → finishedAt t z (suc x) ≡ finishedAt t z x
+    unfolding finishes
+    send-finished z = ap suc (cnt-skip (finishes t z) x (rw e))
+
   -- a receive of a from b
   module _ (a b : ℕ) (e : eventAt t (suc x) ≡ Recv a b) where
     pub recv-at : at t (suc x) ≡ a
@@ -76,6 +80,10 @@ module _ (t : Trace) (x : ℕ) where
     pub recv-epoch : (z : ℕ) → epochAt t (ruleOf t) z (suc x) ≡ epochAt t (ruleOf t) z x
     unfolding note
     recv-epoch z = ap (λ (n : Notes). n .epochs z) (noted (Recv a b) e)
+
+    pub recv-finished : (z : ℕ) → finishedAt t z (suc x) ≡ finishedAt t z x
+    unfolding finishes
+    recv-finished z = ap suc (cnt-skip (finishes t z) x (rw e))
 
     pub recv-phase-other : (z : ℕ) → z ≢ a → phaseAt t (ruleOf t) z (suc x) ≡ phaseAt t (ruleOf t) z x
     unfolding note
@@ -139,6 +147,20 @@ module _ (t : Trace) (x : ℕ) where
     local-phase-other z n = ⊎-elim
         (λ e. ap (λ (n : Notes). n .phases z) (noted (Save a) (e .0)) ∙ rw (ne-eqb z a n))
         (λ e. ap (λ (n : Notes). n .phases z) (noted (Done a) (e .0)))
+        l
+
+    pub local-finished : finishedAt t a (suc x) ≡ finishedAt t a x + (1 - u)
+    unfolding finishes
+    local-finished = ⊎-elim
+        (λ e. omega (arith, cnt-skip (finishes t a) x (rw (e .0)), e .1))
+        (λ e. omega (arith, cnt-suc (finishes t a) x (rw (e .0) (eqb-self a)), e .1))
+        l
+
+    pub local-finished-other : (z : ℕ) → z ≢ a → finishedAt t z (suc x) ≡ finishedAt t z x
+    unfolding finishes
+    local-finished-other z n = ⊎-elim
+        (λ e. ap suc (cnt-skip (finishes t z) x (rw (e .0))))
+        (λ e. ap suc (cnt-skip (finishes t z) x (rw (e .0) (ne-eqb z a n))))
         l
 
   -- the two kinds

@@ -1,13 +1,13 @@
--- The pass over the events: where it begins, that each event keeps the tables right, and that they end as the full
--- table, its columns and its other words.
+-- The pass over the events of a trace: where it begins, that each event keeps the tables right, and that they end as
+-- the full table.
 use Prim.Native.Nat.{ℕ, suc, _+_, _*_, _<_, _≤_}
 use mathlib.Core.Path.{_≡_, refl, sym, _∙_}
+use mathlib.Core.Bool.{cond}
 use mathlib.Core.List.{List}
 use native.Mathlib.Omega.{arith}
-use lib.ListN.{length, getD, set, replicate}
+use lib.ListN.{length, getD, set}
 use lib.Seq.{getD-set-other}
 use borrow.Author.Tests.{le-leb, lt-leb, le-ltb}
-use Rattle.words.proofs.Area.{zero-word}
 use Rattle.words.proofs.Cases.{by-eq, by-lt}
 use Rattle.trace.specs.declared.Event.{Event}
 use Rattle.trace.specs.declared.Event.the-variants.{Send, Recv, Save, Done}
@@ -15,25 +15,24 @@ use Rattle.trace.specs.Trace.{Trace}
 use Rattle.trace.specs.Table.{tableWord}
 use Rattle.theory.specs.Lists.{cnt, place}
 use Rattle.theory.specs.Events.{size, eventAt, at, sends, recvs, sent, rcvd, sendOf, recvOf}
-use Rattle.theory.specs.Epochs.{notes, epochAt, phaseAt, ruleOf}
+use Rattle.theory.specs.Epochs.{notes, epochAt, phaseAt, ruleOf, finishedAt}
 use Rattle.theory.proofs.Base.{place-le, place-there, cnt-le, cnt-bound}
 use Rattle.theory.proofs.Events.{sends-is, partner}
 use Rattle.theory.proofs.WellFormed.{Valid}
-use Rattle.columns.specs.Inner.Columns.{fullWords, Columns, Others}
-use Rattle.columns.specs.Inner.Filling.{noteFull, noteWork, LocalNotable, Notable, Filled, Working}
+use Rattle.columns.specs.Inner.Columns.{fullWords, Columns}
+use Rattle.columns.specs.Inner.Filling.{placed, recvLogged, recvPhase, oldestOf, noteFull, noteWork, LocalNotable, Notable, Filled, Working}
 use Rattle.columns.proofs.Moves.{send-here, send-at, recv-here, recv-at, Local, save-local, done-local, local-at}
 use Rattle.columns.proofs.Bounds.{sendOf-most, phase-most, epoch-most}
 use Rattle.columns.proofs.Columns.{no-message, oldest-is, oldest-found, send-filled, recv-filled, local-filled, latest-number}
-use Rattle.columns.proofs.Others.{others-from, send-others, recv-others, local-others}
+use Rattle.columns.proofs.Storing.{placed-other, stored-other}
 use Rattle.columns.proofs.Work.{send-working, recv-working, local-working}
 
 -- ---- Before the first event
 
 module _ (t : Trace) where
-  pub begin-filled : (full : List ℕ) → length full ≡ fullWords → ((k : ℕ) → k < 6163 → getD full k 0 ≡ tableWord t k) → getD full 6163 0 ≡ 0 → Filled t 0 full
-  begin-filled full l w z = record {
+  pub begin-filled : (full : List ℕ) → length full ≡ fullWords → getD full 6163 0 ≡ 0 → Filled t 0 full
+  begin-filled full l z = record {
     whole = l;
-    words = w;
     number-none = z;
     number-send = λ p q e s u h. absurd (let y : ⊥ = omega arith in y);
     epoch = λ e u h. absurd (let y : ⊥ = omega arith in y);
@@ -59,15 +58,20 @@ module _ (t : Trace) where
   unfolding notes
   first-phase z = refl
 
-  pub begin-working : (work : List ℕ) → length work ≡ 10369 → ((k : ℕ) → k < 128 → getD work k 0 ≡ 1) → ((k : ℕ) → 128 ≤ k → getD work k 0 ≡ 0) → Working t 0 work
+  first-finished : (z : ℕ) → finishedAt t z 0 ≡ 1
+  unfolding cnt
+  first-finished z = refl
+
+  pub begin-working : (work : List ℕ) → length work ≡ 10433 → ((k : ℕ) → k < 192 → getD work k 0 ≡ 1) → ((k : ℕ) → 192 ≤ k → getD work k 0 ≡ 0) → Working t 0 work
   begin-working work l one none = record {
     whole = l;
     epochs = λ z h. one z (omega arith) ∙ sym (first-epoch z);
     phases = λ z h. one (64 + z) (omega arith) ∙ sym (first-phase z);
-    oldest = λ p q lp lq. none (128 + (64 * p + q)) (omega arith) ∙ rw (le-ltb (rcvd t p q 0) (sent t p q 0) (omega (arith, no-sent p q, no-rcvd p q)));
-    latest = λ p q lp lq. none (4224 + (64 * p + q)) (omega arith) ∙ rw (no-sent p q) (sym (no-message t p q));
+    finished = λ z h. one (128 + z) (omega arith) ∙ sym (first-finished z);
+    oldest = λ p q lp lq. none (192 + (64 * p + q)) (omega arith) ∙ rw (le-ltb (rcvd t p q 0) (sent t p q 0) (omega (arith, no-sent p q, no-rcvd p q)));
+    latest = λ p q lp lq. none (4288 + (64 * p + q)) (omega arith) ∙ rw (no-sent p q) (sym (no-message t p q));
     next = λ p q d s u h. absurd (let y : ⊥ = omega arith in y);
-    fresh = λ d h. none (8320 + d) (omega arith);
+    fresh = λ d h. none (8384 + d) (omega arith);
   }
 
 -- ---- One event
@@ -95,6 +99,7 @@ module _ (t : Trace) (A : Valid t) (few : size t ≤ 2048) (x : ℕ) (l : suc x 
         at-lt = la;
         epoch-few = rw (W .epochs a la) (omega (arith, epoch-most t A a x (omega arith)));
         phase-few = rw (W .phases a la) (omega (arith, phase-most t A a x (omega arith)));
+        finished-few = rw (W .finished a la) (omega (arith, A .finished-few a x (omega arith), A .checkpoints-few a x (omega arith)));
       }
 
   local-few : (a u : ℕ) → Local t x a u → a < 64
@@ -135,15 +140,6 @@ module _ (t : Trace) (A : Valid t) (few : size t ≤ 2048) (x : ℕ) (l : suc x 
   next-filled (Save a) e = let v = save-local t x a e in local-filled t x full F A few l work W a 1 v (local-few a 1 v)
   next-filled (Done a) e = let v = done-local t x a e in local-filled t x full F A few l work W a 0 v (local-few a 0 v)
 
-  pub next-others : (before : List ℕ) → Others t x before full → (v : Event) → eventAt t (suc x) ≡ v → Others t (suc x) before (noteFull full work (suc x) v)
-  next-others before O (Send a b v) e = send-others t x before full O F few l work a b v e
-  next-others before O (Recv a b) e =
-      let la = process-few a (recv-at t x a b e) in
-      let lb = sender-few a b e in
-      rw (oldest-is t x full F A few l work W a b e la lb) (recv-others t x before full O F few l work A W a b e la lb)
-  next-others before O (Save a) e = local-others t x before full O F few l work a 1
-  next-others before O (Done a) e = local-others t x before full O F few l work a 0
-
   pub next-working : (v : Event) → eventAt t (suc x) ≡ v → Working t (suc x) (noteWork full work (suc x) v)
   next-working (Send a b v) e = send-working t x work W A few l a b v e (process-few a (send-at t x a b v e)) (receiver-few a b v e)
   next-working (Recv a b) e =
@@ -163,10 +159,10 @@ never t p q k h =
     (λ n. let r = place-there (recvs t p q) k (size t) (omega arith) in
     absurd (let y : ⊥ = omega (arith, r .1, cnt-le (recvs t p q) (place (recvs t p q) k (size t)) (size t) (place-le (recvs t p q) k (size t))) in y))
 
-pub filled-columns : (t : Trace) (full : List ℕ) → Filled t (size t) full → Columns t full
-filled-columns t full F = record {
+pub filled-columns : (t : Trace) (full : List ℕ) → ((k : ℕ) → k < 6163 → getD full k 0 ≡ tableWord t k) → Filled t (size t) full → Columns t full
+filled-columns t full words F = record {
   whole = F .whole;
-  words = F .words;
+  words = words;
   number-send = F .number-send;
   epoch = F .epoch;
   phase = F .phase;
@@ -176,12 +172,17 @@ filled-columns t full F = record {
   match-recv = F .match-recv;
 }
 
--- the copy leaves the words after those of the trace
-pub copied-others : (t : Trace) (x : ℕ) (before full after : List ℕ) → ((k : ℕ) → 6163 ≤ k → getD full k 0 ≡ getD before k 0)
-    → Others t x (set full 6163 0) after → Others t x before after
-copied-others t x before full after c O =
-    others-from t x before (set full 6163 0) after (λ k h. getD-set-other full 6163 k 0 0 (λ i. omega arith) ∙ c k (omega arith)) O
+-- ---- The trace's own words
 
-pub begun-working : (t : Trace) (work : List ℕ) → length work ≡ 10369 → ((k : ℕ) → k < 128 → getD work k 0 ≡ 1)
-    → ((k : ℕ) → 128 ≤ k → getD work k 0 ≡ getD (replicate 10369 0) k 0) → Working t 0 work
-begun-working t work l one rest = begin-working t work l one (λ k h. rest k h ∙ zero-word 10369 k)
+-- no event changes them
+pub note-below : (full work : List ℕ) (e : ℕ) → length full ≡ fullWords → e ≤ 2048 → (v : Event) (k : ℕ) → k < 6163
+    → getD (noteFull full work e v) k 0 ≡ getD full k 0
+note-below full work e l m (Send a b v) k h = stored-other full e _ _ _ 0 l m k (λ q. omega arith) (λ q. omega arith) (λ q. omega arith) (λ q. omega arith)
+note-below full work e l m (Recv a b) k h =
+    let d = oldestOf work a b in
+    let mid = placed full e (getD work a 0) (recvPhase full work d a) d in
+    getD-set-other (set mid (12310 + d) e) (6163 + e) k (cond (recvLogged full work d a) 1 0) 0 (λ q. omega arith)
+    ∙ getD-set-other mid (12310 + d) k e 0 (λ q. omega arith)
+    ∙ placed-other full e _ _ d l m k (λ q. omega arith) (λ q. omega arith) (λ q. omega arith)
+note-below full work e l m (Save a) k h = stored-other full e 0 _ _ 0 l m k (λ q. omega arith) (λ q. omega arith) (λ q. omega arith) (λ q. omega arith)
+note-below full work e l m (Done a) k h = stored-other full e 0 _ _ 0 l m k (λ q. omega arith) (λ q. omega arith) (λ q. omega arith) (λ q. omega arith)

@@ -102,7 +102,6 @@ module _ (t : Trace) (x : ℕ) (full next : List ℕ) (F : Filled t x full) (few
   pub filled-step : Step → Filled t (suc x) next
   filled-step S = record {
     whole = S .whole;
-    words = λ k h. S .others k (omega arith) (λ q. omega arith) (λ q. omega arith) (λ q. omega arith) ∙ F .words k h;
     number-none = S .others 6163 (omega arith) (λ q. omega arith) (λ q. omega arith) (λ q. omega arith) ∙ F .number-none;
     number-send = λ p q e s a b. by-event (λ e. sends t p q e ≡ true → 0 < e → getD next (6163 + e) 0 ≡ sent t p q e) e b
         (λ h s a. S .others (6163 + e) (omega arith) (λ i. omega arith) (λ i. omega arith) (λ i. omega arith) ∙ F .number-send p q e s a h)

@@ -1,18 +1,18 @@
 // The full table of a trace: for each send the number of its message, for each event the epoch and the phase of its
 // process and the event that it is matched with, for each receive whether its message is logged. specs/Inner/Columns
-// says what each word means; the functions store what one event adds, by specs/Inner/Filling, and proofs/Passes says
-// that event by event that makes the columns. specs/Inner/Given says what the table and the gates of a line tell of a
-// run, for all that reads them. Assumes nothing.
+// says what each word means; the functions judge one event by working words and store what it adds, by
+// specs/Inner/Filling, and proofs/Passes says that event by event that makes the columns. specs/Inner/Given says what
+// the table and the gates of a line tell of a run, for all that reads them. Assumes nothing.
 ghost use mathlib.Core.Path.{_≡_};
+ghost use mathlib.Core.Bool.{true};
 ghost use Prim.Native.Nat.{max, _≤_, _<_};
 ghost use lib.Dec.{ltb};
 ghost use lib.ListN.{length, getD};
-ghost use Rattle.trace.specs.declared.Event.the-variants.{Send, Recv};
+ghost use Rattle.trace.specs.declared.Event.the-variants.{Send, Recv, Save, Done};
 ghost use Rattle.theory.specs.Epochs.{joined};
 ghost use Rattle.columns.specs.Inner.Columns.{fullWords};
 ghost use Rattle.columns.specs.Inner.Full.{procsW, matchW};
-ghost use Rattle.columns.specs.Inner.Filling.{placed, stored, orNew, sendFull, sendWork, recvFull, recvWork, localFull, localWork, noteFull, noteWork, oldestOf, LocalNotable, Notable, Storable};
-use trace::Event;
+ghost use Rattle.columns.specs.Inner.Filling.{workWords, placed, stored, orNew, sendFull, sendWork, recvFull, recvWork, localFull, localWork, noteFull, noteWork, oldestOf, pairFits, fitIn, LocalNotable, Notable, Storable, Awaits};
 
 // Where the columns of the full table begin: the word of event e is at the base + e.
 pub const NUMBER_BASE: usize = 6163;
@@ -37,17 +37,22 @@ pub const GATE_WORDS: usize = 128;
 
 pub const RESTART_BASE: usize = 64;
 
-// Where the working words begin: each process's phase, each channel's oldest and latest send, each send's next on its
-// channel. They have 16 bits, so that they take less to clear.
+// Where the working words begin: each process's epoch, from 0 on, its phase and its latest finished epoch, each
+// channel's oldest and latest send, each send's next on its channel. They have 16 bits, so that they take less to clear.
 const PHASES: usize = 64;
 
-const OLDEST: usize = 128;
+const FINISHED: usize = 128;
 
-const LATEST: usize = 4224;
+const OLDEST: usize = 192;
 
-const NEXT: usize = 8320;
+const LATEST: usize = 4288;
 
-pub const WORK_WORDS: usize = 10369;
+const NEXT: usize = 8384;
+
+pub const WORK_WORDS: usize = 10433;
+
+// So many working words begin with 1, the others with 0.
+pub const ONES: usize = 192;
 
 // The event that event e is matched with: the receive of the message that it sends, or the send of the message that it
 // receives.
@@ -161,7 +166,7 @@ fn note_recv(full: &mut [u32], work: &mut [u16], e: usize, a: usize, b: usize)
     work[OLDEST + c] = next;
 }
 
-// Event e, a local one of a: its epoch and its phase rise by `up`.
+// Event e, a local one of a: its epoch and its phase rise by `up`; where that is 0, its latest finished epoch by 1.
 fn note_local(full: &mut [u32], work: &mut [u16], e: usize, a: usize, up: u16)
     requires { ⌜ Storable (now full) (now work) e × LocalNotable (now work) a × (up ≤ 1) ⌝ }
     ensures columns { λ _. ⌜ now (full .exit) ≡ localFull (now (full .entry)) (now (work .entry)) e a up ⌝ }
@@ -169,21 +174,110 @@ fn note_local(full: &mut [u32], work: &mut [u16], e: usize, a: usize, up: u16)
 {
     let epoch = work[a] + up;
     let phase = work[PHASES + a] + up;
+    let finished = work[FINISHED + a] + (1 - up);
     store(full, e, 0, epoch as u32, phase as u32, 0);
     work[a] = epoch;
     work[PHASES + a] = phase;
+    work[FINISHED + a] = finished;
 }
 
-// Event e, by its kind.
-pub fn note(full: &mut [u32], work: &mut [u16], e: usize, event: Event)
-    requires { ⌜ Storable (now full) (now work) e × Notable (now full) (now work) event ⌝ }
-    ensures columns { λ _. ⌜ now (full .exit) ≡ noteFull (now (full .entry)) (now (work .entry)) e event ⌝ }
-    ensures working { λ _. ⌜ now (work .exit) ≡ noteWork (now (full .entry)) (now (work .entry)) e event ⌝ }
+// Are these two processes, and not one.
+fn pair_fits(procs: usize, a: usize, b: usize) -> bool
+    ensures { λ r. ⌜ r ≡ pairFits procs a b ⌝ }
 {
-    match event {
-        Event::Send { at, to, val: _ } => note_send(full, work, e, at as usize, to as usize),
-        Event::Recv { at, from } => note_recv(full, work, e, at as usize, from as usize),
-        Event::Save { at } => note_local(full, work, e, at as usize, 1),
-        Event::Done { at } => note_local(full, work, e, at as usize, 0),
+    if a >= procs {
+        return false;
     }
+    if b >= procs {
+        return false;
+    }
+    a != b
+}
+
+// Notes event e, a send of a to b, if it is fit after those that were noted; whether that is so.
+pub fn send_noted(
+    full: &mut [u32],
+    work: &mut [u16],
+    procs: usize,
+    e: usize,
+    a: usize,
+    b: usize,
+) -> bool
+    requires { ⌜ Awaits procs (now full) (now work) e ⌝ }
+    ensures answer { λ r. ⌜ r ≡ fitIn procs (now (work .entry)) (Send a b 0) ⌝ }
+    ensures columns { λ r. ⌜ (r ≡ true → now (full .exit) ≡ noteFull (now (full .entry)) (now (work .entry)) e (Send a b 0)) ⌝ }
+    ensures working { λ r. ⌜ (r ≡ true → now (work .exit) ≡ noteWork (now (full .entry)) (now (work .entry)) e (Send a b 0)) ⌝ }
+{
+    if !pair_fits(procs, a, b) {
+        return false;
+    }
+    note_send(full, work, e, a, b);
+    true
+}
+
+// The oldest send in transit to a from b, 0 where there is none.
+fn oldest(work: &[u16], a: usize, b: usize) -> u16
+    requires { ⌜ (a < 64) × (b < 64) × (length (now work) ≡ workWords) ⌝ }
+    ensures { λ r. ⌜ r ≡ oldestOf (now (work .entry)) a b ⌝ }
+{
+    work[OLDEST + (64 * b + a)]
+}
+
+// Event e, a receive of a from b, likewise: there is one to take where a message is in transit.
+pub fn recv_noted(
+    full: &mut [u32],
+    work: &mut [u16],
+    procs: usize,
+    e: usize,
+    a: usize,
+    b: usize,
+) -> bool
+    requires { ⌜ Awaits procs (now full) (now work) e ⌝ }
+    ensures answer { λ r. ⌜ r ≡ fitIn procs (now (work .entry)) (Recv a b) ⌝ }
+    ensures columns { λ r. ⌜ (r ≡ true → now (full .exit) ≡ noteFull (now (full .entry)) (now (work .entry)) e (Recv a b)) ⌝ }
+    ensures working { λ r. ⌜ (r ≡ true → now (work .exit) ≡ noteWork (now (full .entry)) (now (work .entry)) e (Recv a b)) ⌝ }
+{
+    if !pair_fits(procs, a, b) {
+        return false;
+    }
+    if oldest(work, a, b) == 0 {
+        return false;
+    }
+    note_recv(full, work, e, a, b);
+    true
+}
+
+// Event e, a checkpoint of a, likewise: its 31st would begin epoch 32.
+pub fn save_noted(full: &mut [u32], work: &mut [u16], procs: usize, e: usize, a: usize) -> bool
+    requires { ⌜ Awaits procs (now full) (now work) e ⌝ }
+    ensures answer { λ r. ⌜ r ≡ fitIn procs (now (work .entry)) (Save a) ⌝ }
+    ensures columns { λ r. ⌜ (r ≡ true → now (full .exit) ≡ noteFull (now (full .entry)) (now (work .entry)) e (Save a)) ⌝ }
+    ensures working { λ r. ⌜ (r ≡ true → now (work .exit) ≡ noteWork (now (full .entry)) (now (work .entry)) e (Save a)) ⌝ }
+{
+    if a >= procs {
+        return false;
+    }
+    if work[a] >= 31 {
+        return false;
+    }
+    note_local(full, work, e, a, 1);
+    true
+}
+
+// Event e, the end of a checkpoint of a, likewise: there is one to finish where a later epoch than the latest finished
+// one has begun.
+pub fn done_noted(full: &mut [u32], work: &mut [u16], procs: usize, e: usize, a: usize) -> bool
+    requires { ⌜ Awaits procs (now full) (now work) e ⌝ }
+    ensures answer { λ r. ⌜ r ≡ fitIn procs (now (work .entry)) (Done a) ⌝ }
+    ensures columns { λ r. ⌜ (r ≡ true → now (full .exit) ≡ noteFull (now (full .entry)) (now (work .entry)) e (Done a)) ⌝ }
+    ensures working { λ r. ⌜ (r ≡ true → now (work .exit) ≡ noteWork (now (full .entry)) (now (work .entry)) e (Done a)) ⌝ }
+{
+    if a >= procs {
+        return false;
+    }
+    if work[FINISHED + a] >= work[a] {
+        return false;
+    }
+    note_local(full, work, e, a, 0);
+    true
 }

@@ -1,3 +1,3 @@
-pub mod Area
 pub mod Claims
+pub mod Words
 pub mod Passes

@@ -56,9 +56,9 @@ module _ (a : List ℕ) where
       let words = words-each (tableWord (held a)) a 16384 (and-right (wellFormed (held a)) _ rest) in
       (size, rw same at (and-left (wellFormed (held a)) _ rest), rw same at (rule-words (tableWord (held a)) a size words))
 
-  -- an area with the words of a well-formed trace says this trace
-  module _ (t : Trace) (fit : wellFormed t ≡ true) (words : (k : ℕ) → k < 16384 → getD a k 0 ≡ tableWord t k) where
-    same-trace : held a ≡ t
+  -- an area with the words of a well-formed trace, up to the high half of event 2,048, says this trace
+  module _ (t : Trace) (fit : wellFormed t ≡ true) (words : (k : ℕ) → k < 6163 → getD a k 0 ≡ tableWord t k) where
+    pub same-trace : held a ≡ t
     unfolding held wellFormed
     same-trace =
         let p = t .procs in
@@ -78,7 +78,7 @@ module _ (a : List ℕ) where
   unfolding holdsTrace
   held-of t size fit e =
       let words = words-rule (tableWord t) a size e in
-      let same = same-trace t fit words in
+      let same = same-trace t fit (λ k l. words k (omega arith)) in
       let holds : holdsTrace a ≡ true =
       and-both _ _ (le-leb 16384 (length a) size) (rw same (and-both _ _ fit (each-words (tableWord t) a 16384 words))) in
       held-self a holds ∙ ap some same

@@ -16,8 +16,9 @@ use Rattle.trace.specs.Fit.{eventFault, valueFits, allFit, wellFormed}
 use Rattle.trace.specs.Trace.{valueOf}
 use Rattle.trace.specs.Table.{wordOf, topIn, valueWord, tableWord}
 use Rattle.table.specs.Held.{eventOf, heldEvent, heldEvents, held, wordsAre, holdsTrace}
-use Rattle.table.specs.Inner.Tested.{zerosFrom, halvesAre, fitFrom, wordsTested, tested}
+use Rattle.table.specs.Inner.Tested.{zerosFrom, halvesAre, fitFrom, zerosTested, framed, tested}
 use Rattle.trace.proofs.Places.{word-procs, word-count, word-head}
+use Rattle.table.proofs.Turns.{frame-facts}
 use Rattle.table.proofs.Places.{length-held, said-event, said-value, said-gap, said-past}
 
 -- the words of event number i are those of the event that they say
@@ -69,7 +70,7 @@ module _ (a : List ℕ) where
   each-zeros i (suc n) h = and-both _ _ (eq-eqb _ _ (h i (omega arith) (omega arith))) (each-zeros (suc i) n (λ k l m. h k (omega arith) (omega arith)))
 
 -- an event read with a value of 64 bits has one that fits
-value-fits : (w v : ℕ) → v ≤ 18446744073709551615 → valueFits (eventOf w v) ≡ true
+pub value-fits : (w v : ℕ) → v ≤ 18446744073709551615 → valueFits (eventOf w v) ≡ true
 unfolding eventOf
 value-fits w v h =
     by-bool (eqb (topIn w) 1)
@@ -110,7 +111,7 @@ module _ (p : ℕ) (a : List ℕ) where
             (λ d. rest .1 k (omega arith) (omega arith)),
       )
 
-  each-fits : (before : List Event) (i n : ℕ) → allFit p before (heldEvents a i n) ≡ true → ((k : ℕ) → i ≤ k → k < i + n → Said a k)
+  pub each-fits : (before : List Event) (i n : ℕ) → allFit p before (heldEvents a i n) ≡ true → ((k : ℕ) → i ≤ k → k < i + n → Said a k)
       → fitFrom p before a i n ≡ true
   unfolding fitFrom allFit heldEvents
   each-fits before i zero h s = refl
@@ -125,48 +126,50 @@ module _ (p : ℕ) (a : List ℕ) where
 
 module _ (a : List ℕ) where
   tested-facts : tested a ≡ true → Facts a (getD a 1 0)
-  unfolding tested wordsTested
+  unfolding tested framed zerosTested
   tested-facts h =
       let p = getD a 0 0 in
       let n = getD a 1 0 in
-      let h₁ = and-right (leb 16384 (length a)) _ h in
+      let frame = and-left (framed a) _ h in
+      let F = frame-facts a frame in
+      let few = F .few in
+      let h₁ = and-right (leb 16384 (length a)) _ frame in
       let h₂ = and-right (leb 2 p) _ h₁ in
       let h₃ = and-right (leb p 64) _ h₂ in
-      let few : n ≤ 2048 = leb-true n 2048 (and-left _ _ h₃) in
       let h₄ = and-right (leb n 2048) _ h₃ in
       let h₅ = and-right (zerosFrom a 2 15) _ h₄ in
-      let h₆ = and-right (fitFrom p [] a 1 n) _ h₅ in
-      let h₇ = and-right (zerosFrom a (17 + n) (2066 - (17 + n))) _ h₆ in
-      let h₈ = and-right (zerosFrom a (2066 + n) (4115 - (2066 + n))) _ h₇ in
-      let events = fits-each p a [] 1 n (and-left _ _ h₅) in
+      let h₆ = and-right (zerosFrom a (17 + n) (2066 - (17 + n))) _ h₅ in
+      let h₇ = and-right (zerosFrom a (2066 + n) (4115 - (2066 + n))) _ h₆ in
+      let events = fits-each p a [] 1 n (and-right (framed a) _ h) in
       record {
-        size = leb-true 16384 (length a) (and-left _ _ h);
-        least = leb-true 2 p (and-left _ _ h₁);
-        most = leb-true p 64 (and-left _ _ h₂);
+        size = F .size;
+        least = F .least;
+        most = F .most;
         few = few;
         head = λ k l m. zeros-each a 2 15 (and-left _ _ h₄) k l m;
         fit = events .0;
         said = events .1;
-        gap = λ k l m. zeros-each a (17 + n) (2066 - (17 + n)) (and-left _ _ h₆) k l (omega arith);
+        gap = λ k l m. zeros-each a (17 + n) (2066 - (17 + n)) (and-left _ _ h₅) k l (omega arith);
         past = λ b k c l m s. each-half (λ b. 2066 + 2049 * b + n ≤ k → (b ≡ 0 → k < 4115) → getD a k 0 ≡ 0)
-            (λ l m. zeros-each a (2066 + n) (4115 - (2066 + n)) (and-left _ _ h₇) k l (let g = m refl in omega arith))
-            (λ l m. zeros-each a (4115 + n) (16384 - (4115 + n)) h₈ k l (omega arith)) b c l m;
+            (λ l m. zeros-each a (2066 + n) (4115 - (2066 + n)) (and-left _ _ h₆) k l (let g = m refl in omega arith))
+            (λ l m. zeros-each a (4115 + n) (16384 - (4115 + n)) h₇ k l (omega arith)) b c l m;
       }
 
   facts-tested : Facts a (getD a 1 0) → tested a ≡ true
-  unfolding tested wordsTested
+  unfolding tested framed zerosTested
   facts-tested f =
       let p = getD a 0 0 in
       let n = getD a 1 0 in
-      and-both _ _ (le-leb 16384 (length a) (f .size))
+      and-both _ _
+      (and-both _ _ (le-leb 16384 (length a) (f .size))
       (and-both _ _ (le-leb 2 p (f .least))
       (and-both _ _ (le-leb p 64 (f .most))
       (and-both _ _ (le-leb n 2048 (f .few))
       (and-both _ _ (each-zeros a 2 15 (λ k l m. f .head k l m))
-      (and-both _ _ (each-fits p a [] 1 n (f .fit) (f .said))
       (and-both _ _ (each-zeros a (17 + n) (2066 - (17 + n)) (λ k l m. f .gap k l (let g = f .few in omega arith)))
       (and-both _ _ (each-zeros a (2066 + n) (4115 - (2066 + n)) (λ k l m. f .past 0 k (omega arith) l (λ z. let g = f .few in omega arith) (let g = f .few in omega arith)))
       (each-zeros a (4115 + n) (16384 - (4115 + n)) (λ k l m. f .past 1 k (omega arith) l (λ z. absurd (let y : ⊥ = omega arith in y)) (let g = f .few in omega arith))))))))))
+      (each-fits p a [] 1 n (f .fit) (f .said))
 
   -- ---- the definition
 

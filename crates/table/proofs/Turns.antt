@@ -7,19 +7,17 @@ use native.Mathlib.Omega.{arith}
 use native.Mathlib.Numerals.{add-one}
 use lib.ListN.{length, getD}
 use lib.Bits.{bitOr, or-add-and, or-zero-l, and-le-l, and-le-r}
-use lib.Dec.{eqb}
-use borrow.Author.Tests.{le-leb, lt-leb, eq-eqb, ne-eqb, eqb-true}
+use lib.Dec.{leb, eqb}
+use borrow.Author.Tests.{leb-true, le-leb, lt-leb, eq-eqb, ne-eqb}
 use Rattle.words.specs.Halves.{half, fromHalves}
-use Rattle.words.proofs.Cases.{by-eq, and-right}
+use Rattle.words.proofs.Cases.{by-eq, and-left, and-right}
 use Rattle.trace.specs.declared.Event.{Event}
 use Rattle.trace.specs.declared.Event.the-variants.{Send, Recv, Save, Done}
 use Rattle.trace.specs.Fit.{eventFault}
-use Rattle.trace.specs.Inner.Tally.{Tally, faultBy}
-use Rattle.trace.proofs.Faults.{fault-counted}
 use Rattle.trace.specs.Trace.{valueOf}
 use Rattle.trace.specs.Table.{wordOf, topIn, processIn, peerIn}
 use Rattle.table.specs.Held.{eventOf, heldValue, heldEvent}
-use Rattle.table.specs.Inner.Tested.{zerosFrom, wordFits, halvesAre, fitFrom, wordsTested, tested}
+use Rattle.table.specs.Inner.Tested.{zerosFrom, wordFits, halvesAre, fitFrom, zerosTested, framed, tested}
 
 -- each way out of `event`
 module _ (w v : ℕ) where
@@ -69,52 +67,52 @@ module _ (a : List ℕ) (any i to : ℕ) where
       rw (add-one i, e, or-zero any (getD a i 0)) (sym (and-assoc (eqb any 0) (eqb (getD a i 0) 0) (zerosFrom a (suc i) (to - suc i))))
 
 -- each way out of `word_fits`, by the kind of the word
-module _ (p : ℕ) (counts : List ℕ) (w v : ℕ) where
+module _ (fit : Event → Bool) (w v : ℕ) where
   module _ (send : topIn w ≡ 1) where
-    pub fits-send : (r : Bool) → r ≡ eqb (faultBy p counts (Send (processIn w) (peerIn w) v)) 0 → r ≡ wordFits p counts w v
+    pub fits-send : (r : Bool) → r ≡ fit (Send (processIn w) (peerIn w) v) → r ≡ wordFits fit w v
     unfolding wordFits
     fits-send r e =
         let word : w % 64 % 64 + 64 * (w / 64 % 64 % 64) + 4096 ≡ w = omega arith in
         rw (← event-send w v send, eq-eqb _ _ word, eq-eqb v v refl) e
 
   module _ (no-send : topIn w ≡ 1 → ⊥) where
-    pub fits-value : (v ≡ 0 → ⊥) → false ≡ wordFits p counts w v
+    pub fits-value : (v ≡ 0 → ⊥) → false ≡ wordFits fit w v
     unfolding wordFits
     fits-value z = rw (no-value w v no-send, ne-eqb 0 v (λ q. z (sym q)), and-false)
 
     module _ (zero-value : v ≡ 0) where
-      pub fits-recv : topIn w ≡ 2 → (r : Bool) → r ≡ eqb (faultBy p counts (Recv (processIn w) (peerIn w))) 0 → r ≡ wordFits p counts w v
+      pub fits-recv : topIn w ≡ 2 → (r : Bool) → r ≡ fit (Recv (processIn w) (peerIn w)) → r ≡ wordFits fit w v
       unfolding wordFits
       fits-recv h r e =
           let word : w % 64 % 64 + 64 * (w / 64 % 64 % 64) + 8192 ≡ w = omega arith in
           rw (← event-recv w v no-send h, eq-eqb _ _ word, eq-eqb 0 v (sym zero-value)) e
 
       module _ (no-recv : topIn w ≡ 2 → ⊥) where
-        pub fits-none : (w / 64 ≡ 192 → ⊥) → (w / 64 ≡ 0 → ⊥) → false ≡ wordFits p counts w v
+        pub fits-none : (w / 64 ≡ 192 → ⊥) → (w / 64 ≡ 0 → ⊥) → false ≡ wordFits fit w v
         unfolding wordFits
         fits-none n m =
             by-eq (topIn w) 3
             (λ h. rw (← event-save w v no-send no-recv h, ne-eqb (w % 64 % 64 + 12288) w (λ q. n (omega arith))))
             (λ k. rw (← event-done w v no-send no-recv k, ne-eqb (w % 64 % 64) w (λ q. m (omega arith))))
 
-        pub fits-save : w / 64 ≡ 192 → (r : Bool) → r ≡ eqb (faultBy p counts (Save (processIn w))) 0 → r ≡ wordFits p counts w v
+        pub fits-save : w / 64 ≡ 192 → (r : Bool) → r ≡ fit (Save (processIn w)) → r ≡ wordFits fit w v
         unfolding wordFits
         fits-save h r e =
             let word : w % 64 % 64 + 12288 ≡ w = omega arith in
             rw (← event-save w v no-send no-recv (omega arith), eq-eqb _ _ word, eq-eqb 0 v (sym zero-value)) e
 
-        pub fits-done : w / 64 ≡ 0 → (r : Bool) → r ≡ eqb (faultBy p counts (Done (processIn w))) 0 → r ≡ wordFits p counts w v
+        pub fits-done : w / 64 ≡ 0 → (r : Bool) → r ≡ fit (Done (processIn w)) → r ≡ wordFits fit w v
         unfolding wordFits
         fits-done h r e =
             let word : w % 64 % 64 ≡ w = omega arith in
             rw (← event-done w v no-send no-recv (λ q. omega arith), eq-eqb _ _ word, eq-eqb 0 v (sym zero-value)) e
 
--- a word that fits is that of an event without a fault
-pub fits-fault : (p : ℕ) (counts : List ℕ) (w v : ℕ) → wordFits p counts w v ≡ true → faultBy p counts (eventOf w v) ≡ 0
+-- a word that fits is that of a fit event
+pub fits-fit : (fit : Event → Bool) (w v : ℕ) → wordFits fit w v ≡ true → fit (eventOf w v) ≡ true
 unfolding wordFits
-fits-fault p counts w v h =
-    let b = and-right (eqb (wordOf (eventOf w v)) w) (eqb (valueOf (eventOf w v)) v && eqb (faultBy p counts (eventOf w v)) 0) h in
-    eqb-true _ 0 (and-right (eqb (valueOf (eventOf w v)) v) (eqb (faultBy p counts (eventOf w v)) 0) b)
+fits-fit fit w v h =
+    let b = and-right (eqb (wordOf (eventOf w v)) w) (eqb (valueOf (eventOf w v)) v && fit (eventOf w v)) h in
+    and-right (eqb (valueOf (eventOf w v)) v) (fit (eventOf w v)) b
 
 -- Words that are the halves of their number v: those of the event that is read with v are these exactly if its value is
 -- v, which is the value of a send; any other event has the value 0.
@@ -151,63 +149,90 @@ module _ (p : ℕ) (es : List Event) (a : List ℕ) (i n : ℕ) where
   unfolding fitFrom
   events-end h = let q : n + 1 - i ≡ 0 = omega arith in rw q
 
-  module _ (l : i ≤ n) (small : p ≤ 64) (counts : List ℕ) (t : Tally counts es) (low : half 0 (heldValue a i) ≡ getD a (2065 + i) 0) (high : half 1 (heldValue a i) ≡ getD a (4114 + i) 0) where
+  -- with any test that says of this event what the events before it say
+  module _ (l : i ≤ n) (fit : Event → Bool) (same : fit (heldEvent a i) ≡ eqb (eventFault p es (heldEvent a i)) 0)
+      (low : half 0 (heldValue a i) ≡ getD a (2065 + i) 0) (high : half 1 (heldValue a i) ≡ getD a (4114 + i) 0) where
     pub events-turn : fitFrom p es a i (n + 1 - i)
-        ≡ (wordFits p counts (getD a (16 + i) 0) (heldValue a i) && fitFrom p (es ++ heldEvent a i ∷ []) a (i + 1) (n + 1 - (i + 1)))
+        ≡ (wordFits fit (getD a (16 + i) 0) (heldValue a i) && fitFrom p (es ++ heldEvent a i ∷ []) a (i + 1) (n + 1 - (i + 1)))
     unfolding fitFrom wordFits
     events-turn =
         let q : n + 1 - i ≡ suc (n - i) = omega arith in
         let r : n + 1 - (i + 1) ≡ n - i = omega arith in
-        rw (q, r, add-one i, fault-counted p small counts es t (heldEvent a i), halves-event (getD a (2065 + i) 0) (getD a (4114 + i) 0) low high (getD a (16 + i) 0))
+        rw (q, r, add-one i, same, halves-event (getD a (2065 + i) 0) (getD a (4114 + i) 0) low high (getD a (16 + i) 0))
         (and-four (eqb (wordOf (heldEvent a i)) (getD a (16 + i) 0)) (eqb (valueOf (heldEvent a i)) (heldValue a i)) (eqb (eventFault p es (heldEvent a i)) 0)
         (fitFrom p (es ++ heldEvent a i ∷ []) a (suc i) (n - i)))
 
--- each way out of `words_fit`, for p processes and n events: what each test said, and what it stands for
+-- each way out of `zeros_fit`, for n events: what each test said, and what it stands for
 module _ (a : List ℕ) (n : ℕ) where
-  pub words-many : 2048 < n → false ≡ wordsTested a n
-  unfolding wordsTested
-  words-many h = rw (lt-leb n 2048 h)
+  pub zeros-many : 2048 < n → false ≡ zerosTested a n
+  unfolding zerosTested
+  zeros-many h = rw (lt-leb n 2048 h)
 
   module _ (few : n ≤ 2048) (head : Bool) (is-head : head ≡ zerosFrom a 2 15) where
-    pub words-head : head ≡ false → false ≡ wordsTested a n
-    unfolding wordsTested
-    words-head h = rw (le-leb n 2048 few, ← is-head, h)
+    pub zeros-head : head ≡ false → false ≡ zerosTested a n
+    unfolding zerosTested
+    zeros-head h = rw (le-leb n 2048 few, ← is-head, h)
 
-    module _ (zeros : head ≡ true) (p : ℕ) (is-p : p ≡ getD a 0 0) (events : Bool) (is-events : events ≡ fitFrom p [] a 1 n) where
-      pub words-events : events ≡ false → false ≡ wordsTested a n
-      unfolding wordsTested
-      words-events h = rw (le-leb n 2048 few, ← is-head, zeros, ← is-p, ← is-events, h)
+    module _ (no-head : head ≡ true) (gap : Bool) (is-gap : gap ≡ zerosFrom a (17 + n) (2066 - (17 + n))) where
+      pub zeros-gap : gap ≡ false → false ≡ zerosTested a n
+      unfolding zerosTested
+      zeros-gap h = rw (le-leb n 2048 few, ← is-head, no-head, ← is-gap, h)
 
-      module _ (fit : events ≡ true) (gap : Bool) (is-gap : gap ≡ zerosFrom a (17 + n) (2066 - (17 + n))) where
-        pub words-gap : gap ≡ false → false ≡ wordsTested a n
-        unfolding wordsTested
-        words-gap h = rw (le-leb n 2048 few, ← is-head, zeros, ← is-p, ← is-events, fit, ← is-gap, h)
+      module _ (no-gap : gap ≡ true) (past : Bool) (is-past : past ≡ zerosFrom a (2066 + n) (4115 - (2066 + n))) where
+        pub zeros-past : past ≡ false → false ≡ zerosTested a n
+        unfolding zerosTested
+        zeros-past h = rw (le-leb n 2048 few, ← is-head, no-head, ← is-gap, no-gap, ← is-past, h)
 
-        module _ (no-gap : gap ≡ true) (past : Bool) (is-past : past ≡ zerosFrom a (2066 + n) (4115 - (2066 + n))) where
-          pub words-past : past ≡ false → false ≡ wordsTested a n
-          unfolding wordsTested
-          words-past h = rw (le-leb n 2048 few, ← is-head, zeros, ← is-p, ← is-events, fit, ← is-gap, no-gap, ← is-past, h)
+        pub zeros-tail : past ≡ true → (tail : Bool) → tail ≡ zerosFrom a (4115 + n) (16384 - (4115 + n)) → tail ≡ zerosTested a n
+        unfolding zerosTested
+        zeros-tail h tail is-tail = rw (le-leb n 2048 few, ← is-head, no-head, ← is-gap, no-gap, ← is-past, h, ← is-tail)
 
-          pub words-tail : past ≡ true → (tail : Bool) → tail ≡ zerosFrom a (4115 + n) (16384 - (4115 + n)) → tail ≡ wordsTested a n
-          unfolding wordsTested
-          words-tail h tail is-tail = rw (le-leb n 2048 few, ← is-head, zeros, ← is-p, ← is-events, fit, ← is-gap, no-gap, ← is-past, h, ← is-tail)
+-- each way out of `frame_fits`
+module _ (a : List ℕ) where
+  pub frame-short : length a < 16384 → false ≡ framed a
+  unfolding framed
+  frame-short h = rw (lt-leb 16384 (length a) h)
+
+  module _ (size : 16384 ≤ length a) where
+    pub frame-low : getD a 0 0 < 2 → false ≡ framed a
+    unfolding framed
+    frame-low h = rw (le-leb 16384 (length a) size, lt-leb 2 (getD a 0 0) h)
+
+    module _ (least : 2 ≤ getD a 0 0) where
+      pub frame-high : 64 < getD a 0 0 → false ≡ framed a
+      unfolding framed
+      frame-high h = rw (le-leb 16384 (length a) size, le-leb 2 (getD a 0 0) least, lt-leb (getD a 0 0) 64 h)
+
+      pub frame-zeros : getD a 0 0 ≤ 64 → (r : Bool) → r ≡ zerosTested a (getD a 1 0) → r ≡ framed a
+      unfolding framed
+      frame-zeros h r e = rw (le-leb 16384 (length a) size, le-leb 2 (getD a 0 0) least, le-leb (getD a 0 0) 64 h, ← e)
+
+-- what the events are then tested with
+pub record Frame (a : List ℕ) : Type 0 where
+  pub size : 16384 ≤ length a
+  pub least : 2 ≤ getD a 0 0
+  pub most : getD a 0 0 ≤ 64
+  pub few : getD a 1 0 ≤ 2048
+
+pub frame-facts : (a : List ℕ) → framed a ≡ true → Frame a
+unfolding framed zerosTested
+frame-facts a h =
+    let h₁ = and-right (leb 16384 (length a)) _ h in
+    let h₂ = and-right (leb 2 (getD a 0 0)) _ h₁ in
+    let h₃ = and-right (leb (getD a 0 0) 64) _ h₂ in
+    record {
+      size = leb-true 16384 (length a) (and-left _ _ h);
+      least = leb-true 2 (getD a 0 0) (and-left _ _ h₁);
+      most = leb-true (getD a 0 0) 64 (and-left _ _ h₂);
+      few = leb-true (getD a 1 0) 2048 (and-left _ _ h₃);
+    }
 
 -- each way out of `holds_trace`
 module _ (a : List ℕ) where
-  pub area-short : length a < 16384 → false ≡ tested a
+  pub no-frame : framed a ≡ false → false ≡ tested a
   unfolding tested
-  area-short h = rw (lt-leb 16384 (length a) h)
+  no-frame h = rw h
 
-  module _ (size : 16384 ≤ length a) where
-    pub area-low : getD a 0 0 < 2 → false ≡ tested a
-    unfolding tested
-    area-low h = rw (le-leb 16384 (length a) size, lt-leb 2 (getD a 0 0) h)
-
-    module _ (least : 2 ≤ getD a 0 0) where
-      pub area-high : 64 < getD a 0 0 → false ≡ tested a
-      unfolding tested
-      area-high h = rw (le-leb 16384 (length a) size, le-leb 2 (getD a 0 0) least, lt-leb (getD a 0 0) 64 h)
-
-      pub area-words : getD a 0 0 ≤ 64 → (r : Bool) → r ≡ wordsTested a (getD a 1 0) → r ≡ tested a
-      unfolding tested
-      area-words h r e = rw (le-leb 16384 (length a) size, le-leb 2 (getD a 0 0) least, le-leb (getD a 0 0) 64 h, ← e)
+  pub frame-events : framed a ≡ true → (r : Bool) → r ≡ fitFrom (getD a 0 0) [] a 1 (getD a 1 0) → r ≡ tested a
+  unfolding tested
+  frame-events h r e = rw h e

@@ -6,12 +6,11 @@ ghost use mathlib.Core.Path.{_≡_};
 ghost use mathlib.Core.Bool.{true};
 ghost use mathlib.Core.List.{[]};
 ghost use Prim.Native.Nat.{_-_, _≤_, _<_};
-ghost use lib.Dec.{eqb};
-ghost use lib.ListN.{length, getD};
+ghost use lib.ListN.{length};
 ghost use Rattle.words.specs.Area.{areaWords};
 ghost use Rattle.table.specs.Held.{eventOf, holdsTrace};
-ghost use Rattle.table.specs.Inner.Tested.{Room, zerosFrom, wordFits, fitFrom, wordsTested};
-ghost use Rattle.trace.specs.Inner.Tally.{faultBy, tallied};
+ghost use Rattle.table.specs.Inner.Tested.{Room, zerosFrom, fitBy, wordFits, fitFrom, zerosTested, framed};
+ghost use Rattle.trace.specs.Inner.Tally.{tallied};
 use trace::EVENT_BASE;
 use trace::Event;
 use trace::HIGH_BASE;
@@ -59,7 +58,7 @@ fn zeros(area: &[u32], from: usize, to: usize) -> bool
 // Counts an event, if nothing is wrong with it after those that were counted; whether that is so.
 fn counted(counts: &mut [u16], procs: u64, e: Event) -> bool
     requires { ⌜ Room procs (now counts) ⌝ }
-    ensures answer { λ r. ⌜ r ≡ eqb (faultBy procs (now (counts .entry)) e) 0 ⌝ }
+    ensures answer { λ r. ⌜ r ≡ fitBy procs (now (counts .entry)) e ⌝ }
     ensures counters { λ r. ⌜ (r ≡ true → now (counts .exit) ≡ tallied (now (counts .entry)) e) ⌝ }
 {
     if trace::fault(counts, procs, e) != 0 {
@@ -71,15 +70,15 @@ fn counted(counts: &mut [u16], procs: u64, e: Event) -> bool
 
 // What stands above the process in the word of a checkpoint, kind 3 and no peer in one number, and in that of the end
 // of one, kind 0 and no peer.
-const CHECKPOINT_WORD: u32 = 192;
+pub const CHECKPOINT_WORD: u32 = 192;
 
-const DONE_WORD: u32 = 0;
+pub const DONE_WORD: u32 = 0;
 
 // Whether a word and a value are those of an event that is fit after those that were counted; then counts it. One test
 // for each kind of word, so that the event's kind is asked once.
 fn word_fits(counts: &mut [u16], procs: u64, w: u32, v: u64) -> bool
     requires { ⌜ Room procs (now counts) ⌝ }
-    ensures answer { λ r. ⌜ r ≡ wordFits procs (now (counts .entry)) w v ⌝ }
+    ensures answer { λ r. ⌜ r ≡ wordFits (fitBy procs (now (counts .entry))) w v ⌝ }
     ensures counters { λ r. ⌜ (r ≡ true → now (counts .exit) ≡ tallied (now (counts .entry)) (eventOf w v)) ⌝ }
 {
     let top = trace::top(w);
@@ -133,18 +132,15 @@ fn events_fit(area: &[u32], procs: u64, n: usize) -> bool
     true
 }
 
-// Whether the words after the process count are those of n events: theirs in each column, and 0 in every other place.
-fn words_fit(area: &[u32], procs: u64, n: usize) -> bool
-    requires { ⌜ (procs ≡ getD (now area) 0 0) × (procs ≤ 64) × (areaWords ≤ length (now area)) ⌝ }
-    ensures { λ r. ⌜ r ≡ wordsTested (now (area .entry)) n ⌝ }
+// Whether the places of an area that are no event's, where it says n events, are 0.
+fn zeros_fit(area: &[u32], n: usize) -> bool
+    requires { ⌜ areaWords ≤ length (now area) ⌝ }
+    ensures { λ r. ⌜ r ≡ zerosTested (now (area .entry)) n ⌝ }
 {
     if n > 2048 {
         return false;
     }
     if !zeros(area, 2, EVENT_BASE + 1) {
-        return false;
-    }
-    if !events_fit(area, procs, n) {
         return false;
     }
     if !zeros(area, EVENT_BASE + 1 + n, VALUE_BASE + 1) {
@@ -156,14 +152,15 @@ fn words_fit(area: &[u32], procs: u64, n: usize) -> bool
     zeros(area, HIGH_BASE + 1 + n, AREA_WORDS)
 }
 
-// Whether the first 16,384 words of an area are what reading some accepted trace leaves there.
-pub fn holds_trace(area: &[u32]) -> bool
-    ensures { λ r. ⌜ r ≡ holdsTrace (now (area .entry)) ⌝ }
+// Whether an area is as one with a trace, but for its events: the size, the counts of processes and of events, and 0 in
+// every place that is no event's.
+pub fn frame_fits(area: &[u32]) -> bool
+    ensures { λ r. ⌜ r ≡ framed (now (area .entry)) ⌝ }
 {
     if area.len() < AREA_WORDS {
         return false;
     }
-    let procs = area[0] as u64;
+    let procs = area[0];
     let n = area[1] as usize;
     if procs < 2 {
         return false;
@@ -171,5 +168,15 @@ pub fn holds_trace(area: &[u32]) -> bool
     if procs > 64 {
         return false;
     }
-    words_fit(area, procs, n)
+    zeros_fit(area, n)
+}
+
+// Whether the first 16,384 words of an area are what reading some accepted trace leaves there.
+pub fn holds_trace(area: &[u32]) -> bool
+    ensures { λ r. ⌜ r ≡ holdsTrace (now (area .entry)) ⌝ }
+{
+    if !frame_fits(area) {
+        return false;
+    }
+    events_fit(area, area[0] as u64, area[1] as usize)
 }

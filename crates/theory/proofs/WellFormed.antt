@@ -82,7 +82,7 @@ fit-done n b (Done y) z h k = let i : z ≡ y = eqb-true z y k in rw i ((done-fi
 
 module _ (t : Trace) where
   -- counting the first x events of the list is counting event numbers 1 .. x
-  count-cnt : (f : Event → Bool) (x : ℕ) → x ≤ size t → count f (take x (t .events)) ≡ cnt (λ e. f (eventAt t e)) x
+  pub count-cnt : (f : Event → Bool) (x : ℕ) → x ≤ size t → count f (take x (t .events)) ≡ cnt (λ e. f (eventAt t e)) x
   unfolding count cnt eventAt
   count-cnt f zero h = refl
   count-cnt f (suc x) h =

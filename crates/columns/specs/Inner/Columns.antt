@@ -1,6 +1,6 @@
 -- The full table: the words of a trace and what the protocol derives from it, a plane of words for each column
 -- (docs/LAYOUT.md). `Columns` says what each column means, by the theory's definitions, `Flagged` which messages are
--- logged; everything above cites them. `Others` says what the other words are.
+-- logged; everything above cites them. The other words are read by nobody.
 use Prim.Native.Nat.{ℕ, _+_, _<_, _≤_}
 use mathlib.Core.Path.{_≡_}
 use mathlib.Core.Bool.{Bool, true, cond}
@@ -9,7 +9,7 @@ use lib.ListN.{length, getD}
 use Rattle.trace.specs.Trace.{Trace}
 use Rattle.trace.specs.Fit.{wellFormed}
 use Rattle.trace.specs.Table.{tableWord}
-use Rattle.theory.specs.Events.{other, size, at, kind, sends, recvs, sent, rcvd, sendOf, recvOf}
+use Rattle.theory.specs.Events.{size, at, sends, recvs, sent, rcvd, sendOf, recvOf}
 use Rattle.theory.specs.Epochs.{epochAt, phaseAt, ruleOf}
 
 -- the words before event 1 of each column
@@ -55,20 +55,6 @@ pub record Columns (t : Trace) (full : List ℕ) : Type 0 where
 -- of message k from p to q: the trace's own rule, or any other marking (the layers above hold for any).
 abbrev pub Flagged : Trace → (ℕ → ℕ → ℕ → Bool) → List ℕ → Type 0
 Flagged t L full = (p q e : ℕ) → recvs t p q e ≡ true → 0 < e → e ≤ size t → getD full (loggedBase + e) 0 ≡ cond (L p q (rcvd t p q e)) 1 0
-
--- The words that `Columns` and `Flagged` do not name, where the columns of the first x events are filled in a table
--- that was `before`. With x = size t the three together name every word (`one-table` of crate protocol).
-pub record Others (t : Trace) (x : ℕ) (before after : List ℕ) : Type 0 where
-  -- a checkpoint, or the end of one, has no message
-  pub number-other : (e : ℕ) → kind t e ≡ other → 0 < e → e ≤ x → getD after (numberBase + e) 0 ≡ 0
-  pub match-other : (e : ℕ) → kind t e ≡ other → 0 < e → e ≤ x → getD after (matchBase + e) 0 ≡ 0
-  -- there is no event 0; its word is 0, and a channel's first message gets one more
-  pub number-none : getD after numberBase 0 ≡ 0
-  -- the others are as they were: in each column those after event x, up to the next column's event 0
-  pub after-number : (k : ℕ) → numberBase + x < k → k ≤ epochBase → getD after k 0 ≡ getD before k 0
-  pub after-epoch : (k : ℕ) → epochBase + x < k → k ≤ phaseBase → getD after k 0 ≡ getD before k 0
-  pub after-phase : (k : ℕ) → phaseBase + x < k → k ≤ matchBase → getD after k 0 ≡ getD before k 0
-  pub after-match : (k : ℕ) → matchBase + x < k → getD after k 0 ≡ getD before k 0
 
 -- the full table of a well-formed trace
 pub record Tabled (t : Trace) (full : List ℕ) : Type 0 where

@@ -9,10 +9,10 @@ use Rattle.protocol.proofs.begin.Statement.{statement}
 use Rattle.protocol.proofs.begin.Tie as tie
 
 abbrev Inv-loop : tie.InvT-loop
-Inv-loop work₀ i₀ work i = (i ≤ 128) × (length work ≡ length work₀) × Written (λ k. 1) work₀ i work
+Inv-loop work₀ i₀ work i = (i ≤ 192) × (length work ≡ length work₀) × Written (λ k. 1) work₀ i work
 
 abbrev μ-loop : tie.MeasureT-loop
-μ-loop work₀ i₀ work i = 128 - i
+μ-loop work₀ i₀ work i = 192 - i
 
 loop-holds : tie.Need-loop-holds Inv-loop μ-loop
 loop-holds c = (search needs, refl, none-written _ _)

@@ -26,7 +26,7 @@ loop-again c =
 returns : tie.Need-returns Inv-loop μ-loop
 returns c =
     let loop = c .before .loop in
-    (λ k h. (loop .inv .2) .first k (omega arith), λ k h. (loop .inv .2) .rest k (omega arith))
+    λ k h. (loop .inv .2) .first k (omega arith)
 
 pub copy-spec : {M : Type 1} → statement M
 copy-spec =

@@ -1,14 +1,15 @@
 -- `table::events_fit` meets its contract: before event number i the counters are those of the events before it, and
 -- what the tests from here say is what they say from event 1.
-use mathlib.Core.Path.{_≡_, refl, sym, _∙_}
+use mathlib.Core.Path.{_≡_, refl, sym, ap, _∙_}
 use mathlib.Core.List.{List, [], _∷_, _++_}
 use Prim.Native.Nat.{ℕ, _+_, _-_, _≤_}
 use native.Mathlib.Omega.{arith}
+use lib.Dec.{eqb}
 use lib.ListN.{length, length-append}
-use borrow.Author.Tests.{not-true, not-false}
-use Rattle.table.proofs.Turns.{events-end, events-turn, fits-fault}
+use borrow.Author.Tests.{not-true, not-false, eqb-true}
+use Rattle.table.proofs.Turns.{events-end, events-turn, fits-fit}
 use Rattle.table.specs.Held.{heldEvent}
-use Rattle.table.specs.Inner.Tested.{fitFrom}
+use Rattle.table.specs.Inner.Tested.{fitBy, fitFrom}
 use Rattle.trace.specs.declared.Event.{Event}
 use Rattle.trace.specs.Fit.{eventFault}
 use Rattle.trace.specs.Inner.Tally.{Tally}
@@ -65,8 +66,9 @@ returns c =
     let loop-test = c .before .before .before .before .before .before .before .before .loop-test in
     let pre = c .before .before .before .before .before .before .before .before .before .before .before .pre in
     let halves = rw (from-halves .ensures .0) at (from-halves .ensures .1) in
+    let same = fault-counted (args .procs) (pre .0) (loop .counts) ((loop .inv) .events) ((loop .inv) .tally) (heldEvent ((args .area) .now) (loop .i)) in
     let fits = rw (from-halves .ensures .0) at (word-fits .ensures .0) in
-    sym (rw (← fits, not-true (word-fits .result) (if1 .taken)) at (events-turn (args .procs) ((loop .inv) .events) ((args .area) .now) (loop .i) (args .n) (loop-test .taken) (pre .0) (loop .counts) ((loop .inv) .tally) (halves .0) (halves .1))) ∙ (loop .inv) .rest
+    sym (rw (← fits, not-true (word-fits .result) (if1 .taken)) at (events-turn (args .procs) ((loop .inv) .events) ((args .area) .now) (loop .i) (args .n) (loop-test .taken) (fitBy (args .procs) (loop .counts)) (ap (λ (x : ℕ). eqb x 0) same) (halves .0) (halves .1))) ∙ (loop .inv) .rest
 
 loop-again : tie.Need-loop-again Inv-loop μ-loop
 loop-again c =
@@ -79,16 +81,17 @@ loop-again c =
     let loop-test = c .before .before .before .before .before .before .before .before .loop-test in
     let y = not-false _ (if1 .left) in
     let halves = rw (from-halves .ensures .0) at (from-halves .ensures .1) in
+    let same = fault-counted (args .procs) (pre .0) (loop .counts) ((loop .inv) .events) ((loop .inv) .tally) (heldEvent ((args .area) .now) (loop .i)) in
     let fits = rw (from-halves .ensures .0) at (word-fits .ensures .0) in
     let counts = rw (from-halves .ensures .0) at (word-fits .ensures .1) in
     let w = sym fits ∙ y in
-    let f : eventFault (args .procs) ((loop .inv) .events) (heldEvent ((args .area) .now) (loop .i)) ≡ 0 = sym (fault-counted (args .procs) (pre .0) _ ((loop .inv) .events) ((loop .inv) .tally) _) ∙ fits-fault _ _ _ _ w in
+    let f : eventFault (args .procs) ((loop .inv) .events) (heldEvent ((args .area) .now) (loop .i)) ≡ 0 = sym same ∙ eqb-true _ 0 (fits-fit (fitBy (args .procs) (loop .counts)) _ _ w) in
     record {
       events = (loop .inv) .events ++ heldEvent ((args .area) .now) (loop .i) ∷ [];
       count = rw (length-append, (loop .inv) .count);
       within = omega arith;
       tally = rw (counts y) (next-tally (args .procs) ((loop .inv) .events) _ (pre .0) ((loop .inv) .tally) _ f);
-      rest = sym (rw w at (events-turn (args .procs) ((loop .inv) .events) ((args .area) .now) (loop .i) (args .n) (loop-test .taken) (pre .0) (loop .counts) ((loop .inv) .tally) (halves .0) (halves .1))) ∙ (loop .inv) .rest;
+      rest = sym (rw w at (events-turn (args .procs) ((loop .inv) .events) ((args .area) .now) (loop .i) (args .n) (loop-test .taken) (fitBy (args .procs) (loop .counts)) (ap (λ (x : ℕ). eqb x 0) same) (halves .0) (halves .1))) ∙ (loop .inv) .rest;
     }
 
 returns-2 : tie.Need-returns-2 Inv-loop μ-loop

@@ -5,6 +5,7 @@ use native.Mathlib.Omega.{arith}
 use Rattle.words.proofs.Cases.{clash}
 use Rattle.trace.specs.Inner.Tally.{tallied}
 use Rattle.trace.specs.Table.{topIn}
+use Rattle.table.specs.Inner.Tested.{fitBy}
 use Rattle.table.proofs.Turns.{event-send, event-recv, event-save, event-done, fits-send, fits-value, fits-recv, fits-none, fits-save, fits-done}
 use borrow.Author.Needs.{needs}
 use Rattle.table.proofs.word_fits.Statement.{statement}
@@ -21,14 +22,14 @@ returns c =
     let send = sym (top .ensures) ∙ (if1 .taken) in
     let fault = rw ((process .ensures .0), (peer .ensures .0)) at (counted .ensures .0) in
     let counts = rw ((process .ensures .0), (peer .ensures .0)) at (counted .ensures .1) in
-    (fits-send _ _ _ _ send _ fault, λ z. counts z ∙ ap (tallied (args .counts .now)) (event-send (args .w) (args .v) send))
+    (fits-send (fitBy (args .procs) (args .counts .now)) _ _ send _ fault, λ z. counts z ∙ ap (tallied (args .counts .now)) (event-send (args .w) (args .v) send))
 
 returns-2 : tie.Need-returns-2
 returns-2 c =
     let args = c .before .before .before .before .before .before .args in
     let if1 = c .before .if1 in
     let top = c .before .before .before .before .top in
-    (fits-value (args .procs) (args .counts .now) (args .w) (args .v) (λ q. (if1 .left) ((top .ensures) ∙ q)) (λ q. omega arith), λ z. clash {b = false} z refl)
+    (fits-value (fitBy (args .procs) (args .counts .now)) (args .w) (args .v) (λ q. (if1 .left) ((top .ensures) ∙ q)) (λ q. omega arith), λ z. clash {b = false} z refl)
 
 returns-3 : tie.Need-returns-3
 returns-3 c =
@@ -43,7 +44,7 @@ returns-3 c =
     let recv = sym (top .ensures) ∙ (if3 .taken) in
     let fault = rw ((process .ensures .0), (peer .ensures .0)) at (counted2 .ensures .0) in
     let counts = rw ((process .ensures .0), (peer .ensures .0)) at (counted2 .ensures .1) in
-    (fits-recv (args .procs) (args .counts .now) (args .w) (args .v) no-send (omega arith) recv _ fault, λ z. counts z ∙ ap (tallied (args .counts .now)) (event-recv (args .w) (args .v) no-send recv))
+    (fits-recv (fitBy (args .procs) (args .counts .now)) (args .w) (args .v) no-send (omega arith) recv _ fault, λ z. counts z ∙ ap (tallied (args .counts .now)) (event-recv (args .w) (args .v) no-send recv))
 
 returns-4 : tie.Need-returns-4
 returns-4 c =
@@ -60,7 +61,7 @@ returns-4 c =
     let word = sym (above .ensures) ∙ (if4 .taken) in
     let fault = rw ((process .ensures .0)) at (counted3 .ensures .0) in
     let counts = rw ((process .ensures .0)) at (counted3 .ensures .1) in
-    (fits-save (args .procs) (args .counts .now) (args .w) (args .v) no-send (omega arith) no-recv word _ fault, λ z. counts z ∙ ap (tallied (args .counts .now)) (event-save (args .w) (args .v) no-send no-recv (omega arith)))
+    (fits-save (fitBy (args .procs) (args .counts .now)) (args .w) (args .v) no-send (omega arith) no-recv word _ fault, λ z. counts z ∙ ap (tallied (args .counts .now)) (event-save (args .w) (args .v) no-send no-recv (omega arith)))
 
 returns-5 : tie.Need-returns-5
 returns-5 c =
@@ -68,7 +69,7 @@ returns-5 c =
     let if1 = c .before .before .before .before .before .if1 in
     let top = c .before .before .before .before .before .before .before .before .top in
     let if3 = c .before .before .before .if3 in
-    (fits-none (args .procs) (args .counts .now) (args .w) (args .v) (λ q. (if1 .left) ((top .ensures) ∙ q)) (omega arith) (λ q. (if3 .left) ((top .ensures) ∙ q)) (λ q. omega arith) (λ q. omega arith), λ z. clash {b = false} z refl)
+    (fits-none (fitBy (args .procs) (args .counts .now)) (args .w) (args .v) (λ q. (if1 .left) ((top .ensures) ∙ q)) (omega arith) (λ q. (if3 .left) ((top .ensures) ∙ q)) (λ q. omega arith) (λ q. omega arith), λ z. clash {b = false} z refl)
 
 returns-6 : tie.Need-returns-6
 returns-6 c =
@@ -85,7 +86,7 @@ returns-6 c =
     let word = sym (above .ensures) ∙ (if5 .left) in
     let fault = rw ((process .ensures .0)) at (counted4 .ensures .0) in
     let counts = rw ((process .ensures .0)) at (counted4 .ensures .1) in
-    (fits-done (args .procs) (args .counts .now) (args .w) (args .v) no-send (omega arith) no-recv word _ fault, λ z. counts z ∙ ap (tallied (args .counts .now)) (event-done (args .w) (args .v) no-send no-recv (λ q. omega arith)))
+    (fits-done (fitBy (args .procs) (args .counts .now)) (args .w) (args .v) no-send (omega arith) no-recv word _ fault, λ z. counts z ∙ ap (tallied (args .counts .now)) (event-done (args .w) (args .v) no-send no-recv (λ q. omega arith)))
 
 pub word-fits-spec : {M : Type 1} → statement M
 word-fits-spec =

@@ -25,9 +25,13 @@ unfoldable pub zerosFrom : List ℕ → ℕ → ℕ → Bool
 zerosFrom a i zero = true
 zerosFrom a i (suc n) = eqb (getD a i 0) 0 && zerosFrom a (suc i) n
 
--- a word and a value are those of the event that they say, and the event is fit by the counters
-unfoldable pub wordFits : ℕ → List ℕ → ℕ → ℕ → Bool
-wordFits procs counts w v = eqb (wordOf (eventOf w v)) w && (eqb (valueOf (eventOf w v)) v && eqb (faultBy procs counts (eventOf w v)) 0)
+-- a word and a value are those of the event that they say, and the event is fit by a test
+unfoldable pub wordFits : (Event → Bool) → ℕ → ℕ → Bool
+wordFits fit w v = eqb (wordOf (eventOf w v)) w && (eqb (valueOf (eventOf w v)) v && fit (eventOf w v))
+
+-- fit by the counters
+abbrev pub fitBy : ℕ → List ℕ → Event → Bool
+fitBy procs counts e = eqb (faultBy procs counts e) 0
 
 -- two words are the halves of a value
 unfoldable pub halvesAre : ℕ → ℕ → ℕ → Bool
@@ -42,15 +46,18 @@ fitFrom procs before a i (suc n) =
     && (eqb (eventFault procs before (heldEvent a i)) 0
     && fitFrom procs (before ++ heldEvent a i ∷ []) a (suc i) n))
 
--- the words of an area, tested from its start to its end, where word 1 says n events
-unfoldable pub wordsTested : List ℕ → ℕ → Bool
-wordsTested a n =
+-- the places of an area that are no event's are 0, where word 1 says n events
+unfoldable pub zerosTested : List ℕ → ℕ → Bool
+zerosTested a n =
     leb n 2048
     && (zerosFrom a 2 (eventBase + 1 - 2)
-    && (fitFrom (getD a 0 0) [] a 1 n
     && (zerosFrom a (eventBase + 1 + n) (valueBase 0 + 1 - (eventBase + 1 + n))
     && (zerosFrom a (valueBase 0 + 1 + n) (valueBase 1 + 1 - (valueBase 0 + 1 + n))
-    && zerosFrom a (valueBase 1 + 1 + n) (areaWords - (valueBase 1 + 1 + n))))))
+    && zerosFrom a (valueBase 1 + 1 + n) (areaWords - (valueBase 1 + 1 + n)))))
+
+-- an area is as one with a trace, but for its events
+unfoldable pub framed : List ℕ → Bool
+framed a = leb areaWords (length a) && (leb 2 (getD a 0 0) && (leb (getD a 0 0) 64 && zerosTested a (getD a 1 0)))
 
 unfoldable pub tested : List ℕ → Bool
-tested a = leb areaWords (length a) && (leb 2 (getD a 0 0) && (leb (getD a 0 0) 64 && wordsTested a (getD a 1 0)))
+tested a = framed a && fitFrom (getD a 0 0) [] a 1 (getD a 1 0)
