@@ -1,7 +1,7 @@
 -- Decimals: a number that is read stands there as its decimal, and a decimal before no digit is read as its number.
 -- From the definitions of crate text.
 use Prim.Native.Nat.{ℕ, suc, zero, _+_, _-_, _*_, _/_, _%_, _^_, _<_, _≤_, zero-le}
-use mathlib.Core.Path.{_≡_, refl, sym, ap, ap₂, subst₂, _∙_}
+use mathlib.Core.Path.{_≡_, refl, ap, ap₂, subst₂, _∙_}
 use mathlib.Core.List.{List, [], _∷_, _++_, append-assoc}
 use mathlib.Core.Bool.{true, false}
 use native.Mathlib.Omega.{arith}
@@ -14,26 +14,11 @@ use Rattle.words.proofs.Cases.{by-bool, by-lt, by-eq}
 use Rattle.text.specs.declared.Num.{Num}
 use Rattle.text.specs.declared.Num.the-variants.{Value, Refused}
 use Rattle.text.specs.Number.{isDigit, pushed, digitStep, digitsFrom, numberStep, numberAt, lastDigits, decimal}
-use Rattle.text.proofs.Numbers.{digit-low, digit-high, pushed-fits, pushed-over, last-small, last-more}
+use Rattle.text.proofs.Numbers.{digit-low, digit-high, pushed-fits, pushed-over, last-small, last-more, last-push}
 
 pub last-none : (v : ℕ) → lastDigits 0 v ≡ []
 unfolding lastDigits
 last-none v = refl
-
--- room that a number does not need changes nothing
-room-more : (r v : ℕ) → v < 10 ^ suc r → lastDigits (suc (suc r)) v ≡ lastDigits (suc r) v
-room-more zero v h = last-small 1 v h ∙ sym (last-small 0 v h)
-room-more (suc r) v h =
-    by-lt v 10
-    (λ l. last-small (suc (suc r)) v l ∙ sym (last-small (suc r) v l))
-    (λ g. last-more (suc (suc r)) v g ∙ ap (λ (x : List ℕ). x ++ (48 + v % 10) ∷ []) (room-more r (v / 10) (omega arith)) ∙ sym (last-more (suc r) v g))
-
--- a digit behind a number other than 0
-last-push : (r v d : ℕ) → 0 < v → d < 10 → v * 10 + d < 10 ^ suc (suc r) → lastDigits (suc (suc r)) (v * 10 + d) ≡ lastDigits (suc (suc r)) v ++ (48 + d) ∷ []
-last-push r v d z h l =
-    let e : (v * 10 + d) / 10 ≡ v = omega arith in
-    let f : (v * 10 + d) % 10 ≡ d = omega arith in
-    last-more (suc r) (v * 10 + d) (omega arith) ∙ rw (e, f, room-more r v (omega arith))
 
 -- ---- from reading to text
 

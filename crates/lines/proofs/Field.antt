@@ -1,32 +1,24 @@
 -- Fields of a line: what a key and a number that are read say of the bytes, and that rendered fields are read. From the
 -- laws of decimals.
 use Prim.Native.Nat.{ℕ, _+_, _^_, _≤_}
-use mathlib.Core.Path.{_≡_, refl, sym, ap, ap₂, _∙_}
+use mathlib.Core.Path.{_≡_, refl, sym, ap, _∙_}
 use mathlib.Core.List.{List, [], _∷_, _++_}
 use mathlib.Core.Bool.{true, false}
 use native.Mathlib.Omega.{arith}
 use lib.Dec.{eqb, ltb}
 use lib.ListN.{length, length-append, drop, drop-of-length-le, getD}
 use lib.Seq.{drop-drop, drop-append-seam}
-use borrow.Author.Tests.{ltb-true, eqb-true, eq-eqb, ne-eqb}
-use Rattle.words.proofs.Cases.{by-bool, by-eq, and-left, and-right, clash}
+use borrow.Author.Tests.{ltb-true, eq-eqb, ne-eqb}
+use Rattle.words.proofs.Cases.{by-bool, by-eq}
 use Rattle.text.specs.declared.Num.{Num}
 use Rattle.text.specs.declared.Num.the-variants.{Value, Refused}
 use Rattle.text.specs.Number.{isDigit, decimal}
 use Rattle.text.specs.Key.{startsWith, fieldAt}
+use Rattle.text.proofs.Keys.{key-split}
 use Rattle.lines.specs.declared.Line.{Line}
 use Rattle.lines.specs.declared.Line.the-variants.{Malformed}
 use Rattle.lines.specs.Line.{thenLine, whenEnd}
 use Rattle.lines.proofs.Decimal.{Reads, numberOf, number-drop, number-reads, decimal-read}
-
-key-split : (x key : List ℕ) → startsWith x key ≡ true → (rest : List ℕ) × (x ≡ key ++ rest)
-unfolding startsWith
-key-split x [] e = (x, refl)
-key-split [] (k ∷ key) e = clash e refl
-key-split (b ∷ x) (k ∷ key) e =
-    let more = key-split x key (and-right (eqb b k) (startsWith x key) e) in
-    let same : b ≡ k = eqb-true b k (and-left (eqb b k) (startsWith x key) e) in
-    (more .0, ap₂ _∷_ same (more .1))
 
 pub split-key : (key rest : List ℕ) → startsWith (key ++ rest) key ≡ true
 unfolding startsWith

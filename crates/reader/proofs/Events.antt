@@ -24,7 +24,8 @@ use Rattle.trace.proofs.Faults.{send-fit, recv-fit, save-fit, done-fit}
 use Rattle.reader.proofs.Judging.{fit-few}
 use Rattle.reader.proofs.Turns.{with-lf}
 use Rattle.lines.proofs.OneLine.{Says, failure-text, line-says, lineFor, event-line}
-use Rattle.reader.proofs.Pieces.{joined, line-piece, plain, plains, plain-event}
+use Rattle.lines.proofs.Plain.{plain, plain-event}
+use Rattle.reader.proofs.Pieces.{joined, line-piece, plains}
 use Rattle.lines.specs.declared.Line as line
 
 -- the trace with more events

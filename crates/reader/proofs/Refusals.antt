@@ -24,7 +24,8 @@ use Rattle.reader.specs.Failure.{Failing, failingOf, lastFailure}
 use Rattle.reader.specs.Meaning.{CountFault, EventFault, AtFault, FirstFault, LaterFault, PastFailure}
 use Rattle.reader.proofs.Judging.{text-number, fault-range, event-number, unfit-number}
 use Rattle.reader.proofs.Turns.{with-lf, first-lf}
-use Rattle.reader.proofs.Pieces.{joined, line-piece, plain, plain-piece, plains, plain-failure}
+use Rattle.lines.proofs.Plain.{plain, plain-failure}
+use Rattle.reader.proofs.Pieces.{joined, line-piece, plain-piece, plains}
 use Rattle.reader.proofs.Events.{Wrong, Misjudged, judge-event}
 use Rattle.reader.proofs.Whole.{Miscount, Taken, scan-taken, rendered-read, last-refused}
 use Rattle.reader.proofs.Verdicts.{follows}

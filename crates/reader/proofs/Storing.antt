@@ -1,22 +1,23 @@
--- Laws of the table area: storing an event makes the words those of the trace with that event.
+-- Laws of the table area: as it is lent, it is any or zero; storing an event makes the words those of the trace with
+-- that event.
 use Prim.Native.Nat.{ℕ, _+_, _-_, _*_, _<_, _≤_}
 use mathlib.Core.Path.{_≡_, refl, sym, ap, _∙_}
 use mathlib.Core.List.{List, [], _∷_}
 use native.Mathlib.Omega.{arith}
 use mathlib.Core.Bool.{Bool, true, false, cond}
 use lib.Dec.{eqb, leb}
-use lib.ListN.{length, getD, set, length-set, length-append, replicate, length-replicate, getD-replicate}
-use lib.Seq.{getD-set-same, getD-set-other}
+use lib.ListN.{length, getD, set, take, length-set, length-append, replicate, length-replicate, getD-replicate}
+use lib.Seq.{getD-set-same, getD-set-other, length-take-le, take-all}
 use borrow.Author.Tests.{ne-eqb, le-leb, lt-leb}
 use Rattle.words.specs.Area.{areaWords}
-use Rattle.words.proofs.Cases.{by-eq, by-lt}
+use Rattle.words.proofs.Cases.{by-eq, by-lt, clash}
 use Rattle.words.proofs.Halves.{each-half}
 use Rattle.words.proofs.Lists.{last-mapped, other-mapped}
 use Rattle.trace.specs.declared.Event.{Event}
 use Rattle.trace.specs.Trace.{Trace, started, extended}
 use Rattle.trace.specs.Table.{wordOf, valueWord, tableWord}
 use Rattle.trace.proofs.Places as places
-use Rattle.reader.specs.Inner.Reading.{Holds, appended}
+use Rattle.reader.specs.Inner.Reading.{Lent, Holds, appended}
 
 module _ (t : Trace) (e : Event) where
   -- the words that an event changes, and the others
@@ -106,3 +107,17 @@ none-holds procs table z =
           (λ q. rw q (getD-set-same table 0 procs 0 (omega arith)))
           (λ n. getD-set-other table 0 k procs 0 n ∙ ap (λ (w : List ℕ). getD w k 0) z ∙ getD-replicate {A = ℕ} 16384 k 0 0 lk ∙ sym (none-word procs k n));
     }
+
+-- 16,384 words that are lent on: such as they are, or those of an area that is zero
+pub lent-any : (a : List ℕ) → length a ≡ areaWords → Lent a false
+lent-any a l = record { size = l; zero = λ e. clash e refl }
+
+pub clear-size : (a : List ℕ) → a ≡ replicate areaWords 0 → length a ≡ areaWords
+clear-size a z = ap length z ∙ length-replicate {A = ℕ} areaWords 0
+
+pub lent-clear : (a : List ℕ) → a ≡ replicate areaWords 0 → Lent (take areaWords a) true
+lent-clear a z =
+    let l = clear-size a z in
+    let all : take areaWords a ≡ a = take-all areaWords a (omega arith) in
+    let same : length (take areaWords a) ≡ areaWords = length-take-le areaWords a (omega arith) in
+    record { size = same; zero = λ e. all ∙ z ∙ ap (λ (n : ℕ). replicate n 0) (sym same) }

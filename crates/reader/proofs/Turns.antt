@@ -20,7 +20,9 @@ use Rattle.lines.specs.Line.{lineSaid}
 use Rattle.reader.specs.Verdict.{Scan, refused, ended, pieces, judge, afterLine, atEnd, linesFrom, firstLine, scanPieces, scan}
 use Rattle.reader.specs.Inner.Reading.{judgedNumber, countOnly, Holds, ScanOutcome}
 use Rattle.reader.proofs.Pieces.{first-piece}
-use Rattle.reader.proofs.Cutting.{cut-none, line-cut, first-cut}
+use Rattle.reader.proofs.Cutting.{cut-none, line-cut, line-none, first-cut}
+use Rattle.lines.specs.Inner.Placing.{lineFrom}
+use Rattle.lines.specs.declared.Placed as placed
 use Rattle.lines.specs.declared.Line as line
 use Rattle.reader.proofs.Judged as judged
 use Rattle.lines.proofs.Line as lineType
@@ -41,21 +43,23 @@ module _ (text : List ℕ) (t : Trace) (k at : ℕ) where
   unfolding linesFrom pieces
   turn-end h = rw (drop-of-length-le text {i = at} h)
 
-  pub turn-missing : at < length text → lineEnd text at ≡ Missing → linesFrom t k (pieces (drop at text)) ≡ refused 1 k
+  pub turn-missing : at < length text → lineFrom text at ≡ placed.the-variants.Missing → linesFrom t k (pieces (drop at text)) ≡ refused 1 k
   unfolding linesFrom
-  turn-missing h e = rw (cut-none at (drop at text) e) (lacks (drop at text) t k (rw (length-drop at text) (omega arith)))
+  turn-missing h e = rw (line-none text at e) (lacks (drop at text) t k (rw (length-drop at text) (omega arith)))
 
-  module _ (i : ℕ) (e : lineEnd text at ≡ At i) (j : Judged) (h : j ≡ judge t (lineSaid (take (i - at) (drop at text)))) where
-    turn-line : linesFrom t k (pieces (drop at text)) ≡ afterLine j t k (pieces (drop (i + 1) text)) (λ d. linesFrom (extended t d) (k + 1) (pieces (drop (i + 1) text)))
-    turn-line = ap (linesFrom t k) ((line-cut text at i e) .2) ∙ with-lf t k (take (i - at) (drop at text)) (drop (i + 1) text) ∙ rw (← h)
+  module _ (l : Line) (next : ℕ) (e : lineFrom text at ≡ placed.the-variants.Said l next) (j : Judged) (h : j ≡ judge t l) where
+    turn-line : linesFrom t k (pieces (drop at text)) ≡ afterLine j t k (pieces (drop next text)) (λ d. linesFrom (extended t d) (k + 1) (pieces (drop next text)))
+    turn-line =
+        let (after, within, piece, cut, said) = line-cut text at l next e in
+        ap (linesFrom t k) cut ∙ with-lf t k piece (drop next text) ∙ rw (← said, ← h)
 
-    pub turn-fit : (d : Event) → j ≡ Fit d → linesFrom t k (pieces (drop at text)) ≡ linesFrom (extended t d) (k + 1) (pieces (drop (i + 1) text))
+    pub turn-fit : (d : Event) → j ≡ Fit d → linesFrom t k (pieces (drop at text)) ≡ linesFrom (extended t d) (k + 1) (pieces (drop next text))
     turn-fit d q = turn-line ∙ rw q
 
     pub turn-fails : (step set : ℕ) → j ≡ Fails step set → (table : List ℕ) → k ≤ 2050 → Holds table t
-        → ScanOutcome text (linesFrom t k (pieces (drop at text))) (Stopped step set k (i + 1)) table
+        → ScanOutcome text (linesFrom t k (pieces (drop at text))) (Stopped step set k next) table
     unfolding ScanOutcome
-    turn-fails step set q table b w = rw (turn-line, q) (record { next = i + 1; outcome = refl; follows = refl; holds = w; few = b })
+    turn-fails step set q table b w = rw (turn-line, q) (record { next = next; outcome = refl; follows = refl; holds = w; few = b })
 
     -- a line that is neither a fit event nor a failure line
     pub turn-unfit : OneOf (1 ∷ 2 ∷ []) (tagOf judged.the-type j) → OneOf (0 ∷ 2 ∷ []) (tagOf judged.the-type j)
@@ -63,7 +67,7 @@ module _ (text : List ℕ) (t : Trace) (k at : ℕ) where
     turn-unfit o p = turn-line ∙ by-case j o p
       where
         by-case : (x : Judged) → OneOf (1 ∷ 2 ∷ []) (tagOf judged.the-type x) → OneOf (0 ∷ 2 ∷ []) (tagOf judged.the-type x)
-            → afterLine x t k (pieces (drop (i + 1) text)) (λ d. linesFrom (extended t d) (k + 1) (pieces (drop (i + 1) text))) ≡ refused (judgedNumber x) k
+            → afterLine x t k (pieces (drop next text)) (λ d. linesFrom (extended t d) (k + 1) (pieces (drop next text))) ≡ refused (judgedNumber x) k
         by-case (Fit d) o′ p′ = absurd (miss (1 ∷ 2 ∷ []) 0 tt o′)
         by-case (Fails step set) o′ p′ = absurd (miss (0 ∷ 2 ∷ []) 1 tt p′)
         by-case (Unfit n) o′ p′ = refl

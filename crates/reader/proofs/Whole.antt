@@ -23,7 +23,8 @@ use Rattle.reader.specs.Verdict.{pieces, judge, Scan, linesFrom, firstLi
 use Rattle.reader.specs.Meaning.{TextNumber}
 use Rattle.reader.proofs.Turns.{with-lf}
 use Rattle.lines.proofs.OneLine.{Says, failureText, failure-text, line-says, procs-line, failure-line}
-use Rattle.reader.proofs.Pieces.{joined, joined-grow, first-piece, joined-pieces, line-piece, plain, plains, plains-pieces, plain-procs, plain-failure}
+use Rattle.lines.proofs.Plain.{plain, plain-procs, plain-failure}
+use Rattle.reader.proofs.Pieces.{joined, joined-grow, first-piece, joined-pieces, line-piece, plains, plains-pieces}
 use Rattle.reader.proofs.Events.{Grown, Wrong, Misjudged, Heard, lines-heard, events-read}
 use Rattle.reader.proofs.Judging.{unfit-number}
 use Rattle.lines.specs.declared.Line as line

@@ -1,8 +1,8 @@
 // The reader of trace texts. `read` gives the verdict on a text, the refusal with its number and place or the trace,
 // and leaves the trace's words in the table area. The definitions are in specs/: Verdict (the verdict on a text),
 // Render (the text of a trace), Answer (answer and area) and Meaning (what an answer means: a text is accepted exactly
-// if it is the text of a well-formed trace, and a refusal is for the first faulty line). No public function has a
-// `requires`. Assumes nothing.
+// if it is the text of a well-formed trace, and a refusal is for the first faulty line). No function that users call has
+// a `requires`. Assumes nothing.
 ghost use mathlib.Core.Path.{_≡_};
 ghost use Prim.Native.Nat.{_≤_, _<_};
 ghost use lib.ListN.{length, drop, replicate};
@@ -14,8 +14,9 @@ ghost use Rattle.words.specs.Area.{areaWords, wordsFrom};
 ghost use Rattle.trace.specs.Trace.{Trace, started};
 ghost use Rattle.trace.specs.Inner.Tally.{countWords};
 ghost use Rattle.reader.specs.Verdict.{faultHere, judgeEvent, judge, linesFrom, pieces, scan, verdict};
-ghost use Rattle.reader.specs.Inner.Reading.{countOnly, Tallied, Opened, appended, judgedNumber, ScanOutcome, refusalOf, failureRefusal};
+ghost use Rattle.reader.specs.Inner.Reading.{Lent, countOnly, Tallied, Opened, appended, judgedNumber, ScanOutcome, refusalOf, failureRefusal};
 use lines::Line;
+use lines::Placed;
 use text::LineEnd;
 use trace::Event;
 use words::AREA_WORDS;
@@ -49,8 +50,8 @@ pub struct FailureAnswer {
     pub set: u64,
 }
 
-// What the first line of a text says, where only a process count is due. (So `read_line` has one caller, whose loop it
-// can become part of.)
+// What the first line of a text says, where only a process count is due. (So the other lines have one reader, which can
+// become part of its loop.)
 fn first_line(line: &[u8]) -> Line
     ensures { λ r. ⌜ r ≡ countOnly (lineSaid (now (line .entry))) ⌝ }
 {
@@ -145,27 +146,39 @@ fn read_events(
     let mut at = from;
     let mut n: usize = 0;
     while at < text.len() {
-        let LineEnd::At(end) = text::line_end(text, at) else {
+        let Placed::Said(line, next) = lines::next_line(text, at) else {
             return Scanned::Refused(1, n + 2);
         };
-        let j = judge_line(counts, procs, n, lines::read_line(&text[at..end]));
+        let j = judge_line(counts, procs, n, line);
         let Judged::Fit(e) = j else {
             if let Judged::Fails(step, set) = j {
-                return Scanned::Stopped(step, set, n + 2, end + 1);
+                return Scanned::Stopped(step, set, n + 2, next);
             }
             return Scanned::Refused(number(j), n + 2);
         };
         append(table, n, e);
         trace::tally(counts, e);
         n += 1;
-        at = end + 1;
+        at = next;
     }
     Scanned::Ended(n + 2)
 }
 
-// The lines of a text, where the table has 16,384 words.
-fn scan_text(text: &[u8], table: &mut [u32]) -> Scanned
-    requires { ⌜ length (now table) ≡ areaWords ⌝ }
+// Leaves zeros in a table of 16,384 words, which may be `clear`, that is zero already.
+fn clear_words(table: &mut [u32], clear: bool)
+    requires { ⌜ Lent (now table) clear ⌝ }
+    ensures { λ _. ⌜ now (table .exit) ≡ replicate (length (now (table .entry))) 0 ⌝ }
+{
+    if clear {
+        return;
+    }
+    words::zero(table);
+}
+
+// The lines of a text, where the table has 16,384 words. (What is wrong with the first line is seen before anything is
+// cleared.)
+fn scan_text(text: &[u8], table: &mut [u32], clear: bool) -> Scanned
+    requires { ⌜ Lent (now table) clear ⌝ }
     ensures { λ r. ⌜ ScanOutcome (now (text .entry)) (scan (now (text .entry))) r (now (table .exit)) ⌝ }
 {
     let LineEnd::At(end) = text::line_end(text, 0) else {
@@ -181,7 +194,7 @@ fn scan_text(text: &[u8], table: &mut [u32]) -> Scanned
     if n > 64 {
         return Scanned::Refused(2, 1);
     }
-    words::zero(table);
+    clear_words(table, clear);
     table[0] = n as u32;
     let mut counts = [0u16; trace::COUNTS];
     read_events(text, end + 1, n, table, &mut counts)
@@ -223,7 +236,7 @@ fn read_in(text: &[u8], table: &mut [u32]) -> Answer
     ensures answer { λ r. ⌜ r ≡ verdictAnswer (verdict (now (text .entry))) ⌝ }
     ensures words { λ _. ⌜ now (table .exit) ≡ wordsFrom (verdictWord (verdict (now (text .entry)))) 0 areaWords ⌝ }
 {
-    let s = scan_text(text, table);
+    let s = scan_text(text, table, false);
     let Scanned::Ended(_) = s else {
         return refuse(table, refusal(s));
     };
@@ -271,12 +284,12 @@ fn refuse_failure(table: &mut [u32], a: Answer) -> FailureAnswer
 }
 
 // Reads a text that ends with a failure line into a table of 16,384 words.
-fn read_failure_in(text: &[u8], table: &mut [u32]) -> FailureAnswer
-    requires { ⌜ length (now table) ≡ areaWords ⌝ }
+fn read_failure_in(text: &[u8], table: &mut [u32], clear: bool) -> FailureAnswer
+    requires { ⌜ Lent (now table) clear ⌝ }
     ensures answer { λ r. ⌜ r ≡ failureAnswerOf (lastFailure (now (text .entry))) ⌝ }
     ensures words { λ _. ⌜ now (table .exit) ≡ wordsFrom (verdictWord (traceOf (lastFailure (now (text .entry))))) 0 areaWords ⌝ }
 {
-    let s = scan_text(text, table);
+    let s = scan_text(text, table, clear);
     let Scanned::Stopped(step, set, place, next) = s else {
         return refuse_failure(table, refusal(s));
     };
@@ -312,5 +325,17 @@ pub fn read_failure(text: &[u8], table: &mut [u32]) -> FailureAnswer
             place: 0,
         });
     }
-    read_failure_in(text, &mut table[..AREA_WORDS])
+    read_failure_in(text, &mut table[..AREA_WORDS], false)
+}
+
+// The same, for crates above this one, into an area of their own that is zero: it is not cleared before.
+pub fn read_failure_clear(text: &[u8], table: &mut [u32]) -> FailureAnswer
+    requires { ⌜ now table ≡ replicate areaWords 0 ⌝ }
+    ensures answer { λ r. ⌜ r ≡ failureAnswer (now (text .entry)) (now (table .entry)) ⌝ }
+    ensures words { λ _. ⌜ now (table .exit) ≡ failureArea (now (text .entry)) (now (table .entry)) ⌝ }
+    ensures accepts { λ r. ⌜ FailureAccepts (now (text .entry)) (length (now (table .entry))) (r .number) ⌝ }
+    ensures told { λ r. ⌜ FailureTold (now (text .entry)) r ⌝ }
+    ensures refuses { λ r. ⌜ FailureRefuses (now (text .entry)) (length (now (table .entry))) r ⌝ }
+{
+    read_failure_in(text, &mut table[..AREA_WORDS], true)
 }

@@ -1,8 +1,8 @@
 -- Laws of keys: one for each way a turn of the comparison goes; that a key which is found lies within the text; a key
 -- with its number.
 use Prim.Native.Nat.{ℕ, suc, _+_, _-_, _<_, _≤_, zero-le, suc-le-suc}
-use mathlib.Core.Path.{_≡_, refl, sym, _∙_}
-use mathlib.Core.List.{List, [], _∷_}
+use mathlib.Core.Path.{_≡_, refl, sym, ap₂, _∙_}
+use mathlib.Core.List.{List, [], _∷_, _++_}
 use mathlib.Core.Bool.{Bool, true, false}
 use native.Mathlib.Omega.{arith}
 use native.Mathlib.Numerals.{add-one}
@@ -10,8 +10,8 @@ use native.Mathlib.Nat.{add-suc}
 use lib.Dec.{eqb}
 use lib.ListN.{length, getD, drop, drop-of-length-le, length-drop}
 use lib.Seq.{drop-cons}
-use borrow.Author.Tests.{eq-eqb, ne-eqb}
-use Rattle.words.proofs.Cases.{by-bool, and-right}
+use borrow.Author.Tests.{eqb-true, eq-eqb, ne-eqb}
+use Rattle.words.proofs.Cases.{by-bool, and-left, and-right, clash}
 use Rattle.text.specs.declared.Num.the-variants.{Refused}
 use Rattle.text.specs.Number.{numberAt}
 use Rattle.text.specs.Key.{keyAt, startsWith, fieldAt}
@@ -42,6 +42,16 @@ unfolding startsWith
 starts-within text [] e = zero-le
 starts-within [] (k ∷ key) e = absurd (let s : _≡_ {A = ℕ} 0 1 = cc in let z : ⊥ = omega arith in z)
 starts-within (t ∷ text) (k ∷ key) e = suc-le-suc (starts-within text key (and-right (eqb t k) _ e))
+
+-- what begins with a key is the key and a rest
+pub key-split : (x key : List ℕ) → startsWith x key ≡ true → (rest : List ℕ) × (x ≡ key ++ rest)
+unfolding startsWith
+key-split x [] e = (x, refl)
+key-split [] (k ∷ key) e = clash e refl
+key-split (b ∷ x) (k ∷ key) e =
+    let more = key-split x key (and-right (eqb b k) (startsWith x key) e) in
+    let same : b ≡ k = eqb-true b k (and-left (eqb b k) (startsWith x key) e) in
+    (more .0, ap₂ _∷_ same (more .1))
 
 -- a key that is longer than the rest of the text does not stand there
 pub key-short : (text : List ℕ) (at : ℕ) (key : List ℕ) → length text - at < length key → false ≡ keyAt text at key

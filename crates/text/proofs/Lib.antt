@@ -3,3 +3,4 @@ pub mod Blocks
 pub mod Marks
 pub mod Numbers
 pub mod Keys
+pub mod Standing

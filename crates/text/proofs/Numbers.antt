@@ -1,6 +1,6 @@
 -- Laws of the number definitions: one for each way a turn of the loop goes, over the values that the code has; that a
 -- digit which is read lies within the text; the last digit of a number and those before it.
-use Prim.Native.Nat.{ℕ, suc, _+_, _-_, _*_, _/_, _%_, _<_, _≤_}
+use Prim.Native.Nat.{ℕ, suc, zero, _+_, _-_, _*_, _/_, _%_, _^_, _<_, _≤_}
 use mathlib.Core.Path.{_≡_, sym, ap, _∙_}
 use mathlib.Core.List.{List, [], _∷_, _++_}
 use mathlib.Core.Bool.{Bool, true, false, not}
@@ -23,6 +23,14 @@ digit-low b h = leb-true 48 b (and-left (leb 48 b) (leb b 57) h)
 pub digit-high : (b : ℕ) → isDigit b ≡ true → b ≤ 57
 unfolding isDigit
 digit-high b h = leb-true b 57 (and-right (leb 48 b) (leb b 57) h)
+
+-- the same over the test that the code has
+module _ (b : ℕ) (d : Bool) (e : d ≡ isDigit b) (n : not d ≡ false) where
+  pub digit-so : isDigit b ≡ true
+  digit-so = sym e ∙ not-false d n
+
+  pub digit-bounds : (48 ≤ b) × (b ≤ 57)
+  digit-bounds = (digit-low b digit-so, digit-high b digit-so)
 
 pub pushed-fits : (v b bound : ℕ) → v * 10 + (b - 48) ≤ bound → pushed v b bound ≡ Fits (v * 10 + (b - 48))
 unfolding pushed
@@ -98,3 +106,18 @@ last-small r v h = rw (lt-ltb v 10 h)
 pub last-more : (r v : ℕ) → 10 ≤ v → lastDigits (suc r) v ≡ lastDigits r (v / 10) ++ (48 + v % 10) ∷ []
 unfolding lastDigits
 last-more r v h = rw (le-ltb v 10 h)
+
+-- room that a number does not need changes nothing
+room-more : (r v : ℕ) → v < 10 ^ suc r → lastDigits (suc (suc r)) v ≡ lastDigits (suc r) v
+room-more zero v h = last-small 1 v h ∙ sym (last-small 0 v h)
+room-more (suc r) v h =
+    by-lt v 10
+    (λ l. last-small (suc (suc r)) v l ∙ sym (last-small (suc r) v l))
+    (λ g. last-more (suc (suc r)) v g ∙ ap (λ (x : List ℕ). x ++ (48 + v % 10) ∷ []) (room-more r (v / 10) (omega arith)) ∙ sym (last-more (suc r) v g))
+
+-- a digit behind a number other than 0
+pub last-push : (r v d : ℕ) → 0 < v → d < 10 → v * 10 + d < 10 ^ suc (suc r) → lastDigits (suc (suc r)) (v * 10 + d) ≡ lastDigits (suc (suc r)) v ++ (48 + d) ∷ []
+last-push r v d z h l =
+    let e : (v * 10 + d) / 10 ≡ v = omega arith in
+    let f : (v * 10 + d) % 10 ≡ d = omega arith in
+    last-more (suc r) (v * 10 + d) (omega arith) ∙ rw (e, f, room-more r v (omega arith))

@@ -1,5 +1,6 @@
 // Reading text: the end of a line, fixed keys and decimal numbers. Each function says what it finds by a definition of
-// specs/, for every text and place; no public function has a `requires`. Assumes nothing.
+// specs/, for every text and place; only those for a quick look (`four`, `eight`, `short`, `long`) have a `requires`,
+// that so many bytes are there. Assumes nothing.
 ghost use mathlib.Core.Bool.{true};
 ghost use mathlib.Core.Path.{_≡_};
 ghost use mathlib.Core.Logic.{_↔_};
@@ -7,6 +8,7 @@ ghost use Prim.Native.Nat.{_+_, _-_, _≤_, _<_};
 ghost use lib.ListN.{length, drop, getD};
 ghost use Rattle.text.specs.Inner.Line.{lineEnd};
 ghost use Rattle.text.specs.Inner.Blocks.{packed, marks, AnyLf, FirstLf};
+ghost use Rattle.text.specs.Inner.Standing.{Written};
 ghost use Rattle.text.specs.Number.{isDigit, pushed, digitsFrom, numberAt};
 ghost use Rattle.text.specs.Key.{startsWith, keyAt};
 
@@ -36,7 +38,7 @@ fn less(n: usize, k: usize) -> usize
 }
 
 // Four bytes from a place on as one number, the first of them lowest: the machine takes them at once.
-fn four(text: &[u8], at: usize) -> u32
+pub fn four(text: &[u8], at: usize) -> u32
     requires { ⌜ at + 4 ≤ length (now text) ⌝ }
     ensures { λ r. ⌜ r ≡ packed 4 (drop at (now (text .entry))) ⌝ }
 {
@@ -47,7 +49,7 @@ fn four(text: &[u8], at: usize) -> u32
 }
 
 // Eight bytes likewise.
-fn eight(text: &[u8], at: usize) -> u64
+pub fn eight(text: &[u8], at: usize) -> u64
     requires { ⌜ at + 8 ≤ length (now text) ⌝ }
     ensures { λ r. ⌜ r ≡ packed 8 (drop at (now (text .entry))) ⌝ }
 {
@@ -201,6 +203,51 @@ pub fn number(text: &[u8], at: usize, bound: u64) -> Num
         return Num::Refused;
     }
     Num::Value(0, at + 1)
+}
+
+// A number of one or two digits; none is no verdict. Here and in `long` what follows the digits is the caller's to look
+// at.
+pub fn short(text: &[u8], at: usize) -> Num
+    requires { ⌜ at + 2 ≤ length (now text) ⌝ }
+    ensures { λ r. ⌜ Written (now (text .entry)) at 99 2 r ⌝ }
+{
+    let first = text[at] as u16;
+    if !is_digit(first) {
+        return Num::Refused;
+    }
+    let second = text[at + 1] as u16;
+    if !is_digit(second) {
+        return Num::Value(first as u64 - 48, at + 1);
+    }
+    if first == 48 {
+        return Num::Refused;
+    }
+    Num::Value(10 * (first as u64) + second as u64 - 528, at + 2)
+}
+
+// A number of up to 19 digits, each of which 64 bits have room for; none is no verdict.
+pub fn long(text: &[u8], at: usize) -> Num
+    requires { ⌜ at + 21 ≤ length (now text) ⌝ }
+    ensures { λ r. ⌜ Written (now (text .entry)) at 18446744073709551615 20 r ⌝ }
+{
+    let first = text[at] as u16;
+    if !is_digit(first) {
+        return Num::Refused;
+    }
+    let mut v = first as u64 - 48;
+    let mut i = at + 1;
+    if v == 0 {
+        return Num::Value(v, i);
+    }
+    while v < ROOM {
+        let next = text[i] as u16;
+        if !is_digit(next) {
+            return Num::Value(v, i);
+        }
+        v = v * 10 + next as u64 - 48;
+        i += 1;
+    }
+    Num::Value(v, i)
 }
 
 // Whether the rest of a key, from its byte `from` on, stands in the text where the whole key would stand at a place;

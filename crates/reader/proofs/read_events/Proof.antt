@@ -1,11 +1,11 @@
 -- `reader::read_events` meets its contract: between two lines the table and the counters are those of the events so
 -- far, and what the lines from here give is what they give from the start.
 use Prim.Native.Nat.{ℕ, _≤_, _-_, _+_}
-use mathlib.Core.Path.{_≡_, refl, sym, ap, _∙_}
+use mathlib.Core.Path.{_≡_, refl, sym, _∙_}
 use mathlib.Core.List.{List}
 use lib.ListN.{length, drop, length-append}
 use Rattle.trace.specs.Trace.{Trace, started, extended}
-use Rattle.reader.specs.Verdict.{judge, pieces, linesFrom}
+use Rattle.reader.specs.Verdict.{pieces, linesFrom}
 use Rattle.reader.specs.Inner.Reading.{Holds, Tallied}
 use Rattle.reader.proofs.Judging.{fit-judged}
 use Rattle.trace.proofs.Counting.{next-tally}
@@ -45,8 +45,8 @@ loop-holds c =
       rest = refl;
     }
 
-add-t16 : tie.Need-add-t16 Inv-loop μ-loop
-add-t16 c =
+add-t17 : tie.Need-add-t17 Inv-loop μ-loop
+add-t17 c =
     let loop = c .before .before .before .before .loop in
     omega (arith, (loop .inv .few))
 
@@ -54,93 +54,64 @@ returns : tie.Need-returns Inv-loop μ-loop
 returns c =
     let loop = c .before .before .before .before .loop in
     let loop-test = c .before .before .before .loop-test in
-    let line-end = c .before .before .line-end in
+    let next-line = c .before .before .next-line in
     let enum-told = c .enum-told in
-    out-refused _ _ _ _ _ (sym (loop .inv .rest) ∙ turn-missing _ _ _ _ (loop-test .taken) (sym (line-end .ensures) ∙ (enum-told .given .1))) (loop .inv .holds .size)
-
-sub-read-line : tie.Need-sub-read-line Inv-loop μ-loop
-sub-read-line c =
-    let line-end = c .before .before .before .before .line-end in
-    let end = c .before .before .end in
-    omega (arith, (line-cut _ _ _ (sym (line-end .ensures) ∙ (end .given .1))) .0)
-
-part-read-line-start : tie.Need-part-read-line-start Inv-loop μ-loop
-part-read-line-start c =
-    let line-end = c .before .before .before .before .line-end in
-    let end = c .before .before .end in
-    omega (arith, (line-cut _ _ _ (sym (line-end .ensures) ∙ (end .given .1))) .0)
-
-part-read-line-end : tie.Need-part-read-line-end Inv-loop μ-loop
-part-read-line-end c =
-    let line-end = c .before .before .before .before .line-end in
-    let end = c .before .before .end in
-    omega (arith, (line-cut _ _ _ (sym (line-end .ensures) ∙ (end .given .1))) .1)
+    out-refused _ _ _ _ _ (sym (loop .inv .rest) ∙ turn-missing _ _ _ _ (loop-test .taken) (sym (next-line .ensures) ∙ (enum-told .given .1))) (loop .inv .holds .size)
 
 judge-line-requires : tie.Need-judge-line-requires Inv-loop μ-loop
 judge-line-requires c κs =
-    let loop = c .before .before .before .before .before .before .before .before .loop in
+    let loop = c .before .before .before .before .before .before .loop in
     (omega arith, (loop .inv .counted .tally .size))
 
-add-t23 : tie.Need-add-t23 Inv-loop μ-loop
-add-t23 c =
-    let loop = c .before .before .before .before .before .before .before .before .before .before .before .before .before .loop in
+add-t20 : tie.Need-add-t20 Inv-loop μ-loop
+add-t20 c =
+    let loop = c .before .before .before .before .before .before .before .before .before .before .before .loop in
     omega (arith, (loop .inv .few))
-
-add-t24 : tie.Need-add-t24 Inv-loop μ-loop
-add-t24 c =
-    let good = c .before .before .before .before .before .before .before .before .before .before .before .before .before .before .before .before .before .good in
-    let line-end = c .before .before .before .before .before .before .before .before .before .before .before .line-end in
-    let end = c .before .before .before .before .before .before .before .before .before .end in
-    omega (arith, good, (line-cut _ _ _ (sym (line-end .ensures) ∙ (end .given .1))) .1)
 
 returns-2 : tie.Need-returns-2 Inv-loop μ-loop
 returns-2 c =
     let judge-line = c .before .before .before .before .judge-line in
-    let loop = c .before .before .before .before .before .before .before .before .before .before .before .before .before .loop in
-    let read-line = c .before .before .before .before .before .read-line in
-    let line-end = c .before .before .before .before .before .before .before .before .before .before .before .line-end in
-    let end = c .before .before .before .before .before .before .before .before .before .end in
+    let loop = c .before .before .before .before .before .before .before .before .before .before .before .loop in
+    let next-line = c .before .before .before .before .before .before .before .before .before .next-line in
+    let line = c .before .before .before .before .before .before .before .line in
     let j2 = c .before .j2 in
-    let said = (judge-line .ensures) (loop .inv .run) (loop .inv .counted) ∙ ap (judge (loop .inv .run)) (read-line .ensures) in
-    out-same _ _ _ _ _ (loop .inv .rest) (turn-fails _ _ _ _ _ (sym (line-end .ensures) ∙ (end .given .1)) _ said _ _ (j2 .given .1) _ (omega (arith, (loop .inv .few))) (loop .inv .holds))
+    let said = (judge-line .ensures) (loop .inv .run) (loop .inv .counted) in
+    out-same _ _ _ _ _ (loop .inv .rest) (turn-fails _ _ _ _ _ _ (sym (next-line .ensures) ∙ (line .given .1)) _ said _ _ (j2 .given .1) _ (omega (arith, (loop .inv .few))) (loop .inv .holds))
 
-add-t26 : tie.Need-add-t26 Inv-loop μ-loop
-add-t26 c =
-    let loop = c .before .before .before .before .before .before .before .before .before .before .before .before .loop in
+add-t22 : tie.Need-add-t22 Inv-loop μ-loop
+add-t22 c =
+    let loop = c .before .before .before .before .before .before .before .before .before .before .loop in
     omega (arith, (loop .inv .few))
 
 returns-3 : tie.Need-returns-3 Inv-loop μ-loop
 returns-3 c =
     let judge-line = c .before .before .before .judge-line in
-    let loop = c .before .before .before .before .before .before .before .before .before .before .before .before .loop in
-    let read-line = c .before .before .before .before .read-line in
-    let line-end = c .before .before .before .before .before .before .before .before .before .before .line-end in
-    let end = c .before .before .before .before .before .before .before .before .end in
+    let loop = c .before .before .before .before .before .before .before .before .before .before .loop in
+    let next-line = c .before .before .before .before .before .before .before .before .next-line in
+    let line = c .before .before .before .before .before .before .line in
     let match2 = c .before .before .match2 in
     let match3 = c .before .match3 in
     let number = c .number in
-    let said = (judge-line .ensures) (loop .inv .run) (loop .inv .counted) ∙ ap (judge (loop .inv .run)) (read-line .ensures) in
-    let cut = turn-unfit _ _ _ _ _ (sym (line-end .ensures) ∙ (end .given .1)) _ said (match2 .keys2) (match3 .keys2) in
+    let said = (judge-line .ensures) (loop .inv .run) (loop .inv .counted) in
+    let cut = turn-unfit _ _ _ _ _ _ (sym (next-line .ensures) ∙ (line .given .1)) _ said (match2 .keys2) (match3 .keys2) in
     rw (number .ensures) (out-refused _ _ _ _ _ (sym (loop .inv .rest) ∙ cut) (loop .inv .holds .size))
 
 append-requires : tie.Need-append-requires Inv-loop μ-loop
 append-requires c κs =
     let judge-line = c .before .before .before .before .judge-line in
-    let loop = c .before .before .before .before .before .before .before .before .before .before .before .before .before .loop in
-    let read-line = c .before .before .before .before .before .read-line in
+    let loop = c .before .before .before .before .before .before .before .before .before .before .before .loop in
     let j = c .before .before .j in
-    let said = (judge-line .ensures) (loop .inv .run) (loop .inv .counted) ∙ ap (judge (loop .inv .run)) (read-line .ensures) in
+    let said = (judge-line .ensures) (loop .inv .run) (loop .inv .counted) in
     let f = fit-judged (loop .inv .run) _ _ _ said (j .given .1) in
     (omega (arith, f .0, (loop .inv .counted .size-is)), (loop .inv .holds .size))
 
 tally-requires : tie.Need-tally-requires Inv-loop μ-loop
 tally-requires c κs =
     let judge-line = c .before .before .before .before .before .before .before .before .judge-line in
-    let loop = c .before .before .before .before .before .before .before .before .before .before .before .before .before .before .before .before .before .loop in
-    let read-line = c .before .before .before .before .before .before .before .before .before .read-line in
+    let loop = c .before .before .before .before .before .before .before .before .before .before .before .before .before .before .before .loop in
     let j = c .before .before .before .before .before .before .j in
-    let pre = c .before .before .before .before .before .before .before .before .before .before .before .before .before .before .before .before .before .before .before .before .before .pre in
-    let said = (judge-line .ensures) (loop .inv .run) (loop .inv .counted) ∙ ap (judge (loop .inv .run)) (read-line .ensures) in
+    let pre = c .before .before .before .before .before .before .before .before .before .before .before .before .before .before .before .before .before .before .before .pre in
+    let said = (judge-line .ensures) (loop .inv .run) (loop .inv .counted) in
     let f = fit-judged (loop .inv .run) _ _ _ said (j .given .1) in
     record {
       procs = (loop .inv .run .procs);
@@ -151,33 +122,25 @@ tally-requires c κs =
       fit = f .1;
     }
 
-add-at : tie.Need-add-at Inv-loop μ-loop
-add-at c =
-    let good = c .before .before .before .before .before .before .before .before .before .before .before .before .before .before .before .before .before .before .before .before .before .before .before .before .good in
-    let line-end = c .before .before .before .before .before .before .before .before .before .before .before .before .before .before .before .before .before .before .line-end in
-    let end = c .before .before .before .before .before .before .before .before .before .before .before .before .before .before .before .before .end in
-    omega (arith, good, (line-cut _ _ _ (sym (line-end .ensures) ∙ (end .given .1))) .1)
-
 loop-less : tie.Need-loop-less Inv-loop μ-loop
 loop-less c =
-    let line-end = c .before .before .before .before .before .before .before .before .before .before .before .before .before .before .before .before .before .before .line-end in
-    let end = c .before .before .before .before .before .before .before .before .before .before .before .before .before .before .before .before .end in
-    let q = line-cut _ _ _ (sym (line-end .ensures) ∙ (end .given .1)) in omega (arith, q .0, q .1)
+    let next-line = c .before .before .before .before .before .before .before .before .before .before .before .before .before .before .before .before .next-line in
+    let line = c .before .before .before .before .before .before .before .before .before .before .before .before .before .before .line in
+    let q = line-cut _ _ _ _ (sym (next-line .ensures) ∙ (line .given .1)) in omega (arith, q .0, q .1)
 
 loop-again : tie.Need-loop-again Inv-loop μ-loop
 loop-again c =
     let judge-line = c .before .before .before .before .before .before .before .before .before .before .before .judge-line in
-    let loop = c .before .before .before .before .before .before .before .before .before .before .before .before .before .before .before .before .before .before .before .before .loop in
-    let read-line = c .before .before .before .before .before .before .before .before .before .before .before .before .read-line in
+    let loop = c .before .before .before .before .before .before .before .before .before .before .before .before .before .before .before .before .before .before .loop in
     let j = c .before .before .before .before .before .before .before .before .before .j in
-    let line-end = c .before .before .before .before .before .before .before .before .before .before .before .before .before .before .before .before .before .before .line-end in
-    let end = c .before .before .before .before .before .before .before .before .before .before .before .before .before .before .before .before .end in
-    let pre = c .before .before .before .before .before .before .before .before .before .before .before .before .before .before .before .before .before .before .before .before .before .before .before .before .pre in
+    let next-line = c .before .before .before .before .before .before .before .before .before .before .before .before .before .before .before .before .next-line in
+    let line = c .before .before .before .before .before .before .before .before .before .before .before .before .before .before .line in
+    let pre = c .before .before .before .before .before .before .before .before .before .before .before .before .before .before .before .before .before .before .before .before .before .before .pre in
     let tally = c .before .before .tally in
     let append = c .before .before .before .before .before .before .append in
-    let said = (judge-line .ensures) (loop .inv .run) (loop .inv .counted) ∙ ap (judge (loop .inv .run)) (read-line .ensures) in
+    let said = (judge-line .ensures) (loop .inv .run) (loop .inv .counted) in
     let f = fit-judged (loop .inv .run) _ _ _ said (j .given .1) in
-    let q = line-cut _ _ _ (sym (line-end .ensures) ∙ (end .given .1)) in
+    let q = line-cut _ _ _ _ (sym (next-line .ensures) ∙ (line .given .1)) in
     let k : (loop .n) + 2 + 1 ≡ (loop .n) + 1 + 2 = omega arith in
     let most : (loop .inv .run .procs) ≤ 64 = omega (arith, (pre .procs-most), (loop .inv .counted .procs-is)) in
     record {
@@ -190,11 +153,11 @@ loop-again c =
       few = omega (arith, f .0, (loop .inv .counted .size-is));
       within = omega (arith, q .1);
       holds = rw ((append .ensures), (loop .inv .counted .size-is)) (next-holds (loop .inv .run) _ _ (loop .inv .holds) (f .0));
-      rest = rw (← k) (sym (turn-fit _ _ _ _ _ (sym (line-end .ensures) ∙ (end .given .1)) _ said _ (j .given .1)) ∙ (loop .inv .rest));
+      rest = rw (← k) (sym (turn-fit _ _ _ _ _ _ (sym (next-line .ensures) ∙ (line .given .1)) _ said _ (j .given .1)) ∙ (loop .inv .rest));
     }
 
-add-t32 : tie.Need-add-t32 Inv-loop μ-loop
-add-t32 c =
+add-t28 : tie.Need-add-t28 Inv-loop μ-loop
+add-t28 c =
     let loop = c .before .loop in
     omega (arith, (loop .inv .few))
 
@@ -207,4 +170,4 @@ returns-4 c =
 pub read-events-spec : {M : Type 1} → statement M
 read-events-spec =
     tie.close
-    (tie.spec Inv-loop μ-loop loop-holds (λ c κs. search needs) (λ c. search needs) (λ c. search needs) add-t16 (λ c. search needs) (λ c. search needs) returns sub-read-line part-read-line-start part-read-line-end (λ c κs. search needs) judge-line-requires (λ c. search needs) (λ c. search needs) add-t23 add-t24 (λ c. search needs) (λ c. search needs) returns-2 (λ c κs. search needs) add-t26 (λ c. search needs) (λ c. search needs) returns-3 append-requires tally-requires (λ c. search needs) add-at loop-less loop-again add-t32 (λ c. search needs) (λ c. search needs) returns-4)
+    (tie.spec Inv-loop μ-loop loop-holds (λ c κs. search needs) (λ c. search needs) (λ c. search needs) add-t17 (λ c. search needs) (λ c. search needs) returns judge-line-requires (λ c. search needs) (λ c. search needs) add-t20 (λ c. search needs) (λ c. search needs) returns-2 (λ c κs. search needs) add-t22 (λ c. search needs) (λ c. search needs) returns-3 append-requires tally-requires (λ c. search needs) loop-less loop-again add-t28 (λ c. search needs) (λ c. search needs) returns-4)

@@ -3,6 +3,7 @@ use Rattle.words.specs.Area.{areaWords}
 use lib.Seq.{length-take-le}
 use mathlib.Core.Path.{sym, _∙_}
 use Rattle.reader.proofs.Claims.{failure-means}
+use Rattle.reader.proofs.Storing.{lent-any}
 use Rattle.reader.proofs.Verdicts.{short-failing, long-failing}
 use native.Mathlib.Omega.{arith}
 use borrow.Author.Needs.{needs}
@@ -25,7 +26,7 @@ slice-aggregate-read-failure-in c =
 read-failure-in-requires : tie.Need-read-failure-in-requires
 read-failure-in-requires c κs =
     let args = c .before .before .before .before .args in
-    length-take-le areaWords (args .table .now) (omega arith)
+    lent-any _ (length-take-le areaWords (args .table .now) (omega arith))
 
 returns-2 : tie.Need-returns-2
 returns-2 c =

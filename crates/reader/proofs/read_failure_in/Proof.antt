@@ -14,8 +14,8 @@ returns c =
     let refuse-failure = c .before .before .refuse-failure in
     failing-other _ _ _ (scan-text .ensures) (match .keys2) _ _ _ (refusal .ensures) (refuse-failure .ensures .0) (refuse-failure .ensures .1)
 
-add-t17 : tie.Need-add-t17
-add-t17 c =
+add-t18 : tie.Need-add-t18
+add-t18 c =
     let scan-text = c .before .before .before .before .before .before .before .scan-text in
     let s = c .before .before .before .s in
     omega (arith, (told-stopped _ _ _ (scan-text .ensures) _ _ _ _ (s .given .1)) .3)
@@ -38,4 +38,4 @@ returns-3 c =
 pub read-failure-in-spec : {M : Type 1} → statement M
 read-failure-in-spec =
     tie.close
-    (tie.spec (λ c κs. search needs) (λ c. search needs) (λ c κs. search needs) (λ c κs. search needs) (λ c. search needs) returns add-t17 (λ c κs. search needs) (λ c. search needs) returns-2 (λ c. search needs) returns-3)
+    (tie.spec (λ c κs. search needs) (λ c. search needs) (λ c κs. search needs) (λ c κs. search needs) (λ c. search needs) returns add-t18 (λ c κs. search needs) (λ c. search needs) returns-2 (λ c. search needs) returns-3)

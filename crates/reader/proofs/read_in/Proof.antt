@@ -1,9 +1,15 @@
 -- `reader::read_in` meets its contract, one law for each end of the scan: the one that is wanted, and the others.
 use mathlib.Core.Path.{_∙_}
+use Rattle.reader.proofs.Storing.{lent-any}
 use Rattle.reader.proofs.Verdicts.{left-ended, left-other}
 use borrow.Author.Needs.{needs}
 use Rattle.reader.proofs.read_in.Statement.{statement}
 use Rattle.reader.proofs.read_in.Tie as tie
+
+scan-text-requires : tie.Need-scan-text-requires
+scan-text-requires c κs =
+    let pre = c .before .before .before .pre in
+    lent-any _ pre
 
 returns : tie.Need-returns
 returns c =
@@ -22,4 +28,4 @@ returns-2 c =
 pub read-in-spec : {M : Type 1} → statement M
 read-in-spec =
     tie.close
-    (tie.spec (λ c κs. search needs) (λ c. search needs) (λ c κs. search needs) (λ c κs. search needs) (λ c. search needs) returns (λ c. search needs) returns-2)
+    (tie.spec scan-text-requires (λ c. search needs) (λ c κs. search needs) (λ c κs. search needs) (λ c. search needs) returns (λ c. search needs) returns-2)

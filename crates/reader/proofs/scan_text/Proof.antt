@@ -17,7 +17,7 @@ returns c =
     let line-end = c .before .before .line-end in
     let enum-told = c .enum-told in
     let pre = c .before .before .before .before .before .pre in
-    out-refused _ _ _ _ _ (scan-missing _ (sym (line-end .ensures) ∙ (enum-told .given .1))) pre
+    out-refused _ _ _ _ _ (scan-missing _ (sym (line-end .ensures) ∙ (enum-told .given .1))) (pre .size)
 
 slice-aggregate-first-line : tie.Need-slice-aggregate-first-line
 slice-aggregate-first-line c =
@@ -32,7 +32,7 @@ returns-2 c =
     let first-line = c .before .first-line in
     let match2 = c .match2 in
     let pre = c .before .before .before .before .before .before .before .before .before .pre in
-    out-refused _ _ _ _ _ (scan-other _ _ (sym (line-end .ensures) ∙ (end .given .1)) _ (first-line .ensures) (match2 .keys2)) pre
+    out-refused _ _ _ _ _ (scan-other _ _ (sym (line-end .ensures) ∙ (end .given .1)) _ (first-line .ensures) (match2 .keys2)) (pre .size)
 
 returns-3 : tie.Need-returns-3
 returns-3 c =
@@ -42,7 +42,7 @@ returns-3 c =
     let first = c .before .before .first in
     let if1 = c .if1 in
     let pre = c .before .before .before .before .before .before .before .before .before .before .before .before .pre in
-    out-refused _ _ _ _ _ (scan-low _ _ (sym (line-end .ensures) ∙ (end .given .1)) _ (first-line .ensures) _ (first .given .1) (if1 .taken)) pre
+    out-refused _ _ _ _ _ (scan-low _ _ (sym (line-end .ensures) ∙ (end .given .1)) _ (first-line .ensures) _ (first .given .1) (if1 .taken)) (pre .size)
 
 returns-4 : tie.Need-returns-4
 returns-4 c =
@@ -53,7 +53,7 @@ returns-4 c =
     let if1 = c .before .if1 in
     let if2 = c .if2 in
     let pre = c .before .before .before .before .before .before .before .before .before .before .before .before .before .pre in
-    out-refused _ _ _ _ _ (scan-high _ _ (sym (line-end .ensures) ∙ (end .given .1)) _ (first-line .ensures) _ (first .given .1) (if1 .left) (if2 .taken)) pre
+    out-refused _ _ _ _ _ (scan-high _ _ (sym (line-end .ensures) ∙ (end .given .1)) _ (first-line .ensures) _ (first .given .1) (if1 .left) (if2 .taken)) (pre .size)
 
 add-read-events : tie.Need-add-read-events
 add-read-events c =
@@ -67,21 +67,21 @@ read-events-requires c κs =
     let line-end = c .before .before .before .before .before .before .before .before .before .before .before .before .before .before .before .before .line-end in
     let end = c .before .before .before .before .before .before .before .before .before .before .before .before .before .before .end in
     let if2 = c .before .before .before .before .before .before .if2 in
-    let zero = c .before .before .before .before .zero in
+    let clear-words = c .before .before .before .before .clear-words in
     let pre = c .before .before .before .before .before .before .before .before .before .before .before .before .before .before .before .before .before .before .before .pre in
     let q = first-cut _ _ (sym (line-end .ensures) ∙ (end .given .1)) in
     record {
-      procs-most = if2 .left;
+      procs-most = (if2 .left);
       within = omega (arith, q .0);
-      holds = none-holds _ _ ((zero .ensures) ∙ ap (λ (n : ℕ). replicate n 0) pre);
+      holds = none-holds _ _ ((clear-words .ensures) ∙ ap (λ (n : ℕ). replicate n 0) (pre .size));
       tally = none-tally;
     }
 
 same-length : tie.Need-same-length
 same-length c =
     let read-events = c .before .before .before .read-events in
-    let zero = c .before .before .before .before .before .before .before .before .zero in
-    (read-events .kept .1 .1 .1 .0) ∙ simp length-set (zero .kept .0)
+    let clear-words = c .before .before .before .before .before .before .before .before .clear-words in
+    (read-events .kept .1 .1 .1 .0) ∙ simp length-set (clear-words .kept .0)
 
 returns-5 : tie.Need-returns-5
 returns-5 c =

@@ -3,7 +3,8 @@
 use Prim.Native.Nat.{ℕ, _+_, _<_, _≤_}
 use mathlib.Core.Path.{_≡_}
 use mathlib.Core.List.{List, []}
-use lib.ListN.{length, getD, set, drop}
+use mathlib.Core.Bool.{Bool, true}
+use lib.ListN.{length, getD, set, drop, replicate}
 use Rattle.words.specs.Area.{areaWords}
 use Rattle.trace.specs.declared.Event.{Event}
 use Rattle.trace.specs.Trace.{Trace, started}
@@ -18,6 +19,11 @@ use Rattle.reader.specs.declared.FailureAnswer.{FailureAnswer}
 use Rattle.reader.specs.declared.Scanned.{Scanned}
 use Rattle.reader.specs.declared.Scanned.the-variants.{Refused, Ended, Stopped}
 use Rattle.reader.specs.Verdict.{Scan, refused, ended, stopped, pieces}
+
+-- a table of 16,384 words, which are zero where it is said to be clear
+pub record Lent (table : List ℕ) (clear : Bool) : Type 0 where
+  pub size : length table ≡ areaWords
+  pub zero : clear ≡ true → table ≡ replicate (length table) 0
 
 -- a process count, or none
 unfoldable pub countOnly : Line → Line
