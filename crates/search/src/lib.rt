@@ -26,9 +26,9 @@ ghost use Rattle.theory.specs.Order.{run, lowestOrder};
 ghost use Rattle.machine.specs.Inner.Shapes.{FullLong, Pointed, Readable, Tryable};
 ghost use Rattle.columns.specs.Inner.Given.{Given};
 ghost use Rattle.sets.specs.Inner.Sets.{withIn};
-ghost use Rattle.links.specs.Inner.Listed.{Rising, Walkable};
-ghost use Rattle.search.specs.Inner.Lowest.{Idle, Unready, Waiting, NoneTo, ToHand, Ran, Searchable, LowestDone};
-ghost use Rattle.search.specs.Inner.Opened.{Shut, GatesOpened, ListJoined, PhasesJoined};
+ghost use Rattle.links.specs.Inner.Listed.{ListsRising, ListsWalkable};
+ghost use Rattle.search.specs.Inner.Lowest.{Idle, Unready, Waiting, NoneTo, ToHand, Ran, LowestDone};
+ghost use Rattle.search.specs.Inner.Opened.{Searchable, Shut, GatesOpened, ListJoined, PhasesJoined};
 ghost use Rattle.orders.specs.Answer.{answerOf, wordsOf};
 use links::HEAD_WORDS;
 use links::LINK_WORDS;
@@ -186,7 +186,7 @@ fn event_of(link: u16) -> usize
 
 // The kept messages of a list: their receivers join the sets of their senders, and these the set that is the answer.
 fn join_list(full: &[u32], links: &[u16], ready: &mut [u64], first: usize, set: u64) -> u64
-    requires { ⌜ (first < 2049) × FullLong (now full) × (8197 ≤ length (now links)) × Small (now links) × Rising (now links) × (length (now ready) ≡ 64) ⌝ }
+    requires { ⌜ (first < 2049) × FullLong (now full) × (8197 ≤ length (now links)) × Small (now links) × ListsRising (now links) × (length (now ready) ≡ 64) ⌝ }
     ensures { λ r. ⌜ ListJoined (now (full .entry)) (now (links .entry)) first (now (ready .entry)) set (now (ready .exit)) r ⌝ }
 {
     let mut senders = set;
@@ -211,7 +211,7 @@ fn join_phases(
     to: usize,
     set: u64,
 ) -> u64
-    requires { ⌜ (to ≤ 2056) × Walkable (now full) (now links) (now heads) × (length (now ready) ≡ 64) ⌝ }
+    requires { ⌜ (to ≤ 2056) × ListsWalkable (now full) (now links) (now heads) × (length (now ready) ≡ 64) ⌝ }
     ensures { λ r. ⌜ PhasesJoined (now (full .entry)) (now (links .entry)) (now (heads .entry)) from to (now (ready .entry)) set (now (ready .exit)) r ⌝ }
 {
     let mut senders = set;
@@ -234,7 +234,7 @@ fn opened(
     is: u32,
     o: Open,
 ) -> Open
-    requires { ⌜ Walkable (now full) (now links) (now heads) × (128 ≤ length (now gates)) × (length (now ready) ≡ 64) × Shut (now gates) was (o .shut) (o .gate) ⌝ }
+    requires { ⌜ ListsWalkable (now full) (now links) (now heads) × (128 ≤ length (now gates)) × (length (now ready) ≡ 64) × Shut (now gates) was (o .shut) (o .gate) ⌝ }
     ensures gates { λ r. ⌜ GatesOpened (now (gates .entry)) is (o .may) (o .shut) 0 (r .may) (r .shut) (r .gate) ⌝ }
     ensures lists { λ r. ⌜ PhasesJoined (now (full .entry)) (now (links .entry)) (now (heads .entry)) was is (now (ready .entry)) (o .senders) (now (ready .exit)) (r .senders) ⌝ }
 {
