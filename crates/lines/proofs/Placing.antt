@@ -24,7 +24,7 @@ use Rattle.lines.specs.declared.Placed.{Placed}
 use Rattle.lines.specs.declared.Placed.the-variants.{Said, Missing}
 use Rattle.lines.specs.Line.{kSend, kTo, kVal, kRecv, kFrom, most, mostValue, lineSaid}
 use Rattle.lines.specs.Render.{renderEvent, KeysHold}
-use Rattle.lines.specs.Inner.Placing.{placed, lineFrom, Known}
+use Rattle.lines.specs.Inner.Placing.{whereEnded, nextLine, Known}
 use Rattle.lines.proofs.OneLine.{lineFor, event-line}
 use Rattle.lines.proofs.Plain.{plain-end, plain-event}
 use Rattle.text.specs.declared.LineEnd as end
@@ -34,39 +34,39 @@ module _ (text : List ℕ) (at : ℕ) where
   end-within i e = let f : Ends text at (end.the-variants.At i) = rw e at (line-ends text at) in (f .after, f .within)
 
   -- where the search for LF ends
-  pub from-end : (i : ℕ) → lineEnd text at ≡ end.the-variants.At i → (l : Line) → l ≡ lineSaid (take (i - at) (drop at text)) → Said l (i + 1) ≡ lineFrom text at
-  unfolding lineFrom
+  pub from-end : (i : ℕ) → lineEnd text at ≡ end.the-variants.At i → (l : Line) → l ≡ lineSaid (take (i - at) (drop at text)) → Said l (i + 1) ≡ nextLine text at
+  unfolding nextLine
   from-end i e l h = rw (e, h)
 
-  pub from-none : lineEnd text at ≡ end.the-variants.Missing → Missing ≡ lineFrom text at
-  unfolding lineFrom
+  pub from-none : lineEnd text at ≡ end.the-variants.Missing → Missing ≡ nextLine text at
+  unfolding nextLine
   from-none e = rw e
 
   -- and back
-  pub said-at : (l : Line) (next : ℕ) → lineFrom text at ≡ Said l next
+  pub said-at : (l : Line) (next : ℕ) → nextLine text at ≡ Said l next
       → (i : ℕ) × (lineEnd text at ≡ end.the-variants.At i) × (next ≡ i + 1) × (l ≡ lineSaid (take (i - at) (drop at text)))
-  unfolding lineFrom
+  unfolding nextLine
   said-at l next = by-end (lineEnd text at)
     where
-      by-end : (e : LineEnd) → placed e (λ i. Said (lineSaid (take (i - at) (drop at text))) (i + 1)) ≡ Said l next
+      by-end : (e : LineEnd) → whereEnded e (λ i. Said (lineSaid (take (i - at) (drop at text))) (i + 1)) ≡ Said l next
           → (i : ℕ) × (e ≡ end.the-variants.At i) × (next ≡ i + 1) × (l ≡ lineSaid (take (i - at) (drop at text)))
       by-end (end.the-variants.At i) h = (i, refl, (let q : i + 1 ≡ next = cc in sym q), (let q : lineSaid (take (i - at) (drop at text)) ≡ l = cc in sym q))
       by-end end.the-variants.Missing h = absurd (let z : _≡_ {A = ℕ} 0 1 = cc in let w : ⊥ = omega arith in w)
 
-  pub missing-at : lineFrom text at ≡ Missing → lineEnd text at ≡ end.the-variants.Missing
-  unfolding lineFrom
+  pub missing-at : nextLine text at ≡ Missing → lineEnd text at ≡ end.the-variants.Missing
+  unfolding nextLine
   missing-at = by-end (lineEnd text at)
     where
-      by-end : (e : LineEnd) → placed e (λ i. Said (lineSaid (take (i - at) (drop at text))) (i + 1)) ≡ Missing → e ≡ end.the-variants.Missing
+      by-end : (e : LineEnd) → whereEnded e (λ i. Said (lineSaid (take (i - at) (drop at text))) (i + 1)) ≡ Missing → e ≡ end.the-variants.Missing
       by-end (end.the-variants.At i) h = absurd (let z : _≡_ {A = ℕ} 0 1 = cc in let w : ⊥ = omega arith in w)
       by-end end.the-variants.Missing h = refl
 
   -- what a quick look found, over the answer that the code has
-  pub known : (r : Placed) (l : Line) (next : ℕ) → Known text at r → r ≡ Said l next → Said l next ≡ lineFrom text at
+  pub known : (r : Placed) (l : Line) (next : ℕ) → Known text at r → r ≡ Said l next → Said l next ≡ nextLine text at
   known r l next k e = subst (Known text at) e k
 
   -- where an event's text stands, and LF behind it
-  pub event-from : (e : Event) (i : ℕ) → KeysHold e → Stands text at (renderEvent e) i → i < length text → getD text i 0 ≡ 10 → Said (lineFor e) (i + 1) ≡ lineFrom text at
+  pub event-from : (e : Event) (i : ℕ) → KeysHold e → Stands text at (renderEvent e) i → i < length text → getD text i 0 ≡ 10 → Said (lineFor e) (i + 1) ≡ nextLine text at
   event-from e i k s h lf =
       let x = renderEvent e in
       let bytes : drop at text ≡ x ++ 10 ∷ drop (i + 1) text = s .bytes ∙ ap (λ (z : List ℕ). x ++ z) (byte-stands text i 10 h lf .bytes) in
@@ -90,19 +90,19 @@ module _ (text : List ℕ) (at : ℕ) where
   -- the lines of events, field by field: each number with what `short` and `long` say of it
   module _ (a p : ℕ) (sa : Written text (at + 11) 99 2 (Value a p)) where
     pub process-from : (key : List ℕ) (e : Event) → renderEvent e ≡ key ++ decimal a → (a ≤ most → KeysHold e) → Stands text at key (at + 11)
-        → p < length text → getD text p 0 ≡ 10 → Said (lineFor e) (p + 1) ≡ lineFrom text at
+        → p < length text → getD text p 0 ≡ 10 → Said (lineFor e) (p + 1) ≡ nextLine text at
     process-from key e r k s h lf = event-from e p (k (omega (arith, sa .1))) (rw r (stands-then text s (sa .0))) h lf
 
     module _ (b q : ℕ) where
       pub recv-from : Stands text at kRecv (at + 11) → Stands text p kFrom (p + 6) → Written text (p + 6) 99 2 (Value b q)
-          → q < length text → getD text q 0 ≡ 10 → Said (lineFor (Recv a b)) (q + 1) ≡ lineFrom text at
+          → q < length text → getD text q 0 ≡ 10 → Said (lineFor (Recv a b)) (q + 1) ≡ nextLine text at
       unfolding renderEvent
       recv-from s f sb h lf =
           event-from (Recv a b) q (omega (arith, sa .1), omega (arith, sb .1)) (stands-then text (stands-then text (stands-then text s (sa .0)) f) (sb .0)) h lf
 
       pub send-from : (v r : ℕ) → Stands text at kSend (at + 11) → Stands text p kTo (p + 4) → Written text (p + 4) 99 2 (Value b q)
           → Stands text q kVal (q + 5) → Written text (q + 5) mostValue 20 (Value v r)
-          → r < length text → getD text r 0 ≡ 10 → Said (lineFor (Send a b v)) (r + 1) ≡ lineFrom text at
+          → r < length text → getD text r 0 ≡ 10 → Said (lineFor (Send a b v)) (r + 1) ≡ nextLine text at
       unfolding renderEvent
       send-from v r s t sb u sv h lf =
           event-from (Send a b v) r (omega (arith, sa .1), omega (arith, sb .1), sv .1)

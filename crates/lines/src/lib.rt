@@ -9,7 +9,7 @@ ghost use lib.ListN.{length};
 ghost use mathlib.Core.Bool.{cond};
 ghost use Rattle.text.specs.Inner.Standing.{Stands};
 ghost use Rattle.lines.specs.declared.Line.the-variants.{Save, Done};
-ghost use Rattle.lines.specs.Inner.Placing.{lineFrom, Known};
+ghost use Rattle.lines.specs.Inner.Placing.{nextLine, Known};
 ghost use Rattle.lines.specs.Line.{kSend, kRecv, kSave, kDone, whenEnd, lineSaid, procsSaid, sendSaid, recvSaid, processSaid, failSaid};
 use text::LineEnd;
 use text::Num;
@@ -271,7 +271,7 @@ fn quick_line(text: &[u8], at: usize) -> Placed
 
 // The line at a place, its LF searched for first.
 fn searched_line(text: &[u8], at: usize) -> Placed
-    ensures { λ r. ⌜ r ≡ lineFrom (now (text .entry)) at ⌝ }
+    ensures { λ r. ⌜ r ≡ nextLine (now (text .entry)) at ⌝ }
 {
     let LineEnd::At(end) = text::line_end(text, at) else {
         return Placed::Missing;
@@ -281,7 +281,7 @@ fn searched_line(text: &[u8], at: usize) -> Placed
 
 // The line at a place: by a quick look, or where that does not tell, by a search for its LF.
 pub fn next_line(text: &[u8], at: usize) -> Placed
-    ensures { λ r. ⌜ r ≡ lineFrom (now (text .entry)) at ⌝ }
+    ensures { λ r. ⌜ r ≡ nextLine (now (text .entry)) at ⌝ }
 {
     let found = quick_line(text, at);
     if let Placed::Said(line, next) = found {

@@ -12,7 +12,7 @@ use Rattle.text.specs.Inner.Line.{lfFrom}
 use Rattle.lines.specs.declared.Line.{Line}
 use Rattle.lines.specs.declared.Placed.the-variants.{Said, Missing}
 use Rattle.lines.specs.Line.{lineSaid}
-use Rattle.lines.specs.Inner.Placing.{lineFrom}
+use Rattle.lines.specs.Inner.Placing.{nextLine}
 use Rattle.lines.proofs.Placing.{said-at, missing-at}
 use Rattle.reader.specs.Verdict.{pieces}
 use Rattle.text.specs.declared.LineEnd as end
@@ -40,7 +40,7 @@ cut-none at (b ∷ bs) e =
     (λ t. let q : lfFrom (at + 1) bs ≡ end.the-variants.Missing = rw t at e in rw (t, cut-none (at + 1) bs q))
 
 -- the same of the line at a place of a text: it is a piece, and the next place is where the others begin
-pub line-cut : (text : List ℕ) (at : ℕ) (l : Line) (next : ℕ) → lineFrom text at ≡ Said l next
+pub line-cut : (text : List ℕ) (at : ℕ) (l : Line) (next : ℕ) → nextLine text at ≡ Said l next
     → (at < next) × (next ≤ length text) × (piece : List ℕ) × (pieces (drop at text) ≡ piece ∷ pieces (drop next text)) × (l ≡ lineSaid piece)
 line-cut text at l next e =
     let (i, lf, after, said) = said-at text at l next e in
@@ -54,7 +54,7 @@ line-cut text at l next e =
       said,
     )
 
-pub line-none : (text : List ℕ) (at : ℕ) → lineFrom text at ≡ Missing → pieces (drop at text) ≡ drop at text ∷ []
+pub line-none : (text : List ℕ) (at : ℕ) → nextLine text at ≡ Missing → pieces (drop at text) ≡ drop at text ∷ []
 line-none text at e = cut-none at (drop at text) (missing-at text at e)
 
 -- and from the start

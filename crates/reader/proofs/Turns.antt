@@ -21,7 +21,7 @@ use Rattle.reader.specs.Verdict.{Scan, refused, ended, pieces, judge, af
 use Rattle.reader.specs.Inner.Reading.{judgedNumber, countOnly, Holds, ScanOutcome}
 use Rattle.reader.proofs.Pieces.{first-piece}
 use Rattle.reader.proofs.Cutting.{cut-none, line-cut, line-none, first-cut}
-use Rattle.lines.specs.Inner.Placing.{lineFrom}
+use Rattle.lines.specs.Inner.Placing.{nextLine}
 use Rattle.lines.specs.declared.Placed as placed
 use Rattle.lines.specs.declared.Line as line
 use Rattle.reader.proofs.Judged as judged
@@ -43,11 +43,11 @@ module _ (text : List ℕ) (t : Trace) (k at : ℕ) where
   unfolding linesFrom pieces
   turn-end h = rw (drop-of-length-le text {i = at} h)
 
-  pub turn-missing : at < length text → lineFrom text at ≡ placed.the-variants.Missing → linesFrom t k (pieces (drop at text)) ≡ refused 1 k
+  pub turn-missing : at < length text → nextLine text at ≡ placed.the-variants.Missing → linesFrom t k (pieces (drop at text)) ≡ refused 1 k
   unfolding linesFrom
   turn-missing h e = rw (line-none text at e) (lacks (drop at text) t k (rw (length-drop at text) (omega arith)))
 
-  module _ (l : Line) (next : ℕ) (e : lineFrom text at ≡ placed.the-variants.Said l next) (j : Judged) (h : j ≡ judge t l) where
+  module _ (l : Line) (next : ℕ) (e : nextLine text at ≡ placed.the-variants.Said l next) (j : Judged) (h : j ≡ judge t l) where
     turn-line : linesFrom t k (pieces (drop at text)) ≡ afterLine j t k (pieces (drop next text)) (λ d. linesFrom (extended t d) (k + 1) (pieces (drop next text)))
     turn-line =
         let (after, within, piece, cut, said) = line-cut text at l next e in

@@ -11,14 +11,14 @@ use Rattle.lines.specs.Line.{lineSaid}
 use Rattle.text.specs.declared.LineEnd as end
 
 -- by the place of its LF
-abbrev pub placed : LineEnd → (ℕ → Placed) → Placed
-placed (end.the-variants.At i) said = said i
-placed end.the-variants.Missing said = Missing
+abbrev pub whereEnded : LineEnd → (ℕ → Placed) → Placed
+whereEnded (end.the-variants.At i) said = said i
+whereEnded end.the-variants.Missing said = Missing
 
-unfoldable pub lineFrom : List ℕ → ℕ → Placed
-lineFrom text at = placed (lineEnd text at) (λ i. Said (lineSaid (take (i - at) (drop at text))) (i + 1))
+unfoldable pub nextLine : List ℕ → ℕ → Placed
+nextLine text at = whereEnded (lineEnd text at) (λ i. Said (lineSaid (take (i - at) (drop at text))) (i + 1))
 
 -- what a quick look found is so; it may find nothing
 abbrev pub Known : List ℕ → ℕ → Placed → Type 0
-Known text at (Said l next) = Said l next ≡ lineFrom text at
+Known text at (Said l next) = Said l next ≡ nextLine text at
 Known text at Missing = Unit
