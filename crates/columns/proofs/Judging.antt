@@ -1,5 +1,6 @@
--- Events judged one after another. What the tables hold after some events is said of every well-formed trace that begins
--- with these, since nothing is known of the rest: so the next one is judged by the working words, and noted if it is fit.
+-- Events judged one after another. What the tables hold after some events is said of every well-formed trace that
+-- begins with these, since nothing is known of the rest: so the next one is judged by the working words, and noted if
+-- it is fit.
 use Prim.Native.Nat.{ℕ, suc, _+_, _<_, _≤_}
 use mathlib.Core.Path.{_≡_, refl, sym, ap, _∙_}
 use mathlib.Core.Bool.{Bool, true, false, _&&_, not, cond, and-true}
