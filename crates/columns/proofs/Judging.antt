@@ -1,8 +1,9 @@
--- Events judged one after another. What the tables hold after some events is said of every well-formed trace that begins
--- with these, since nothing is known of the rest: so the next one is judged by the working words, and noted if it is fit.
+-- Events judged one after another. What the tables hold after some events is said of every well-formed trace that
+-- begins with these, since nothing is known of the rest: so the next one is judged by the working words, and noted if
+-- it is fit.
 use Prim.Native.Nat.{ℕ, suc, _+_, _<_, _≤_}
 use mathlib.Core.Path.{_≡_, refl, sym, ap, _∙_}
-use mathlib.Core.Bool.{Bool, true, _&&_, not, cond, and-true}
+use mathlib.Core.Bool.{Bool, true, false, _&&_, not, cond, and-true}
 use mathlib.Core.List.{List, [], _∷_, _++_, append-assoc, append-nil}
 use native.Mathlib.Omega.{arith}
 use native.Mathlib.Numerals.{add-one}
@@ -84,6 +85,14 @@ pub pair-within : (n a b : ℕ) → pairFits n a b ≡ true → (a < n) × (b < 
 pair-within n a b h =
     let r = and-right (ltb a n) _ h in
     (ltb-true a n (and-left (ltb a n) _ h), ltb-true b n (and-left (ltb b n) _ r))
+
+-- the ways out of `done_noted`, of a process
+module _ (n : ℕ) (work : List ℕ) (a : ℕ) (l : a < n) where
+  pub all-finished : getD work a 0 ≤ getD work (128 + a) 0 → false ≡ fitIn n work (Done a)
+  all-finished h = rw (lt-ltb a n l, le-ltb (getD work (128 + a) 0) (getD work a 0) h)
+
+  pub one-unfinished : getD work (128 + a) 0 < getD work a 0 → fitIn n work (Done a) ≡ true
+  one-unfinished h = rw (lt-ltb a n l, lt-ltb (getD work (128 + a) 0) (getD work a 0) h)
 
 module _ (n : ℕ) (es : List Event) (full work : List ℕ) (N : Noted n es full work) where
   abbrev t : Trace

@@ -38,7 +38,8 @@ pub const GATE_WORDS: usize = 128;
 pub const RESTART_BASE: usize = 64;
 
 // Where the working words begin: each process's epoch, from 0 on, its phase and its latest finished epoch, each
-// channel's oldest and latest send, each send's next on its channel. They have 16 bits, so that they take less to clear.
+// channel's oldest and latest send, each send's next on its channel. They have 16 bits, so that they take less to
+// clear.
 const PHASES: usize = 64;
 
 const FINISHED: usize = 128;

@@ -24,7 +24,7 @@ use Rattle.lines.specs.declared.Placed.{Placed}
 use Rattle.lines.specs.declared.Placed.the-variants.{Said, Missing}
 use Rattle.lines.specs.Line.{kSend, kTo, kVal, kRecv, kFrom, most, mostValue, lineSaid}
 use Rattle.lines.specs.Render.{renderEvent, KeysHold}
-use Rattle.lines.specs.Inner.Placing.{byEnd, nextLine, Known}
+use Rattle.lines.specs.Inner.Placing.{whereEnded, nextLine, Known}
 use Rattle.lines.proofs.OneLine.{lineFor, event-line}
 use Rattle.lines.proofs.Plain.{plain-end, plain-event}
 use Rattle.text.specs.declared.LineEnd as end
@@ -48,7 +48,7 @@ module _ (text : List ℕ) (at : ℕ) where
   unfolding nextLine
   said-at l next = by-end (lineEnd text at)
     where
-      by-end : (e : LineEnd) → byEnd e (λ i. Said (lineSaid (take (i - at) (drop at text))) (i + 1)) ≡ Said l next
+      by-end : (e : LineEnd) → whereEnded e (λ i. Said (lineSaid (take (i - at) (drop at text))) (i + 1)) ≡ Said l next
           → (i : ℕ) × (e ≡ end.the-variants.At i) × (next ≡ i + 1) × (l ≡ lineSaid (take (i - at) (drop at text)))
       by-end (end.the-variants.At i) h = (i, refl, (let q : i + 1 ≡ next = cc in sym q), (let q : lineSaid (take (i - at) (drop at text)) ≡ l = cc in sym q))
       by-end end.the-variants.Missing h = absurd (let z : _≡_ {A = ℕ} 0 1 = cc in let w : ⊥ = omega arith in w)
@@ -57,7 +57,7 @@ module _ (text : List ℕ) (at : ℕ) where
   unfolding nextLine
   missing-at = by-end (lineEnd text at)
     where
-      by-end : (e : LineEnd) → byEnd e (λ i. Said (lineSaid (take (i - at) (drop at text))) (i + 1)) ≡ Missing → e ≡ end.the-variants.Missing
+      by-end : (e : LineEnd) → whereEnded e (λ i. Said (lineSaid (take (i - at) (drop at text))) (i + 1)) ≡ Missing → e ≡ end.the-variants.Missing
       by-end (end.the-variants.At i) h = absurd (let z : _≡_ {A = ℕ} 0 1 = cc in let w : ⊥ = omega arith in w)
       by-end end.the-variants.Missing h = refl
 

@@ -22,7 +22,7 @@ use Rattle.columns.proofs.Full.{fit, few, procs-most, size-is, send-kind, kind-
 use Rattle.machine.specs.Inner.Words.{lowPlace, lowOf, Bounded, Small}
 use Rattle.machine.specs.Inner.Related.{goes, Started}
 use Rattle.links.specs.Inner.Linking.{sentClass, linkedL, linkedH, linkedA, beginA}
-use Rattle.links.specs.Inner.Listed.{Listed}
+use Rattle.links.specs.Inner.Listed.{KeptListed}
 use Rattle.links.specs.Inner.Shapes.{PairedTo, PhasedTo, Linkable}
 use Rattle.links.proofs.Listed.{heads-small, all-listed}
 use Rattle.links.proofs.Passes.{linked-small}
@@ -127,7 +127,7 @@ module _ (R : Run) (cut : ℕ) (full gates : List ℕ) (G : Given R cut full gat
     pub begun-in : (l′ a′ : List ℕ) → l′ ≡ linksOf (eventsW full) → a′ ≡ beginA full (wordsAt (eventsW full)) → Started R full l′ gates a′
     begun-in l′ a′ e f = rw (e, f) begun
 
-    pub listed-in : (l′ h : List ℕ) → l′ ≡ linksOf (eventsW full) → h ≡ linkedH full gates cut (eventsW full) (eventsW full) → Listed R full l′ h
+    pub listed-in : (l′ h : List ℕ) → l′ ≡ linksOf (eventsW full) → h ≡ linkedH full gates cut (eventsW full) (eventsW full) → KeptListed R full l′ h
     unfolding Small
     listed-in l′ h e f =
         let A = all-listed full gates cut (eventsW full) (omega (arith, count-few)) phases l a l-long l-zero in

@@ -12,8 +12,8 @@ use Rattle.words.proofs.Area.{zero-word}
 use Rattle.words.proofs.Cases.{by-bool, by-eq, clash}
 use Rattle.machine.specs.Inner.Words.{Small}
 use Rattle.columns.specs.Inner.Full.{phaseW}
-use Rattle.links.specs.Inner.Linking.{headWords, sentClass, chainA, linkL, keptL, keptH, linkedL, linkedH, linkedA}
-use Rattle.links.specs.Inner.Listed.{OnList, here, later, Rising}
+use Rattle.links.specs.Inner.Linking.{headWords, sentClass, chainA, linkL, keptL, keptH, linkedL, linkedH}
+use Rattle.links.specs.Inner.Listed.{OnList, here, later, ListsRising}
 use Rattle.links.specs.Inner.Shapes.{PhasedTo}
 use Rattle.links.proofs.Linking.{far-A, len-A, small-A}
 
@@ -34,8 +34,8 @@ on-same l l′ e x m (here y h) = here y h
 on-same l l′ e x m (later y w h k) = later y w h (rw (e y) (on-same l l′ e (getD l (4 * y + 3) 0) w k))
 
 -- a link before the list is another
-on-set : (l : List ℕ) (e v x m : ℕ) → Rising l → e < x → OnList l x m → OnList (set l (4 * e + 3) v) x m
-unfolding Rising
+on-set : (l : List ℕ) (e v x m : ℕ) → ListsRising l → e < x → OnList l x m → OnList (set l (4 * e + 3) v) x m
+unfolding ListsRising
 on-set l e v x m r h (here y p) = here y p
 on-set l e v x m r h (later y w p k) =
     let j : getD (set l (4 * e + 3) v) (4 * y + 3) 0 ≡ getD l (4 * y + 3) 0 = getD-set-other l (4 * e + 3) (4 * y + 3) v 0 (λ q. omega arith) in
@@ -49,12 +49,12 @@ module _ (t g : List ℕ) (cut n : ℕ) where
   pub record Listing (x : ℕ) (l h : List ℕ) : Type 0 where
     pub links-long : 8197 ≤ length l
     pub heads-long : length h ≡ headWords
-    pub rising : Rising l
+    pub rising : ListsRising l
     pub ahead : (f : ℕ) → 0 < getD h f 0 → x < getD h f 0
     pub on : (m : ℕ) → x < m → m ≤ n → sentClass t g cut m ≡ 2 → OnList l (getD h (phaseW t m) 0) m
 
   listing-start : (l : List ℕ) → 8197 ≤ length l → ((k : ℕ) → getD l k 0 ≡ 0) → Listing n l (replicate headWords 0)
-  unfolding Rising
+  unfolding ListsRising
   listing-start l h z = record {
     links-long = h;
     heads-long = length-replicate {A = ℕ} headWords 0;
@@ -74,7 +74,7 @@ module _ (t g : List ℕ) (cut n : ℕ) where
   link-long l a e = len-A _ _ (4 * e + 1) _ ∙ len-A _ _ (4 * e + 2) _ ∙ len-A _ l (4 * e) _
 
   listing-linked : (x e : ℕ) (l a h : List ℕ) → Listing x l h → Listing x (linkL t g cut l a e) h
-  unfolding Rising
+  unfolding ListsRising
   listing-linked x e l a h L = record {
     links-long = omega (arith, link-long l a e, L .links-long);
     heads-long = L .heads-long;
@@ -104,7 +104,7 @@ module _ (t g : List ℕ) (cut n : ℕ) where
     still x m q o a = on-set l e (getD h f 0) x m (L .rising) (a q) o
 
     listing-kept : Listing (e - 1) l′ h′
-    unfolding Rising
+    unfolding ListsRising
     listing-kept = record {
       links-long = omega (arith, length-set l (4 * e + 3) (getD h f 0), L .links-long);
       heads-long = length-set h f e ∙ L .heads-long;

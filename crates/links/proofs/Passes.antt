@@ -21,7 +21,7 @@ use Rattle.columns.specs.Inner.Full.{peerW, atW, matchW, phaseW}
 use Rattle.theory.specs.Inner.Lists.{head0}
 use Rattle.machine.specs.Inner.Related.{goes, evs, orph, Cols, Rel}
 use Rattle.columns.specs.Inner.Given.{Tells, Gated}
-use Rattle.links.specs.Inner.Linking.{mineW, orphanW, goesW, earlyW, linkL, linkA, keptL, linkedL, linkedH, linkedA, beginA}
+use Rattle.links.specs.Inner.Linking.{mineW, orphanW, goesW, earlyW, linkL, linkA, keptL, linkedL, linkedA, beginA}
 use Rattle.links.specs.Inner.Linked.{mine, rest, Chained}
 use Rattle.links.proofs.Linking.{Tests, stepL, stepA, chained-next, chained-slot}
 use Rattle.links.proofs.Listed.{heads-small}

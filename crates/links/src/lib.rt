@@ -8,7 +8,7 @@ ghost use lib.ListN.{length, getD, replicate};
 ghost use Rattle.machine.specs.Inner.Shapes.{Pointed};
 ghost use Rattle.columns.specs.Inner.Full.{eventsW, eventW, atW, matchW, phaseW};
 ghost use Rattle.links.specs.Inner.Linking.{sentClass, goesClass, chainA, recordA, sentL, sentA, linkL, linkA, headWords, keptL, keptH, linkedL, linkedH, linkedA, beginA};
-ghost use Rattle.links.specs.Inner.Shapes.{SendReadable, SlotLinkable, Placed, Recordable, Listable, EventLinkable, AllLinkable, Linkable};
+ghost use Rattle.links.specs.Inner.Shapes.{SendReadable, SlotLinkable, Placed, Recordable, KeptListable, EventLinkable, AllLinkable, Linkable};
 use classes::KEPT;
 use classes::NONE;
 use classes::ORPHAN;
@@ -100,7 +100,7 @@ fn mark_record(full: &[u32], area: &mut [u32], e: usize, before: bool)
 
 // The message that event e sends, where it is of the class of kept ones: it goes before those of its phase.
 fn list_kept(full: &[u32], links: &mut [u16], heads: &mut [u16], e: usize, class: u32)
-    requires { ⌜ Listable (now full) (now links) (now heads) e ⌝ }
+    requires { ⌜ KeptListable (now full) (now links) (now heads) e ⌝ }
     ensures links { λ _. ⌜ now (links .exit) ≡ keptL (now (links .entry)) (now (heads .entry)) (phaseW (now (full .entry)) e) e class ⌝ }
     ensures heads { λ _. ⌜ now (heads .exit) ≡ keptH (now (heads .entry)) (phaseW (now (full .entry)) e) e class ⌝ }
 {

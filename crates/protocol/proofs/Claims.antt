@@ -1,5 +1,6 @@
--- What the protocol part promises: the columns and the flags of the full table (crates/columns/specs/Inner, by the
--- contract of `tabulate`), and the laws of a recorded run. The quotation is from the requirements.
+-- What the protocol part promises: the columns and the flags of the full table, by the contract of `tabulate` (their
+-- meaning: crates/columns/specs/Inner/Columns.antt), and the laws of a recorded run. The quotation is from the
+-- requirements.
 use Prim.Native.Nat.{ℕ, _≤_}
 use mathlib.Core.Path.{_≡_}
 use mathlib.Core.Bool.{true}

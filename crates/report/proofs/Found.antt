@@ -1,31 +1,37 @@
--- From what `recover` answers and leaves to the report's definition: the same lines, not too many, and the exact steps.
-use Prim.Native.Nat.{ℕ, _+_, _<_, _≤_}
-use mathlib.Core.Path.{_≡_, refl, sym, ap, _∙_}
+-- From the answers that `report_from` has to the report's definition: the same lines, not too many, and the exact steps.
+use Prim.Native.Nat.{ℕ, _+_, _≤_}
+use mathlib.Core.Path.{_≡_, sym, ap, subst, _∙_}
 use mathlib.Core.List.{List, [], _∷_, _++_, append-assoc}
 use native.Mathlib.Omega.{arith}
-use lib.ListN.{length, getD}
-use Rattle.table.specs.Held.{held}
-use Rattle.theory.specs.Line.{Run}
+use lib.ListN.{length}
+use lib.Seq.{slice}
+use Rattle.trace.specs.Trace.{Trace}
+use Rattle.theory.specs.Events.{size}
+use Rattle.theory.specs.Epochs.{ruleOf}
+use Rattle.theory.specs.Line.{Run, runAt, LossFree}
 use Rattle.theory.specs.Order.{steps, lowestOrder}
-use Rattle.theory.specs.Answers.{gather, orphans, keptOnes, lostOnes, exactSteps}
-use Rattle.theory.proofs.WellFormed.{valid}
-use Rattle.protocol.proofs.Passes.{held-formed}
-use Rattle.listing.specs.Listing.{listWord}
+use Rattle.theory.specs.Answers.{gather, orphans, keptOnes, exactSteps}
+use Rattle.theory.proofs.Exact.{exact-steps}
+use Rattle.theory.proofs.Lowest.{lowest-order}
+use Rattle.theory.proofs.Orders.{order-bound}
+use Rattle.columns.specs.Inner.Given.{Marked, Given}
+use Rattle.columns.proofs.Full.{procs-is, procs-most}
+use Rattle.recovery_line.specs.Given.{lineIn}
 use Rattle.restart.specs.declared.Restarted.{Restarted}
-use Rattle.restart.specs.Restart.{restartOf}
-use Rattle.restart.proofs.Restarting.{Ready, count-in}
-use Rattle.messages.specs.Messages.{countsOf, messagesAnswer, messagesArea}
-use Rattle.messages.proofs.Listing.{counts-are, listed-at}
-use Rattle.recovery.specs.declared.Recovered.{Recovered}
-use Rattle.recovery.specs.Recover.{Succeeds}
-use Rattle.preparing.specs.Faults.{runOf}
+use Rattle.restart.specs.Restart.{restartOf, Restarts}
+use Rattle.restart.proofs.Restarting.{count-in}
+use Rattle.listing.specs.Inner.Words.{ListedEvents}
+use Rattle.steps.specs.Inner.Steps.{listedEvents}
+use Rattle.steps.proofs.Counting.{lowest-steps}
+use Rattle.writer.specs.Inner.Puts.{Puts}
+use Rattle.writer.proofs.Buffers.{same-bytes}
 use Rattle.text.specs.Number.{decimal}
 use Rattle.text.specs.Bytes.{bytesOf}
 use Rattle.printing.specs.Lines.{keyOrphan, keyKept, totalLine}
 use Rattle.report.specs.Report.{given, Failure, engineRun, Recovery, recoveryOf, processLineOf, messageLines, printedOf, EndsExactly, reportBytes}
-use Rattle.report.specs.Inner.Rows.{recoveryRows}
+use Rattle.report.specs.Inner.Rows.{recoveryRows, Recounts}
 use Rattle.report.proofs.Lengths.{found-few}
-use Rattle.report.proofs.Messages.{orphan-lines, kept-lines}
+use Rattle.report.proofs.Messages.{lines-are}
 
 -- the last line ends with the steps
 ends-with : (r : Recovery) → (front : List ℕ) × (printedOf (given r) ≡ front ++ (bytesOf " steps=" ++ decimal (r .steps) ++ 10 ∷ []))
@@ -38,65 +44,58 @@ ends-with r =
     let D = bytesOf " steps=" ++ decimal (r .steps) ++ 10 ∷ [] in
     (front ++ A ++ B ++ C, sym (append-assoc (front ++ A ++ B) C D ∙ append-assoc (front ++ A) B (C ++ D) ∙ append-assoc front A (B ++ (C ++ D))))
 
-module _ (a : List ℕ) (step set : ℕ) where
+-- the run from the line that was answered
+pub run-is : (t : Trace) (cut set : ℕ) (r : Restarted) → r ≡ restartOf t cut set → runAt t cut (lineIn (r .line)) ≡ engineRun (record { trace = t; step = cut; failed = set })
+unfolding restartOf
+run-is t cut set r e = ap (λ (x : Restarted). runAt t cut (lineIn (x .line))) e
+
+module _ (t : Trace) (full : List ℕ) (M : Marked t (ruleOf t) full) (cut set : ℕ)
+    (r : Restarted) (e : r ≡ restartOf t cut set) (m : Restarts t cut set r) where
   abbrev f : Failure
-  f = record { trace = held a; step = step; failed = set }
+  f = record { trace = t; step = cut; failed = set }
 
-  -- ---- A failure that is not refused
+  abbrev Q : Run
+  Q = runAt t cut (lineIn (r .line))
 
-  module _ (r : Restarted) (G : Ready a step set r) where
-    few-processes : held a .procs ≤ 64
-    few-processes = valid (held a) (held-formed a (G .holds)) .few
+  pub count-few : r .line .count ≤ 64
+  count-few = omega (arith, count-in t cut set r e, procs-is t full (M .tabled), procs-most t full (M .tabled))
 
-    count-few : r .line .count ≤ 64
-    count-few = omega (arith, count-in (held a) step set r (G .answer), few-processes)
+  module _ (gates : List ℕ) (G : Given Q cut full gates) (events : List ℕ) (a b c : ℕ) (E : ListedEvents Q full events a b c) (few : a + b + c ≤ 2048)
+      (listed : ℕ) (l : listed ≡ listedEvents Q) where
+    steps-are : listed + b ≡ steps (lowestOrder Q)
+    steps-are = lowest-steps Q (G .tells .laws) (m .greatest .loss-free) listed b l (E .kept-count)
 
-    -- the run from the line that was answered
-    pub run-is : runOf a step (r .line) ≡ engineRun f
-    unfolding restartOf
-    run-is = ap (λ (x : Restarted). runOf a step (x .line)) (G .answer)
+    abbrev found : Restarted → Run → Recovery
+    found x R = record { restarted = x; orphans = orphans R; kept = keptOnes R; steps = steps (lowestOrder R) }
 
-  -- ---- What `recover` answers, and the words that it leaves
-
-  module _ (x : Recovered) (G : Ready a step set (x .restarted)) (run : List ℕ)
-      (hc : x .counted ≡ messagesAnswer a a step set (x .restarted .line))
-      (hw : run ≡ messagesArea a a step set (x .restarted .line)) (S : Succeeds a step set x) where
-    abbrev R : Run
-    R = engineRun f
-
-    same : runOf a step (x .restarted .line) ≡ R
-    same = run-is (x .restarted) G
-
-    counted : x .counted ≡ countsOf R
-    counted = counts-are a a step set (x .restarted .line) (S .taken) (x .counted) hc ∙ ap countsOf same
-
-    words : (k : ℕ) → k < 16384 → getD run k 0 ≡ listWord R k
-    words k h = listed-at a a step set (x .restarted .line) (S .taken) run hw k h ∙ ap (λ (Q : Run). listWord Q k) same
-
-    few-rows : length (orphans R) + (length (keptOnes R) + length (lostOnes R)) ≤ 2048
-    few-rows = rw counted at (S .few)
-
-    steps-are : x .replayed .steps ≡ steps (lowestOrder R)
-    steps-are = S .completed (S .taken) .2 ∙ ap (λ (Q : Run). steps (lowestOrder Q)) same
-
-    -- what `put_recovery` asks
-    pub puttable : (x .restarted .line .count ≤ 64) × (x .counted .orphans + x .counted .kept ≤ 2048)
-    puttable = (count-few (x .restarted) G, omega (arith, S .few))
-
-    pub rows-are : recoveryRows x run ≡ printedOf (given (recoveryOf f))
-    unfolding recoveryRows printedOf recoveryOf
-    rows-are =
-        let few = few-processes (x .restarted) G in
-        rw (counted, steps-are, G .answer, orphan-lines R few run words few-rows _ refl, kept-lines R few run words few-rows _ refl)
-
-    pub rows-few : length (recoveryRows x run) ≤ reportBytes
+    found-is : found r Q ≡ recoveryOf f
     unfolding recoveryOf
-    rows-few = rw rows-are (found-few (recoveryOf f) (rw (G .answer) at (count-few (x .restarted) G)) (omega (arith, few-rows)))
+    found-is = ap (λ (x : Restarted). found x Q) e ∙ ap (found (restartOf t cut set)) (run-is t cut set r e)
+
+    rows-found : recoveryRows r full events a b (listed + b) ≡ printedOf (given (found r Q))
+    unfolding recoveryRows printedOf
+    rows-found =
+        rw (steps-are, lines-are keyOrphan full (slice 0 a events), lines-are keyKept full (slice a (a + b) events), E .orphan-events, E .kept-events, E .orphan-count, E .kept-count)
 
     -- the engine's line loses no message, so that the steps are exact
-    pub ends-exactly : EndsExactly f (printedOf (given (recoveryOf f)))
+    exact : steps (lowestOrder Q) ≡ exactSteps Q
+    exact = let (s, o, d) = lowest-order Q (G .tells .laws) in exact-steps Q (G .tells .laws) (lowestOrder Q) s o (m .greatest .loss-free) d
+
+    ends-exactly : EndsExactly f (printedOf (given (recoveryOf f)))
     unfolding recoveryOf
     ends-exactly =
-        let e : steps (lowestOrder R) ≡ exactSteps R = sym steps-are ∙ S .exact ∙ ap exactSteps same in
-        let (front, q) = ends-with (recoveryOf f) in
-        ((front, q ∙ ap (λ (n : ℕ). front ++ (bytesOf " steps=" ++ decimal n ++ 10 ∷ [])) e), rw (← e, ← steps-are) (S .at-most .0))
+        let (s, o, d) = lowest-order Q (G .tells .laws) in
+        let q : steps (lowestOrder (engineRun f)) ≡ exactSteps (engineRun f) = subst (λ (R : Run). steps (lowestOrder R) ≡ exactSteps R) (run-is t cut set r e) exact in
+        let (front, h) = ends-with (recoveryOf f) in (
+          (front, h ∙ ap (λ (n : ℕ). front ++ (bytesOf " steps=" ++ decimal n ++ 10 ∷ [])) q),
+          rw (← (run-is t cut set r e), ← exact) (order-bound Q (G .tells .laws) (lowestOrder Q) s o),
+        )
+
+    -- what `report_from` promises, from what `put_recovery` has written
+    pub recounts : (before after : List ℕ) (n : ℕ) → Puts (recoveryRows r full events a b (listed + b)) before 0 after n → Recounts f before after n
+    recounts before after n h =
+        record {
+          puts = same-bytes _ _ before after 0 n (rows-found ∙ ap (λ (x : Recovery). printedOf (given x)) found-is) h;
+          few = subst (λ (x : Recovery). length (printedOf (given x)) ≤ reportBytes) found-is (found-few (found r Q) count-few (omega (arith, E .orphan-count, E .kept-count, few)));
+          ends = ends-exactly;
+        }

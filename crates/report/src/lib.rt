@@ -1,20 +1,30 @@
 // The report on a text that ends with a failure line: read, recovered and printed into a lent buffer, byte for byte by
-// specs/Report. Assumes nothing.
+// specs/Report. One area serves for all of it: the text is read into it, the columns of the full table are filled in
+// behind the trace, and messages are printed from the columns. Assumes nothing.
 ghost use mathlib.Core.Path.{_≡_};
-ghost use Prim.Native.Nat.{_+_, _≤_};
+ghost use mathlib.Core.List.{List};
+ghost use Prim.Native.Nat.{ℕ, _+_, _≤_};
 ghost use lib.ListN.{length};
-ghost use Rattle.words.specs.Area.{areaWords};
+ghost use Rattle.trace.specs.Trace.{Trace};
+ghost use Rattle.theory.specs.Events.{size};
+ghost use Rattle.theory.specs.Epochs.{ruleOf};
 ghost use Rattle.theory.specs.Answers.{gather};
+ghost use Rattle.columns.specs.Inner.Columns.{fullWords};
+ghost use Rattle.columns.specs.Inner.Given.{Marked};
+ghost use Rattle.protocol.specs.Inner.Fillable.{Fillable};
 ghost use Rattle.writer.specs.Inner.Puts.{Puts};
 ghost use Rattle.writer.specs.Buffer.{room, written};
-ghost use Rattle.report.specs.Report.{processLineOf, isRefusal, recovery, reported, StepsPrinted, reportBytes};
-ghost use Rattle.report.specs.Inner.Rows.{messageRow, recoveryRows};
 ghost use Rattle.printing.specs.Inner.Rows.{messageKey};
-use listing::ROW_BASE;
-use listing::ROW_NUMBER_BASE;
-use listing::ROW_PHASE_BASE;
-use recovery::Recovered;
+ghost use Rattle.report.specs.Report.{processLineOf, isRefusal, recovery, reported, StepsPrinted, reportBytes};
+ghost use Rattle.report.specs.Inner.Rows.{Sends, eventRow, eventRows, recoveryRows, Recounts, ReportOf};
+ghost use Rattle.reader.specs.Failure.{Failing, lastFailure};
+use columns::FULL_WORDS;
+use columns::GATE_WORDS;
+use columns::NUMBER_BASE;
+use columns::PHASE_BASE;
+use listing::ENTRIES;
 use restart::Restarted;
+use trace::EVENT_BASE;
 use words::AREA_WORDS;
 
 // How many bytes of a report were written, and whether it is a refusal.
@@ -41,55 +51,101 @@ fn put_processes(out: &mut [u8], r: Restarted) -> usize
     next
 }
 
-// A line for each of `count` messages, all kept or all orphans, of the list that `recovery::recover` left, after the
-// first `before` of them.
-fn put_messages(
-    out: &mut [u8],
-    at: usize,
-    kept: bool,
-    run: &[u32],
-    before: usize,
-    count: usize,
-) -> usize
-    requires { ⌜ (length (now run) ≡ areaWords) × (before + count ≤ 2048) ⌝ }
-    ensures { λ r. ⌜ Puts (gather (messageRow (messageKey kept) (now (run .entry)) before) count) (now (out .entry)) at (now (out .exit)) r ⌝ }
+// The line of the message, kept or an orphan, that an event sends, from the event's words.
+fn put_sent(out: &mut [u8], at: usize, kept: bool, full: &[u32], event: u16) -> usize
+    requires { ⌜ (length (now full) ≡ fullWords) × (event ≤ 2048) ⌝ }
+    ensures { λ r. ⌜ Puts (eventRow (messageKey kept) (now (full .entry)) event) (now (out .entry)) at (now (out .exit)) r ⌝ }
+{
+    let e = event as usize;
+    printing::put_message(
+        out,
+        at,
+        kept,
+        full[EVENT_BASE + e],
+        full[NUMBER_BASE + e],
+        full[PHASE_BASE + e],
+    )
+}
+
+// A line for each of some messages, all kept or all orphans, by the events that send them.
+fn put_messages(out: &mut [u8], at: usize, kept: bool, full: &[u32], events: &[u16]) -> usize
+    requires { ⌜ (length (now full) ≡ fullWords) × Sends (now events) (length (now events)) ⌝ }
+    ensures { λ r. ⌜ Puts (eventRows (messageKey kept) (now (full .entry)) (now (events .entry))) (now (out .entry)) at (now (out .exit)) r ⌝ }
 {
     let mut next = at;
     let mut i: usize = 0;
-    while i < count {
-        let row = before + i + 1;
-        let w = run[ROW_BASE + row];
-        next = printing::put_message(
-            out,
-            next,
-            kept,
-            w,
-            run[ROW_NUMBER_BASE + row],
-            run[ROW_PHASE_BASE + row],
-        );
+    while i < events.len() {
+        next = put_sent(out, next, kept, full, events[i]);
         i += 1;
     }
     next
 }
 
-// The report of a failure that is not refused, from the answers and the list that `recover` leaves.
-fn put_recovery(out: &mut [u8], r: Recovered, run: &[u32]) -> usize
-    requires { ⌜ (length (now run) ≡ areaWords) × (r .restarted .line .count ≤ 64) × (r .counted .orphans + r .counted .kept ≤ 2048) ⌝ }
-    ensures { λ n. ⌜ Puts (recoveryRows r (now (run .entry))) (now (out .entry)) 0 (now (out .exit)) n ⌝ }
+// The lines of a recovery: of its processes, of its orphans and of its kept messages, by the events that send them, first
+// those of the orphans, and of the totals.
+fn put_recovery(
+    out: &mut [u8],
+    r: Restarted,
+    full: &[u32],
+    events: &[u16],
+    orphans: usize,
+    kept: usize,
+    steps: usize,
+) -> usize
+    requires { ⌜ (length (now full) ≡ fullWords) × (r .line .count ≤ 64) × Sends (now events) (orphans + kept) ⌝ }
+    ensures { λ n. ⌜ Puts (recoveryRows r (now (full .entry)) (now (events .entry)) orphans kept steps) (now (out .entry)) 0 (now (out .exit)) n ⌝ }
 {
-    let orphans = r.counted.orphans as usize;
-    let kept = r.counted.kept as usize;
-    let to_orphans = put_processes(out, r.restarted);
-    let to_kept = put_messages(out, to_orphans, false, run, 0, orphans);
-    let to_total = put_messages(out, to_kept, true, run, orphans, kept);
-    printing::put_total(
+    let to_orphans = put_processes(out, r);
+    let to_kept = put_messages(out, to_orphans, false, full, &events[..orphans]);
+    let to_total = put_messages(out, to_kept, true, full, &events[orphans..orphans + kept]);
+    printing::put_total(out, to_total, r.back, orphans, kept, steps)
+}
+
+// The report of a failure that is not refused, from the full table. The engine's line loses no message, so that its
+// lowest order has as many steps as there are listed events and kept messages: they are counted.
+fn report_from(full: &[u32], cut: usize, set: u64, out: &mut [u8]) -> usize
+    requires { ⌜ ((t : Trace) × Marked t (ruleOf t) (now full) × (cut ≤ size t)) ⌝ }
+    ensures { λ n. ⌜ ((t : Trace) → Marked t (ruleOf t) (now (full .entry)) → cut ≤ size t
+        → Recounts (record { trace = t; step = cut; failed = set }) (now (out .entry)) (now (out .exit)) n) ⌝ }
+{
+    let restarted = restart::restart_from(full, cut, set);
+    let mut gates = [0u32; GATE_WORDS];
+    preparing::gates_of(full, restarted.line, cut, &mut gates);
+    let mut events = [0u16; ENTRIES];
+    let counts = listing::entries(full, &gates, cut, &mut events);
+    let steps = steps::listed_events(full, &gates) + counts.kept;
+    put_recovery(
         out,
-        to_total,
-        r.restarted.back,
-        orphans,
-        kept,
-        r.replayed.steps,
+        restarted,
+        full,
+        &events,
+        counts.orphans,
+        counts.kept,
+        steps,
     )
+}
+
+// The report on a failure of the trace that was read: its words stand in the table, and the columns are filled in behind
+// them. What was read is a trace, so that it is not checked again.
+fn report_in(full: &mut [u32], step: u64, set: u64, out: &mut [u8]) -> Reported
+    requires { ⌜ ((t : Trace) × Fillable t (now full)) ⌝ }
+    ensures { λ r. ⌜ ((t : Trace) (text : List ℕ) → Fillable t (now (full .entry)) → lastFailure text ≡ Failing.failing t step set
+        → ReportOf text (r .refused) (r .length) (now (out .entry)) (now (out .exit))) ⌝ }
+{
+    protocol::fill_in_place(full);
+    let fault = faults::failure_fault(full, step, set);
+    if fault != 0 {
+        let length = printing::put_refusal(out, fault, 0);
+        return Reported {
+            length,
+            refused: true,
+        };
+    }
+    let length = report_from(full, step as usize, set, out);
+    Reported {
+        length,
+        refused: false,
+    }
 }
 
 // The report on a text, into a lent buffer: all its bytes, or as many as there is room for. A text may have any length.
@@ -100,8 +156,8 @@ pub fn report(text: &[u8], out: &mut [u8]) -> Reported
     ensures exact { λ _. ⌜ StepsPrinted (now (text .entry)) ⌝ }
     ensures few { λ _. ⌜ length (reported (now (text .entry))) ≤ reportBytes ⌝ }
 {
-    let mut table = [0u32; AREA_WORDS];
-    let read = reader::read_failure(text, &mut table);
+    let mut area = [0u32; AREA_WORDS];
+    let read = reader::read_failure_clear(text, &mut area);
     if read.number != 0 {
         let length = printing::put_refusal(out, read.number, read.place);
         return Reported {
@@ -109,17 +165,5 @@ pub fn report(text: &[u8], out: &mut [u8]) -> Reported
             refused: true,
         };
     }
-    let r = recovery::recover(&mut table, read.step, read.set);
-    if r.restarted.number != 0 {
-        let length = printing::put_refusal(out, r.restarted.number, 0);
-        return Reported {
-            length,
-            refused: true,
-        };
-    }
-    let length = put_recovery(out, r, &table);
-    Reported {
-        length,
-        refused: false,
-    }
+    report_in(&mut area[..FULL_WORDS], read.step, read.set, out)
 }

@@ -290,7 +290,7 @@ module _ (text a : List ℕ) (step set : ℕ) (holds : holdsTrace a ≡ true) (e
     R = engineRun f
 
     same : codeRun a step (r .line) ≡ R
-    same = run-is a step set r ready
+    same = run-is (held a) step set r (ready .answer)
 
     none-lost : lostOnes R ≡ []
     none-lost =

@@ -6,7 +6,7 @@ use mathlib.Core.List.{List}
 use Prim.Native.Nat.{ℕ, _+_, _/_, _%_, _^_, _≤_, _<_}
 use native.Mathlib.Omega.{arith}
 use lib.ListN.{length, getD}
-use Rattle.words.proofs.Cases.{by-bool, clash}
+use Rattle.words.proofs.Cases.{by-bool}
 use Rattle.theory.specs.Line.{Run, inSet}
 use Rattle.theory.specs.Replay.{process, State}
 use Rattle.theory.specs.Inner.Flow.{Inv}
@@ -20,8 +20,8 @@ use Rattle.moves.proofs.Steps.{treed-put}
 use Rattle.orders.proofs.Ordering.{readable, tryable}
 use Rattle.sets.specs.Inner.Sets.{everyone, firstIn, withIn, Outside}
 use Rattle.sets.proofs.Sets.{none-in, everyone-in, first-lt, first-in, with-lt}
-use Rattle.search.specs.Inner.Lowest.{Idle, Unready, Waiting, NoneTo, ToHand, Ran, Searchable, LowestDone}
-use Rattle.search.specs.Inner.Opened.{Shut, GatesOpened, PhasesJoined}
+use Rattle.search.specs.Inner.Lowest.{Idle, Unready, Waiting, NoneTo, ToHand, Ran, LowestDone}
+use Rattle.search.specs.Inner.Opened.{Searchable, Shut, GatesOpened, PhasesJoined}
 use Rattle.search.proofs.Lowering.{Next, is-allowed, Going, going-start, going-bound, going-end, going-next}
 use Rattle.search.proofs.Opening.{rise-unready, rise-waiting}
 use Rattle.search.proofs.Searching.{process-shut, hand-low, hand-idle, hand-unready, hand-waiting, run-idle, run-unready, run-waiting, run-low, run-none, run-allowed, run-applied, hand-none, hand-allowed, hand-applied}

@@ -8,8 +8,8 @@ use Prim.Native.Nat.{ℕ, _+_, _-_, _*_, _%_, _^_, _≤_, _<_}
 use native.Mathlib.Omega.{arith}
 use lib.ListN.{length, getD, set}
 use lib.Seq.{getD-set-same, getD-set-other}
-use lib.Dec.{ltb, eqb}
-use borrow.Author.Tests.{lt-ltb, le-ltb, ltb-false, eq-eqb, ne-eqb, eqb-false}
+use lib.Dec.{eqb}
+use borrow.Author.Tests.{lt-ltb, le-ltb, eq-eqb, ne-eqb}
 use Rattle.words.proofs.Cases.{by-bool, by-lt, by-eq, clash}
 use Rattle.theory.specs.Events.{size}
 use Rattle.theory.specs.Line.{Run, inSet}
@@ -23,9 +23,9 @@ use Rattle.machine.specs.Inner.Related.{goes, Chan, Rel, Started}
 use Rattle.machine.proofs.Facts.{evs-head, goes-send}
 use Rattle.sets.specs.Inner.Sets.{firstIn, restOf, withIn}
 use Rattle.sets.proofs.Sets.{none-in, rest-out, with-out, with-members}
-use Rattle.links.specs.Inner.Listed.{OnList, here, later, Rising, Listed}
+use Rattle.links.specs.Inner.Listed.{OnList, here, later, ListsRising, KeptListed}
 use Rattle.search.specs.Inner.Lowest.{Unready, Waiting}
-use Rattle.search.specs.Inner.Opened.{Shut, GatesOpened, Grown, Joined, ListJoined, PhasesJoined}
+use Rattle.search.specs.Inner.Opened.{GatesOpened, Grown, Joined, ListJoined, PhasesJoined}
 
 -- ---- Members
 
@@ -134,8 +134,8 @@ pub link-lt : (l : List ℕ) (k : ℕ) → Small l → getD l k 0 < 2049
 unfolding Small
 link-lt l k s = s k
 
-pub link-more : (l : List ℕ) (m : ℕ) → Rising l → 0 < getD l (4 * m + 3) 0 → m < getD l (4 * m + 3) 0
-unfolding Rising
+pub link-more : (l : List ℕ) (m : ℕ) → ListsRising l → 0 < getD l (4 * m + 3) 0 → m < getD l (4 * m + 3) 0
+unfolding ListsRising
 link-more l m r = r m
 
 pub link-down : (m n : ℕ) → 0 < m → m < 2049 → n < 2049 → (0 < n → m < n) → (2049 - n) % 2049 < (2049 - m) % 2049
@@ -215,7 +215,7 @@ module _ (t l h : List ℕ) (from : ℕ) (rs₀ : List ℕ) (m₀ : ℕ) where
 
 -- ---- A kept message that is ready now
 
-module _ (R : Run) (t l h g a₀ : List ℕ) (S : Started R t l g a₀) (L : Listed R t l h) (a : List ℕ) (s : State) (r : Rel R a s) (i : Inv R s) where
+module _ (R : Run) (t l h g a₀ : List ℕ) (S : Started R t l g a₀) (L : KeptListed R t l h) (a : List ℕ) (s : State) (r : Rel R a s) (i : Inv R s) where
   -- the oldest kept message of a channel is an event of the trace, and kept
   module _ (p q : ℕ) (hp : p < 64) (hq : q < 64) (no : sendOk (getD g (64 + p) 0) (putW a (64 * p + q)) ≡ false) where
     abbrev m : ℕ

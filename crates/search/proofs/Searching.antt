@@ -11,14 +11,14 @@ use lib.ListN.{length, getD, set}
 use lib.Seq.{getD-set-same, getD-set-other}
 use lib.Bits.{bitOr}
 use lib.Dec.{ltb, eqb}
-use borrow.Author.Tests.{lt-ltb, le-ltb, ltb-true, eq-eqb, ne-eqb, eqb-true}
+use borrow.Author.Tests.{lt-ltb, le-ltb, eq-eqb, ne-eqb}
 use Rattle.words.proofs.Cases.{by-bool, by-lt, by-eq, clash}
 use Rattle.theory.specs.Lists.{put, no-one}
 use Rattle.theory.specs.Events.{kind}
 use Rattle.theory.specs.Line.{Run, inSet}
 use Rattle.theory.specs.Replay.{process, State, resends, ready}
 use Rattle.theory.proofs.Base.{both, all-at, all-true}
-use Rattle.theory.proofs.Flow.{Did, did-other, did-send, did-recv, view}
+use Rattle.theory.proofs.Flow.{Did, did-other, did-send, did-recv}
 use Rattle.theory.specs.Inner.Flow.{Inv}
 use Rattle.machine.specs.Inner.Words.{currentBase, orphanBase, takeBase, putBase, lowPlace, noPhase, curW, orpW, takeW, putW, lowW, sendOk, eventOk, processOk, handOk, allowedW, lowOf, movedW, dropW, putInW, takeOutW, eventStepW, processW, applyW, wakesAt, wakes, Bounded, keptPhase}
 use Rattle.columns.specs.Inner.Full.{kindW, peerW, phaseW}

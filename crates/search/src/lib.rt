@@ -9,10 +9,11 @@
 //
 // The cost is linear in the events: a try without success takes a member from its set, and members join one at a step,
 // two where a message is handed over, each process once by its gate, each kept message once by its list. Shut gates
-// are looked at only where one of them opens, at most 64 times 64 in all; each phase is passed once, and there are at
-// most two more of them than events. No term is events times processes.
+// are looked at only where the least phase is above the least of them, so that after the first look at least one opens:
+// at most 64 looks and 2,080. Each phase is passed once, and there are at most two more of them than events. No term is
+// events times processes.
 ghost use mathlib.Core.Path.{_≡_};
-ghost use mathlib.Core.Bool.{true, false};
+ghost use mathlib.Core.Bool.{true};
 ghost use Prim.Native.Nat.{ℕ, _+_, _*_, _/_, _%_, _≤_, _<_};
 ghost use lib.ListN.{length, getD};
 ghost use Rattle.words.specs.Area.{areaWords};
@@ -25,9 +26,9 @@ ghost use Rattle.theory.specs.Order.{run, lowestOrder};
 ghost use Rattle.machine.specs.Inner.Shapes.{FullLong, Pointed, Readable, Tryable};
 ghost use Rattle.columns.specs.Inner.Given.{Given};
 ghost use Rattle.sets.specs.Inner.Sets.{withIn};
-ghost use Rattle.links.specs.Inner.Listed.{Rising, Walkable};
-ghost use Rattle.search.specs.Inner.Lowest.{Idle, Unready, Waiting, NoneTo, ToHand, Ran, Searchable, LowestDone};
-ghost use Rattle.search.specs.Inner.Opened.{Shut, GatesOpened, ListJoined, PhasesJoined};
+ghost use Rattle.links.specs.Inner.Listed.{ListsRising, ListsWalkable};
+ghost use Rattle.search.specs.Inner.Lowest.{Idle, Unready, Waiting, NoneTo, ToHand, Ran, LowestDone};
+ghost use Rattle.search.specs.Inner.Opened.{Searchable, Shut, GatesOpened, ListJoined, PhasesJoined};
 ghost use Rattle.orders.specs.Answer.{answerOf, wordsOf};
 use links::HEAD_WORDS;
 use links::LINK_WORDS;
@@ -176,8 +177,8 @@ fn open_gates(gates: &[u32], low: u32, o: Open) -> Open
     }
 }
 
-// A link as an event.
-fn linked(link: u16) -> usize
+// The event that a link or a head is.
+fn event_of(link: u16) -> usize
     ensures { λ r. ⌜ r ≡ link ⌝ }
 {
     link as usize
@@ -185,7 +186,7 @@ fn linked(link: u16) -> usize
 
 // The kept messages of a list: their receivers join the sets of their senders, and these the set that is the answer.
 fn join_list(full: &[u32], links: &[u16], ready: &mut [u64], first: usize, set: u64) -> u64
-    requires { ⌜ (first < 2049) × FullLong (now full) × (8197 ≤ length (now links)) × Small (now links) × Rising (now links) × (length (now ready) ≡ 64) ⌝ }
+    requires { ⌜ (first < 2049) × FullLong (now full) × (8197 ≤ length (now links)) × Small (now links) × ListsRising (now links) × (length (now ready) ≡ 64) ⌝ }
     ensures { λ r. ⌜ ListJoined (now (full .entry)) (now (links .entry)) first (now (ready .entry)) set (now (ready .exit)) r ⌝ }
 {
     let mut senders = set;
@@ -195,7 +196,7 @@ fn join_list(full: &[u32], links: &[u16], ready: &mut [u64], first: usize, set: 
         let p = trace::process(w);
         ready[p] = sets::with(ready[p], trace::peer(w));
         senders = sets::with(senders, p);
-        m = linked(links[4 * m + 3]);
+        m = event_of(links[4 * m + 3]);
     }
     senders
 }
@@ -210,13 +211,13 @@ fn join_phases(
     to: usize,
     set: u64,
 ) -> u64
-    requires { ⌜ (to ≤ 2056) × Walkable (now full) (now links) (now heads) × (length (now ready) ≡ 64) ⌝ }
+    requires { ⌜ (to ≤ 2056) × ListsWalkable (now full) (now links) (now heads) × (length (now ready) ≡ 64) ⌝ }
     ensures { λ r. ⌜ PhasesJoined (now (full .entry)) (now (links .entry)) (now (heads .entry)) from to (now (ready .entry)) set (now (ready .exit)) r ⌝ }
 {
     let mut senders = set;
     let mut f = from;
     while f < to {
-        senders = join_list(full, links, ready, linked(heads[f]), senders);
+        senders = join_list(full, links, ready, event_of(heads[f]), senders);
         f += 1;
     }
     senders
@@ -233,7 +234,7 @@ fn opened(
     is: u32,
     o: Open,
 ) -> Open
-    requires { ⌜ Walkable (now full) (now links) (now heads) × (128 ≤ length (now gates)) × (length (now ready) ≡ 64) × Shut (now gates) was (o .shut) (o .gate) ⌝ }
+    requires { ⌜ ListsWalkable (now full) (now links) (now heads) × (128 ≤ length (now gates)) × (length (now ready) ≡ 64) × Shut (now gates) was (o .shut) (o .gate) ⌝ }
     ensures gates { λ r. ⌜ GatesOpened (now (gates .entry)) is (o .may) (o .shut) 0 (r .may) (r .shut) (r .gate) ⌝ }
     ensures lists { λ r. ⌜ PhasesJoined (now (full .entry)) (now (links .entry)) (now (heads .entry)) was is (now (ready .entry)) (o .senders) (now (ready .exit)) (r .senders) ⌝ }
 {

@@ -1,9 +1,10 @@
 -- `columns::done_noted` meets its contract: a fit event can be noted.
-use mathlib.Core.Path.{refl}
+use mathlib.Core.Path.{refl, sym}
 use mathlib.Core.Bool.{false}
-use borrow.Author.Tests.{lt-ltb, le-ltb}
+use borrow.Author.Tests.{le-ltb}
 use Rattle.words.proofs.Cases.{clash}
 use Rattle.trace.specs.declared.Event.the-variants.{Done}
+use Rattle.columns.proofs.Judging.{all-finished, one-unfinished}
 use native.Mathlib.Omega.{arith}
 use borrow.Author.Needs.{needs}
 use Rattle.columns.proofs.done_noted.Statement.{statement}
@@ -16,9 +17,10 @@ returns c =
 
 returns-2 : tie.Need-returns-2
 returns-2 c =
+    let args = c .before .before .before .before .before .before .args in
     let if1 = c .before .before .before .if1 in
     let if2 = c .if2 in
-    (rw (lt-ltb _ _ (if1 .left), le-ltb _ _ (if2 .taken)), (λ z. clash {b = false} z refl, λ z. clash {b = false} z refl))
+    (all-finished (args .procs) (args .work .now) (args .a) (if1 .left) (if2 .taken), (λ z. clash {b = false} z refl, λ z. clash {b = false} z refl))
 
 note-local-requires : tie.Need-note-local-requires
 note-local-requires c κs =
@@ -26,14 +28,15 @@ note-local-requires c κs =
     let args = c .before .before .before .before .before .before .before .before .args in
     let if1 = c .before .before .before .before .before .if1 in
     let if2 = c .before .before .if2 in
-    ((pre .storable), (pre .notable) (Done (args .a)) (rw (lt-ltb _ _ (if1 .left), lt-ltb _ _ (if2 .left))) refl, omega arith)
+    ((pre .storable), (pre .notable) (Done (args .a)) (one-unfinished (args .procs) (args .work .now) (args .a) (if1 .left) (if2 .left)) refl, omega arith)
 
 returns-3 : tie.Need-returns-3
 returns-3 c =
+    let args = c .before .before .before .before .before .before .before .before .before .before .before .before .before .args in
     let if1 = c .before .before .before .before .before .before .before .before .before .before .if1 in
     let if2 = c .before .before .before .before .before .before .before .if2 in
     let note-local = c .before .before .before .before .note-local in
-    (rw (lt-ltb _ _ (if1 .left), lt-ltb _ _ (if2 .left)), (λ z. (note-local .ensures .0), λ z. (note-local .ensures .1)))
+    (sym (one-unfinished (args .procs) (args .work .now) (args .a) (if1 .left) (if2 .left)), (λ z. (note-local .ensures .0), λ z. (note-local .ensures .1)))
 
 pub done-noted-spec : {M : Type 1} → statement M
 done-noted-spec =

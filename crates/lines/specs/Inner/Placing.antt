@@ -11,12 +11,12 @@ use Rattle.lines.specs.Line.{lineSaid}
 use Rattle.text.specs.declared.LineEnd as end
 
 -- by the place of its LF
-abbrev pub byEnd : LineEnd → (ℕ → Placed) → Placed
-byEnd (end.the-variants.At i) said = said i
-byEnd end.the-variants.Missing said = Missing
+abbrev pub whereEnded : LineEnd → (ℕ → Placed) → Placed
+whereEnded (end.the-variants.At i) said = said i
+whereEnded end.the-variants.Missing said = Missing
 
 unfoldable pub nextLine : List ℕ → ℕ → Placed
-nextLine text at = byEnd (lineEnd text at) (λ i. Said (lineSaid (take (i - at) (drop at text))) (i + 1))
+nextLine text at = whereEnded (lineEnd text at) (λ i. Said (lineSaid (take (i - at) (drop at text))) (i + 1))
 
 -- what a quick look found is so; it may find nothing
 abbrev pub Known : List ℕ → ℕ → Placed → Type 0

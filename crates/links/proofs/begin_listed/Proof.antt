@@ -1,7 +1,6 @@
 -- `links::begin_listed` meets its contract: the pass, then the least phase by the area that it leaves.
 use mathlib.Core.Path.{sym}
 use Rattle.links.proofs.Beginning.{low-set}
-use native.Mathlib.Omega.{arith}
 use borrow.Author.Needs.{needs}
 use Rattle.links.proofs.begin_listed.Statement.{statement}
 use Rattle.links.proofs.begin_listed.Tie as tie

@@ -50,7 +50,7 @@ pub record Recordable (full area : List ℕ) (e : ℕ) (before : Bool) : Type 0 
   pub matched : before ≡ true → matchW full e < 2049
 
 -- so do the link and the head of a kept message
-pub record Listable (full links heads : List ℕ) (e : ℕ) : Type 0 where
+pub record KeptListable (full links heads : List ℕ) (e : ℕ) : Type 0 where
   pub event-lt : e < 2049
   pub full-long : FullLong full
   pub links-long : 8197 ≤ length links

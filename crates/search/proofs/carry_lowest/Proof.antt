@@ -1,9 +1,9 @@
 -- `search::carry_lowest` meets its contract: what is still to do of the order of lowest choices comes to what the whole
 -- of it does, and the search leaves nothing out.
-use mathlib.Core.Path.{_≡_, refl, sym, _∙_, ap}
+use mathlib.Core.Path.{refl, sym, _∙_, ap}
 use mathlib.Core.Logic.{⊎-elim}
 use mathlib.Core.List.{List}
-use Prim.Native.Nat.{ℕ, _-_, _≤_, _<_}
+use Prim.Native.Nat.{ℕ, _-_, _≤_}
 use lib.ListN.{length}
 use Rattle.search.proofs.Lowering.{going-out}
 use Rattle.search.proofs.Looking.{Looking, looking-start, looking-readable, looking-tryable, looking-hand, looking-run, search-end}

@@ -1,7 +1,7 @@
 -- `search::join_list` meets its contract: an event of the list has joined, or is on what is left of it.
-use mathlib.Core.Path.{_≡_, refl, sym, _∙_}
-use Prim.Native.Nat.{_-_, _%_, _+_, _*_, _<_}
-use lib.ListN.{length-set, getD}
+use mathlib.Core.Path.{sym, _∙_}
+use Prim.Native.Nat.{_-_, _%_, _+_, _*_}
+use lib.ListN.{length-set}
 use Rattle.search.proofs.Opening.{Walking, walking-start, walking-next, walking-end, link-lt, link-more, link-down}
 use native.Mathlib.Omega.{arith}
 use borrow.Author.Needs.{needs}
@@ -59,11 +59,11 @@ slice-write-ready c =
 
 loop-less : tie.Need-loop-less Inv-loop μ-loop
 loop-less c =
-    let linked = c .linked in
+    let event-of = c .event-of in
     let loop = c .before .before .before .before .before .before .before .before .before .loop in
     let loop-test = c .before .before .before .before .before .before .before .before .loop-test in
     let pre = c .before .before .before .before .before .before .before .before .before .before .before .before .before .pre in
-    rw (linked .ensures) (link-down (loop .m) _ (omega (arith, (loop-test .taken))) (loop .inv .event-lt) (link-lt _ (4 * (loop .m) + 3) (pre .3)) (link-more _ (loop .m) (pre .4)))
+    rw (event-of .ensures) (link-down (loop .m) _ (omega (arith, (loop-test .taken))) (loop .inv .event-lt) (link-lt _ (4 * (loop .m) + 3) (pre .3)) (link-more _ (loop .m) (pre .4)))
 
 loop-again : tie.Need-loop-again Inv-loop μ-loop
 loop-again c =
@@ -72,9 +72,9 @@ loop-again c =
     let peer = c .before .before .before .before .peer in
     let with = c .before .before .before .with in
     let with2 = c .before .before .with2 in
-    let linked = c .linked in
+    let event-of = c .event-of in
     let pre = c .before .before .before .before .before .before .before .before .before .before .before .before .before .pre in
-    walking-next _ _ _ _ _ (loop .ready) (loop .senders) (loop .m) (process .result) (peer .result) (with .result) _ _ (process .ensures .0) (peer .ensures .0) (with .ensures .0) (with2 .ensures .0) (linked .ensures) (omega (arith, (linked .ensures), link-lt _ (4 * (loop .m) + 3) (pre .3))) (simp length-set (loop .inv .long)) (loop .inv)
+    walking-next _ _ _ _ _ (loop .ready) (loop .senders) (loop .m) (process .result) (peer .result) (with .result) _ _ (process .ensures .0) (peer .ensures .0) (with .ensures .0) (with2 .ensures .0) (event-of .ensures) (omega (arith, (event-of .ensures), link-lt _ (4 * (loop .m) + 3) (pre .3))) (simp length-set (loop .inv .long)) (loop .inv)
 
 same-length : tie.Need-same-length Inv-loop μ-loop
 same-length c =

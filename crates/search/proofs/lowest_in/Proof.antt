@@ -3,7 +3,6 @@ use mathlib.Core.Path.{refl, _∙_}
 use Rattle.orders.proofs.Ordering.{first-asked}
 use Rattle.search.proofs.Lowering.{lowered-answer, lowered-words}
 use Rattle.search.proofs.Looking.{begins}
-use native.Mathlib.Omega.{arith}
 use borrow.Author.Needs.{needs}
 use Rattle.search.proofs.lowest_in.Statement.{statement}
 use Rattle.search.proofs.lowest_in.Tie as tie

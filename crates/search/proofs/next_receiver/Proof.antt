@@ -1,7 +1,7 @@
 -- `search::next_receiver` meets its contract: no receiver that was looked at is ready.
 use mathlib.Core.Path.{_≡_, sym, _∙_}
 use Prim.Native.Nat.{_+_, _*_, _^_, _≤_, _<_}
-use lib.ListN.{length, length-set, getD}
+use lib.ListN.{length, length-set}
 use lib.Seq.{getD-set-same}
 use borrow.Author.Tests.{lt-ltb}
 use Rattle.machine.specs.Inner.Words.{lowW, keptPhase}

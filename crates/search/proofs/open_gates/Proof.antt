@@ -1,5 +1,5 @@
 -- `search::open_gates` meets its contract: of the shut gates those that were looked at are open or shut still.
-use mathlib.Core.Path.{_≡_, refl, _∙_}
+use mathlib.Core.Path.{refl, _∙_}
 use mathlib.Core.Logic.{⊎-elim}
 use Prim.Native.Nat.{_^_, _<_}
 use Rattle.sets.proofs.Sets.{first-lt, rest-less}

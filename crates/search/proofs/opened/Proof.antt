@@ -1,6 +1,6 @@
 -- `search::opened` meets its contract: gates, then lists; nothing where the least phase is what it was.
-use mathlib.Core.Path.{_≡_, refl, sym, _∙_}
-use Prim.Native.Nat.{_+_, _≤_}
+use mathlib.Core.Path.{refl}
+use Prim.Native.Nat.{_+_}
 use lib.ListN.{getD}
 use Rattle.search.proofs.Opening.{gates-same, phases-start, phases-top, lesser-le}
 use native.Mathlib.Omega.{arith}

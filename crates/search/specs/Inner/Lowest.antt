@@ -5,16 +5,13 @@ use mathlib.Core.Path.{_≡_}
 use mathlib.Core.Bool.{true, false}
 use mathlib.Core.List.{List}
 use lib.ListN.{length, getD}
-use Rattle.words.specs.Area.{areaWords}
 use Rattle.sets.specs.Inner.Sets.{firstIn, Outside}
 use Rattle.theory.specs.Line.{Run, inSet}
 use Rattle.theory.specs.Replay.{State, start}
-use Rattle.theory.specs.Order.{carriedOut, lowestFrom}
-use Rattle.theory.specs.Order as order
+use Rattle.theory.specs.Order.{carriedOut, run, lowestFrom}
 use Rattle.theory.specs.Inner.Flow.{Inv}
 use Rattle.machine.specs.Inner.Words.{processOk, handOk, processW, allowedW, wakes, keptPhase}
-use Rattle.machine.specs.Inner.Related.{Rel, Started}
-use Rattle.links.specs.Inner.Listed.{Listed}
+use Rattle.machine.specs.Inner.Related.{Rel}
 
 -- the choices are the numbers before this
 abbrev pub noChoice : ℕ
@@ -58,18 +55,11 @@ module _ (t g a : List ℕ) where
     pub words : b ≡ processW t l a (firstIn from)
     pub runners : (y : ℕ) → y < 64 → inSet may′ y ≡ false → (inSet from y ≡ false) × (y ≡ wakes t a (firstIn from) → ⊥)
 
--- what a search begins with: the words of a replay's beginning, and the lists of its kept messages
-pub record Searchable (t l h g a : List ℕ) : Type 0 where
-  pub area-long : length a ≡ areaWords
-  pub run : Run
-  pub started : Started run t l g a
-  pub listed : Listed run t l h
-
 -- the order of the lowest choices, at most so many, is carried out in n steps, and the area stands for the state that
 -- it comes to
 pub record LowestDone (R : Run) (a : List ℕ) (most n : ℕ) : Type 0 where
   pub state : State
   pub rel : Rel R a state
   pub inv : Inv R state
-  pub carried : order.run R (lowestFrom R most (start R)) ≡ carriedOut state
+  pub carried : run R (lowestFrom R most (start R)) ≡ carriedOut state
   pub steps : n ≡ length (lowestFrom R most (start R))

@@ -1,13 +1,21 @@
--- What a new least phase opens: gates, and lists of kept messages. Definitions only.
+-- What a search begins with, and what a new least phase opens: gates, and lists of kept messages. Definitions only.
 use Prim.Native.Nat.{ℕ, _+_, _<_, _≤_}
 use mathlib.Core.Path.{_≡_}
 use mathlib.Core.Bool.{true, false}
 use mathlib.Core.List.{List}
-use lib.ListN.{getD}
+use lib.ListN.{length, getD}
+use Rattle.words.specs.Area.{areaWords}
 use Rattle.columns.specs.Inner.Full.{eventsW, atW, peerW}
-use Rattle.theory.specs.Line.{inSet}
-use Rattle.sets.specs.Inner.Sets.{Outside}
-use Rattle.links.specs.Inner.Listed.{OnList}
+use Rattle.theory.specs.Line.{Run, inSet}
+use Rattle.machine.specs.Inner.Related.{Started}
+use Rattle.links.specs.Inner.Listed.{OnList, KeptListed}
+
+-- what a search begins with: the words of a replay's beginning, and the lists of its kept messages
+pub record Searchable (t l h g a : List ℕ) : Type 0 where
+  pub area-long : length a ≡ areaWords
+  pub run : Run
+  pub started : Started run t l g a
+  pub listed : KeptListed run t l h
 
 -- the gates of a set of processes are not below a phase, and that is not below the least one
 pub record Shut (g : List ℕ) (low shut gate : ℕ) : Type 0 where
