@@ -1,6 +1,6 @@
--- What the public functions of recovery answer and leave, for every input (document 01, "Numbers given by whoever
--- causes them": the order is 12, 13, 8, 9, 10, 11; "In a refused answer every other number is 0 and every yes or no is
--- no"; "Other refusals change nothing").
+-- What the public functions of recovery answer and leave, for every input (MANUAL 6.3 and 6.4; quotations are from the
+-- requirements): the order is 12, 13, 8, 9, 10, 11; "In a refused answer every other number is 0 and every yes or no is
+-- no"; "Other refusals change nothing".
 use Prim.Native.Nat.{ℕ, _≤_}
 use mathlib.Core.Path.{_≡_}
 use mathlib.Core.Logic.{_↔_}
@@ -61,13 +61,13 @@ CarriesOut a step l order r =
     let R = runOf a step l in
     r .number ≡ 0 → (s : State) × (run R order ≡ carriedOut s) × (r .steps ≡ steps order) × ((r .complete ≡ true) ↔ Complete R s)
 
--- Document 02, item 2: "For a line without loss, every complete order has exactly as many steps as there are listed
--- events after the restarts (after the cut for staying zones) plus kept messages."
+-- "For a line without loss, every complete order has exactly as many steps as there are listed events after the restarts
+-- (after the cut for staying zones) plus kept messages." (MANUAL 5.8)
 abbrev pub StepsExact : List ℕ → ℕ → Line → Replayed → Type 0
 StepsExact a step l r =
     r .number ≡ 0 → r .complete ≡ true → LossFree (runOf a step l) → r .steps ≡ exactSteps (runOf a step l)
 
--- "Lines that lose a message retain the upper limit of document 01.": "at most twice the number of events"; and no more
+-- Lines that lose a message have the upper limit "at most twice the number of events" (MANUAL 5.8); and no more
 -- than that formula. Whatever the line and the order, complete or not; a refusal has no steps.
 abbrev pub StepsAtMost : List ℕ → ℕ → Line → Replayed → Type 0
 StepsAtMost a step l r = (r .steps ≤ mostSteps (held a)) × (r .steps ≤ exactSteps (runOf a step l))

@@ -1,5 +1,5 @@
--- The report on a text that ends with a failure line (document 01, "Runs to check"): the engine's line with all that is
--- said of it, or a refusal's number and place.
+-- The report on a text that ends with a failure line (MANUAL 8.2; quotations are from the requirements): the
+-- engine's line with all that is said of it, or a refusal's number and place.
 use mathlib.Core.Path.{_≡_}
 use mathlib.Core.List.{List, [], _∷_, _++_}
 use mathlib.Core.Bool.{Bool, true, false}
@@ -108,7 +108,7 @@ printedOf (given r) =
 unfoldable pub reported : List ℕ → List ℕ
 reported text = printedOf (recovery text)
 
--- Document 02, item 2, of what is printed: the engine's line loses no message and the lowest order is complete, so that
+-- MANUAL 5.8, of what is printed: the engine's line loses no message and the lowest order is complete, so that
 -- `steps=` in the last line is exact; and at most twice the number of events
 abbrev pub EndsExactly : Failure → List ℕ → Type 0
 EndsExactly f bytes =
