@@ -1,5 +1,5 @@
--- The lists of kept messages by phase: an event of the pass goes before those of its phase, so that at the end each kept
--- message is on its list, and lists grow.
+-- The lists of kept messages by phase: an event of the pass goes before those of its phase, so that at the end each
+-- kept message is on its list, and lists are of growing events.
 use mathlib.Core.Path.{_≡_, _∙_}
 use mathlib.Core.List.{List}
 use Prim.Native.Nat.{ℕ, zero, suc, _+_, _-_, _*_, _≤_, _<_}
