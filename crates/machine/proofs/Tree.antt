@@ -124,7 +124,7 @@ tree-low t a tree few T = omega (arith, up, low-from t a (getD tree 1 0) (procsW
 -- ---- A new leaf
 
 -- a leaf is new, and the words above it follow, so far up to word i
-pub record Rising (begun words : List ℕ) (i : ℕ) : Type 0 where
+pub record Climbing (begun words : List ℕ) (i : ℕ) : Type 0 where
   pub i-lt : i < 64
   pub long : length words ≡ 128
   pub nodes : Nodes words i
@@ -134,9 +134,9 @@ module _ (tree : List ℕ) (z v : ℕ) (h : z < 64) (T : Tree tree) where
   abbrev begun : List ℕ
   begun = set tree (64 + z) v
 
-  pub rise-first : Rising begun begun ((64 + z) / 2)
+  pub climb-first : Climbing begun begun ((64 + z) / 2)
   unfolding Nodes
-  rise-first = record {
+  climb-first = record {
     i-lt = omega arith;
     long = simp length-set (T .long);
     nodes = λ i p b n.
@@ -149,20 +149,20 @@ module _ (tree : List ℕ) (z v : ℕ) (h : z < 64) (T : Tree tree) where
     leaves = λ y. refl;
   }
 
-  module _ (words : List ℕ) (i : ℕ) (J : Rising begun words i) where
-    pub rise-top : i ≡ 0 → Leafed tree words z v
-    rise-top e = record {
+  module _ (words : List ℕ) (i : ℕ) (J : Climbing begun words i) where
+    pub climb-top : i ≡ 0 → Leafed tree words z v
+    climb-top e = record {
       tree = record { long = J .long; nodes = rw e at (J .nodes) };
       leaf = J .leaves z ∙ getD-set-same tree (64 + z) v 0 (omega (arith, T .long));
       others = λ y b n. J .leaves y ∙ getD-set-other tree (64 + z) (64 + y) v 0 (λ q. n (omega arith));
     }
 
-module _ (begun words : List ℕ) (i : ℕ) (J : Rising begun words i) (p : 0 < i) (least : ℕ)
+module _ (begun words : List ℕ) (i : ℕ) (J : Climbing begun words i) (p : 0 < i) (least : ℕ)
     (el : least ≡ lesser (getD words (2 * i) 0) (getD words (2 * i + 1) 0)) where
   -- word i is as it was, and so are those above it
-  pub rise-stop : getD words i 0 ≡ least → Rising begun words 0
+  pub climb-stop : getD words i 0 ≡ least → Climbing begun words 0
   unfolding Nodes
-  rise-stop e = record {
+  climb-stop e = record {
     i-lt = omega arith;
     long = J .long;
     nodes = λ k q b n. by-eq k i (λ s. rw s (e ∙ el)) (λ s. J .nodes k q b s);
@@ -172,9 +172,9 @@ module _ (begun words : List ℕ) (i : ℕ) (J : Rising begun words i) (p : 0 < 
   other : (k : ℕ) → (k ≡ i → ⊥) → getD (set words i least) k 0 ≡ getD words k 0
   other k n = getD-set-other words i k least 0 n
 
-  pub rise-next : Rising begun (set words i least) (i / 2)
+  pub climb-next : Climbing begun (set words i least) (i / 2)
   unfolding Nodes
-  rise-next = record {
+  climb-next = record {
     i-lt = omega (arith, J .i-lt);
     long = simp length-set (J .long);
     nodes = λ k q b n. by-eq k i

@@ -1,7 +1,8 @@
 // The state of a replay in words, and which choices are allowed in it. Every message is its send event, every queue the
 // stretch between two pointers into events, so a test costs the same however long the run is. Tests write nothing; what
-// a choice does is in crate moves, and `note_taken` is here for the two that put a message on record. specs/Inner/Words
-// says what tests and steps do with words, specs/Inner/Related how words stand for a state of the theory's machine;
+// a choice does is in crate moves. `note_taken` is here for the two that put a message on record, and the tree of the
+// least phase for those that build it and that set it. specs/Inner/Words says what tests and steps do with words,
+// specs/Inner/Tree what the tree is, specs/Inner/Related how words stand for a state of the theory's machine;
 // proofs/Choices that the two agree choice by choice. Assumes nothing.
 ghost use mathlib.Core.Path.{_≡_};
 ghost use Prim.Native.Nat.{_≤_, _<_};
@@ -176,7 +177,7 @@ pub fn lowest_phase(full: &[u32], area: &[u32], procs: usize) -> u32
 }
 
 // The leaf of process z becomes v, and the words above it follow, up to one that stays as it was.
-fn raise(tree: &mut [u32], z: usize, v: u32)
+fn set_leaf(tree: &mut [u32], z: usize, v: u32)
     requires { ⌜ (z < 64) × Tree (now tree) ⌝ }
     ensures { λ _. ⌜ Leafed (now (tree .entry)) (now (tree .exit)) z v ⌝ }
 {
@@ -193,13 +194,13 @@ fn raise(tree: &mut [u32], z: usize, v: u32)
 }
 
 // The next orphan of process z is sent by event o, if there is one. Mostly it has the phase of the one before.
-pub fn set_leaf(full: &[u32], tree: &mut [u32], z: usize, o: usize)
+pub fn set_orphan(full: &[u32], tree: &mut [u32], z: usize, o: usize)
     requires { ⌜ (z < 64) × (o < 2049) × FullLong (now full) × Tree (now tree) ⌝ }
     ensures { λ _. ⌜ Leafed (now (tree .entry)) (now (tree .exit)) z (leastWith (now (full .entry)) o noPhase) ⌝ }
 {
     let v = least_with(full, o, NO_PHASE);
     if v != tree[LEAVES + z] {
-        raise(tree, z, v);
+        set_leaf(tree, z, v);
     }
 }
 
@@ -211,7 +212,7 @@ pub fn build_tree(full: &[u32], area: &[u32], tree: &mut [u32])
     let procs = words::wide(full[0]);
     let mut z: usize = 0;
     while z < procs {
-        set_leaf(full, tree, z, pointer(area, ORPHAN_BASE + z));
+        set_orphan(full, tree, z, pointer(area, ORPHAN_BASE + z));
         z += 1;
     }
 }

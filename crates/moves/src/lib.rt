@@ -32,7 +32,7 @@ fn linked(link: u16) -> u32
 }
 
 // The message that event m sends goes into channel c, whose next one to put in it is.
-fn put(links: &[u16], area: &mut [u32], c: usize, m: usize)
+fn put_next(links: &[u16], area: &mut [u32], c: usize, m: usize)
     requires { ⌜ (c < 4096) × (m < 2049) × (m ≡ putW (now area) c) × (8197 ≤ length (now links)) × Pointed (now area) ⌝ }
     ensures { λ _. ⌜ now (area .exit) ≡ putInW (now (links .entry)) (now (area .entry)) c ⌝ }
 {
@@ -44,7 +44,7 @@ pub fn put_in(links: &[u16], area: &mut [u32], c: usize)
     requires { ⌜ (c < 4096) × (8197 ≤ length (now links)) × Pointed (now area) ⌝ }
     ensures { λ _. ⌜ now (area .exit) ≡ putInW (now (links .entry)) (now (area .entry)) c ⌝ }
 {
-    put(links, area, c, machine::pointer(area, PUT_BASE + c));
+    put_next(links, area, c, machine::pointer(area, PUT_BASE + c));
 }
 
 // The receive e takes the oldest message of channel c, which event m sends and which goes on record.
@@ -64,7 +64,7 @@ fn drop_orphan(full: &[u32], links: &[u16], tree: &mut [u32], area: &mut [u32], 
 {
     let o = linked(links[4 * e + 2]);
     area[ORPHAN_BASE + z] = o;
-    machine::set_leaf(full, tree, z, words::wide(o));
+    machine::set_orphan(full, tree, z, words::wide(o));
     area[LOW_PLACE] = tree[1];
 }
 
@@ -90,7 +90,7 @@ fn try_send(
             drop_orphan(full, links, tree, area, z, e);
             return sets::with(0, z);
         }
-        put(links, area, c, m);
+        put_next(links, area, c, m);
         return sets::with(0, peer);
     }
     0

@@ -22,8 +22,8 @@ loop-holds c =
     let pre = c .before .before .before .before .before .pre in
     (omega arith, tree-none _ (pre .2), leaves-none _ _ _ (pre .2))
 
-set-leaf-requires : tie.Need-set-leaf-requires Inv-loop μ-loop
-set-leaf-requires c κs =
+set-orphan-requires : tie.Need-set-orphan-requires Inv-loop μ-loop
+set-orphan-requires c κs =
     let loop-test = c .before .before .loop-test in
     let wide = c .before .before .before .before .wide in
     let pre = c .before .before .before .before .before .before .before .before .before .pre in
@@ -33,10 +33,10 @@ set-leaf-requires c κs =
 
 loop-again : tie.Need-loop-again Inv-loop μ-loop
 loop-again c =
-    let set-leaf = c .before .before .set-leaf in
+    let set-orphan = c .before .before .set-orphan in
     let pointer = c .before .before .before .pointer in
     let loop = c .before .before .before .before .before .before .loop in
-    (omega arith, (set-leaf .ensures .tree), leaves-next _ _ _ _ _ _ (pointer .ensures .0) (loop .inv .2) (set-leaf .ensures))
+    (omega arith, (set-orphan .ensures .tree), leaves-next _ _ _ _ _ _ (pointer .ensures .0) (loop .inv .2) (set-orphan .ensures))
 
 same-length : tie.Need-same-length Inv-loop μ-loop
 same-length c =
@@ -54,4 +54,4 @@ returns c =
 pub build-tree-spec : {M : Type 1} → statement M
 build-tree-spec =
     tie.close
-    (tie.spec Inv-loop μ-loop (λ c. search needs) (λ c κs. search needs) loop-holds (λ c. search needs) (λ c κs. search needs) set-leaf-requires (λ c. search needs) (λ c. search needs) loop-again same-length returns)
+    (tie.spec Inv-loop μ-loop (λ c. search needs) (λ c κs. search needs) loop-holds (λ c. search needs) (λ c κs. search needs) set-orphan-requires (λ c. search needs) (λ c. search needs) loop-again same-length returns)

@@ -24,9 +24,9 @@ returns-2 c =
     let if1 = c .before .before .before .before .before .before .before .before .if1 in
     let pointer2 = c .before .before .before .before .before .before .pointer2 in
     let if2 = c .before .before .before .before .before .if2 in
-    let put = c .before .before .before .put in
+    let put-next = c .before .before .before .put-next in
     let with2 = c .with2 in
-    (send-put _ _ _ _ _ _ _ _ (pre .4) (pre .2) _ _ (pointer .ensures .0) (send-ok .ensures) _ _ _ _ (if1 .taken) (pointer2 .ensures .0) (if2 .left) (put .ensures) (with2 .ensures .0), treed-put _ _ _ _ (pre .5 .treed) _ _ (put .ensures))
+    (send-put _ _ _ _ _ _ _ _ (pre .4) (pre .2) _ _ (pointer .ensures .0) (send-ok .ensures) _ _ _ _ (if1 .taken) (pointer2 .ensures .0) (if2 .left) (put-next .ensures) (with2 .ensures .0), treed-put _ _ _ _ (pre .5 .treed) _ _ (put-next .ensures))
 
 returns-3 : tie.Need-returns-3
 returns-3 c =
