@@ -1,7 +1,8 @@
 -- What the replay does with words: definitions only. `full` is the full table (crate columns), `links`, `gates` and
 -- the run area are described here. Links of event e: word 4 e the next event of its process; 4 e + 1 the next send
--- whose message goes through its channel; 4 e + 2 the next orphan's send of its process. Gates of process z: word z its
--- gate, word 64 + z the event that it restarts after. Every "next" is an event, 0 where there is none.
+-- whose message goes through its channel; 4 e + 2 the next orphan's send of its process (4 e + 3 is for the lowest
+-- order only: crate links). Gates of process z: word z its gate, word 64 + z the event that it restarts after. Every
+-- "next" is an event, 0 where there is none.
 use mathlib.Core.Bool.{Bool, true, false, _||_, not, cond}
 use mathlib.Core.List.{List}
 use Prim.Native.Nat.{ℕ, zero, suc, _+_, _-_, _*_, _/_, _≤_, _<_}
