@@ -1,8 +1,8 @@
 // The reader of trace texts. `read` gives the verdict on a text, the refusal with its number and place or the trace,
 // and leaves the trace's words in the table area. The definitions are in specs/: Verdict (the verdict on a text),
 // Render (the text of a trace), Answer (answer and area) and Meaning (what an answer means: a text is accepted exactly
-// if it is the text of a well-formed trace, and a refusal is for the first faulty line). No function that users call has
-// a `requires`. Assumes nothing.
+// if it is the text of a well-formed trace, and a refusal is for the first faulty line). No function that users call
+// has a `requires`. Assumes nothing.
 ghost use mathlib.Core.Path.{_≡_};
 ghost use Prim.Native.Nat.{_≤_, _<_};
 ghost use lib.ListN.{length, drop, replicate};

@@ -61,8 +61,8 @@ CarriesOut a step l order r =
     let R = runOf a step l in
     r .number ≡ 0 → (s : State) × (run R order ≡ carriedOut s) × (r .steps ≡ steps order) × ((r .complete ≡ true) ↔ Complete R s)
 
--- "For a line without loss, every complete order has exactly as many steps as there are listed events after the restarts
--- (after the cut for staying zones) plus kept messages." (MANUAL 5.8)
+-- "For a line without loss, every complete order has exactly as many steps as there are listed events after the
+-- restarts (after the cut for staying zones) plus kept messages." (MANUAL 5.8)
 abbrev pub StepsExact : List ℕ → ℕ → Line → Replayed → Type 0
 StepsExact a step l r =
     r .number ≡ 0 → r .complete ≡ true → LossFree (runOf a step l) → r .steps ≡ exactSteps (runOf a step l)

@@ -1,4 +1,5 @@
--- `moves::drop_orphan` meets its contract: the stores themselves, the least phase by the tree of the area after the first.
+-- `moves::drop_orphan` meets its contract: the stores themselves, the least phase by the tree of the area after the
+-- first.
 use Prim.Native.Nat.{_+_, _*_}
 use lib.ListN.{length-set}
 use Rattle.machine.specs.Inner.Words.{Small}
