@@ -1,6 +1,6 @@
-// One choice tried in words: where it may be carried out it is. To try a process reads each word that it takes once; a
-// hand-over is tested first, and then reads the pointer of its channel again. Crate machine has the tests by
-// themselves, and its specs/Inner/Words says what each test and each step does. Assumes nothing.
+// One choice tried in words: where it may be carried out it is. What a process needs of the table, the links, the gates
+// and the run area is read once for test and step; a hand-over reads the pointer of its channel for each. Crate machine
+// has the tests by themselves, and its specs/Inner/Words says what each test and each step does. Assumes nothing.
 ghost use mathlib.Core.Path.{_≡_};
 ghost use mathlib.Core.Bool.{true, false};
 ghost use mathlib.Core.List.{List};
