@@ -12,7 +12,7 @@ use borrow.Author.Tests.{lt-ltb, le-ltb, eq-eqb, ne-eqb}
 use Rattle.words.proofs.Cases.{by-lt, by-eq}
 use Rattle.columns.specs.Inner.Full.{procsW, phaseW}
 use Rattle.machine.specs.Inner.Words.{orphanBase, noPhase, orpW, lesser, leastWith, lowOf}
-use Rattle.machine.specs.Inner.Tree.{Nodes, Tree, Leaves, Treed, Leafed}
+use Rattle.machine.specs.Inner.Tree.{Nodes, Tree, LeavesHold, Treed, Leafed}
 
 -- ---- The least phase of an orphan not sent again, of the processes before the n-th
 
@@ -102,7 +102,7 @@ module _ (tree : List ℕ) (T : Tree tree) where
       (λ b. let e : i ≡ 64 + (i - 64) = omega arith in rw e (h (i - 64) (omega arith)))
 
 pub tree-low : (t a tree : List ℕ) → procsW t ≤ 64 → Treed t a tree → getD tree 1 0 ≡ lowOf t a (procsW t)
-unfolding Leaves
+unfolding LeavesHold
 tree-low t a tree few T = omega (arith, up, low-from t a (getD tree 1 0) (procsW t) top (λ z h. omega (arith, leaf z h, top-le tree (T .tree) z (omega arith))))
   where
     leaf : (z : ℕ) → z < procsW t → getD tree (64 + z) 0 ≡ leastWith t (orpW a z) noPhase
@@ -193,12 +193,12 @@ tree-none tree e =
       nodes = λ i p l n. rw (word i (omega arith), word (2 * i) (omega arith), word (2 * i + 1) (omega arith));
     }
 
-pub leaves-none : (t a tree : List ℕ) → tree ≡ replicate 128 noPhase → Leaves t a tree 0
-unfolding Leaves
+pub leaves-none : (t a tree : List ℕ) → tree ≡ replicate 128 noPhase → LeavesHold t a tree 0
+unfolding LeavesHold
 leaves-none t a tree e z h = rw (le-ltb z 0 (omega arith)) (ap (λ (w : List ℕ). getD w (64 + z) 0) e ∙ getD-replicate {A = ℕ} 128 (64 + z) noPhase 0 (omega arith))
 
-pub leaves-next : (t a tree after : List ℕ) (z o : ℕ) → o ≡ orpW a z → Leaves t a tree z → Leafed tree after z (leastWith t o noPhase) → Leaves t a after (z + 1)
-unfolding Leaves
+pub leaves-next : (t a tree after : List ℕ) (z o : ℕ) → o ≡ orpW a z → LeavesHold t a tree z → Leafed tree after z (leastWith t o noPhase) → LeavesHold t a after (z + 1)
+unfolding LeavesHold
 leaves-next t a tree after z o eo L F y h = by-eq y z
     (λ e. rw (e, lt-ltb z (z + 1) (omega arith)) (F .leaf ∙ rw eo))
     (λ n. F .others y h n ∙ L y h ∙ by-lt y z
@@ -208,7 +208,7 @@ leaves-next t a tree after z o eo L F y h = by-eq y z
 -- one process of the table has another orphan next
 pub treed-next : (t a tree after : List ℕ) (z o : ℕ) → z < 64 → z < procsW t → orphanBase + z < length a → Treed t a tree → Leafed tree after z (leastWith t o noPhase)
     → Treed t (set a (orphanBase + z) o) after
-unfolding Leaves
+unfolding LeavesHold
 treed-next t a tree after z o h k r T F = record {
   tree = F .tree;
   leaves = λ y l. by-eq y z
@@ -218,5 +218,5 @@ treed-next t a tree after z o h k r T F = record {
 
 -- no process has
 pub treed-same : (t a b tree : List ℕ) → ((z : ℕ) → z < 64 → orpW b z ≡ orpW a z) → Treed t a tree → Treed t b tree
-unfolding Leaves
+unfolding LeavesHold
 treed-same t a b tree e T = record { tree = T .tree; leaves = λ z h. rw (e z h) (T .leaves z h) }

@@ -1,9 +1,9 @@
 // The state of a replay in words, and which choices are allowed in it. Every message is its send event, every queue the
-// stretch between two pointers into events, so a test costs the same however long the run is. Tests write nothing; what
-// a choice does is in crate moves. `note_taken` is here for the two that put a message on record, and the tree of the
-// least phase for those that build it and that set it. specs/Inner/Words says what tests and steps do with words,
-// specs/Inner/Tree what the tree is, specs/Inner/Related how words stand for a state of the theory's machine;
-// proofs/Choices that the two agree choice by choice. Assumes nothing.
+// stretch between two pointers into events, so to test one choice costs the same however long the run is; `complete`
+// looks at each event once. Tests write nothing; what a choice does is in crate moves. `note_taken` is here for the two
+// that put a message on record, and the tree of the least phase for those that build it and that set it.
+// specs/Inner/Words says what tests and steps do with words, specs/Inner/Tree what the tree is, specs/Inner/Related how
+// words stand for a state of the theory's machine; proofs/Choices that the two agree choice by choice. Assumes nothing.
 ghost use mathlib.Core.Path.{_≡_};
 ghost use Prim.Native.Nat.{_≤_, _<_};
 ghost use lib.ListN.{length, getD, replicate};
@@ -49,7 +49,8 @@ pub const HANDS: usize = 64;
 pub const CHOICES: usize = 4160;
 
 // Words of the tree that tells the least phase: word LEAVES + z is the phase of the next orphan of process z, NO_PHASE
-// where it has none; word i before the leaves is the lesser of words 2 i and 2 i + 1, so that word 1 is the least.
+// where it has none; word i, from 1 up to the leaves, is the lesser of words 2 i and 2 i + 1, so that word 1 is the
+// least.
 pub const TREE_WORDS: usize = 128;
 
 const LEAVES: usize = 64;
@@ -106,7 +107,7 @@ fn event_ok(full: &[u32], gates: &[u32], area: &[u32], z: usize, e: usize) -> bo
 }
 
 // May process z do its next event: there is one, and the phase of its gate is ready.
-pub fn process_ok(full: &[u32], gates: &[u32], area: &[u32], z: usize) -> bool
+fn process_ok(full: &[u32], gates: &[u32], area: &[u32], z: usize) -> bool
     requires { ⌜ (z < 64) × Readable (now full) (now gates) (now area) ⌝ }
     ensures { λ r. ⌜ r ≡ processOk (now (full .entry)) (now (gates .entry)) (now (area .entry)) z ⌝ }
 {
@@ -151,7 +152,7 @@ pub fn lesser(a: u32, b: u32) -> u32
 }
 
 // The lesser of a phase and that of the orphan sent by event o, if there is one.
-pub fn least_with(full: &[u32], o: usize, low: u32) -> u32
+fn least_with(full: &[u32], o: usize, low: u32) -> u32
     requires { ⌜ (o < 2049) × FullLong (now full) ⌝ }
     ensures { λ r. ⌜ r ≡ leastWith (now (full .entry)) o low ⌝ }
 {
@@ -264,7 +265,7 @@ fn none_hands(full: &[u32], gates: &[u32], area: &[u32], n: usize) -> bool
     true
 }
 
-// Is no choice allowed. A kept message is found at its send, so that channels that keep none cost nothing.
+// Is no choice allowed. A kept message is found at its send: each event is looked at once, instead of each channel.
 pub fn complete(full: &[u32], gates: &[u32], area: &[u32]) -> bool
     requires { ⌜ Aimed (now full) (now area) × Readable (now full) (now gates) (now area) ⌝ }
     ensures { λ r. ⌜ r ≡ noneAllowed (now (full .entry)) (now (gates .entry)) (now (area .entry)) ⌝ }

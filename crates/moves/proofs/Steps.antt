@@ -159,5 +159,8 @@ is-process t a z e A h ee n = by-lt z (procsW t) (λ l. l) (λ l. absurd (n (ee 
 pub told-some : (r : ℕ) → not (eqb r 0) ≡ true → r ≡ 0 → ⊥
 told-some r h e = clash {b = false} (rw (eq-eqb r 0 e) at h) refl
 
+pub told-none : (r : ℕ) → not (eqb r 0) ≡ false → r ≡ 0
+told-none r h = by-eq r 0 (λ e. e) (λ n. clash {b = true} refl (rw (ne-eqb r 0 n) at h))
+
 pub choice-told : (ok : Bool) (r : ℕ) → (r ≡ 0 → ok ≡ false) → ((r ≡ 0 → ⊥) → ok ≡ true) → not (eqb r 0) ≡ ok
 choice-told ok r f g = by-eq r 0 (λ e. rw (eq-eqb r 0 e, f e)) (λ n. rw (ne-eqb r 0 n, g n))

@@ -1,6 +1,6 @@
-// One choice tried in words: where it may be carried out it is, and each word that this takes is read once. Crate
-// machine has the tests by themselves, and its specs/Inner/Words says what each test and each step does. Assumes
-// nothing.
+// One choice tried in words: where it may be carried out it is. What a process needs of the table, the links, the gates
+// and the run area is read once for test and step; a hand-over reads the pointer of its channel for each. Crate machine
+// has the tests by themselves, and its specs/Inner/Words says what each test and each step does. Assumes nothing.
 ghost use mathlib.Core.Path.{_≡_};
 ghost use mathlib.Core.Bool.{true, false};
 ghost use mathlib.Core.List.{List};
@@ -144,7 +144,8 @@ fn try_event(
     sets::with(0, z)
 }
 
-// Process z does its next event and moves on, if it may: the set of whom that may let run, 0 where it may not.
+// Process z does its next event and moves on, if it may: 0 where it may not, else the set of the one process whom that
+// may let run, besides z itself and whom a new least phase lets run; of z where there is no such process.
 pub fn try_process(
     full: &[u32],
     links: &[u16],
@@ -185,6 +186,7 @@ pub fn try_choice(
 ) -> bool
     requires { ⌜ Tryable (now full) (now links) (now gates) (now tree) (now area) ⌝ }
     ensures allowed { λ r. ⌜ r ≡ allowedW (now (full .entry)) (now (gates .entry)) (now (area .entry)) c ⌝ }
+    ensures refused { λ r. ⌜ (r ≡ false → (now (area .exit) ≡ now (area .entry)) × (now (tree .exit) ≡ now (tree .entry))) ⌝ }
     ensures done { λ r. ⌜ (r ≡ true → now (area .exit) ≡ applyW (now (full .entry)) (now (links .entry)) (now (area .entry)) c) ⌝ }
     ensures leaves { λ _. ⌜ Treed (now (full .entry)) (now (area .exit)) (now (tree .exit)) ⌝ }
 {

@@ -4,7 +4,7 @@ use Prim.Native.Nat.{ℕ, _-_, _≤_}
 use lib.ListN.{length, length-replicate}
 use Rattle.columns.specs.Inner.Full.{procsW}
 use Rattle.machine.specs.Inner.Words.{noPhase}
-use Rattle.machine.specs.Inner.Tree.{Tree, Leaves}
+use Rattle.machine.specs.Inner.Tree.{Tree, LeavesHold}
 use Rattle.machine.proofs.Tree.{tree-none, leaves-none, leaves-next}
 use native.Mathlib.Omega.{arith}
 use borrow.Author.Needs.{needs}
@@ -12,7 +12,7 @@ use Rattle.machine.proofs.build_tree.Statement.{statement}
 use Rattle.machine.proofs.build_tree.Tie as tie
 
 abbrev Inv-loop : tie.InvT-loop
-Inv-loop full area tree₀ procs z₀ tree z = (z ≤ procs) × Tree tree × Leaves full area tree z
+Inv-loop full area tree₀ procs z₀ tree z = (z ≤ procs) × Tree tree × LeavesHold full area tree z
 
 abbrev μ-loop : tie.MeasureT-loop
 μ-loop full area tree₀ procs z₀ tree z = procs - z

@@ -1,5 +1,5 @@
-use mathlib.Core.Path.{refl}
 -- `machine::set_leaf` meets its contract: the words above the leaf follow, so far up to word i.
+use mathlib.Core.Path.{refl}
 use Rattle.machine.proofs.Tree.{Climbing, climb-first, climb-next, climb-stop, climb-top}
 use native.Mathlib.Omega.{arith}
 use borrow.Author.Needs.{needs}

@@ -106,7 +106,8 @@ processW t l a z = movedW l (eventStepW t l a z (curW a z)) z (curW a z)
 unfoldable pub applyW : List ℕ → List ℕ → List ℕ → ℕ → List ℕ
 applyW t l a c = cond (ltb c 64) (processW t l a c) (putInW l a (c - 64))
 
--- whom it may let run that process z does event e: the receiver of the message that it puts in, else z itself
+-- whom it may let run that process z does event e, besides z itself and whom a new least phase lets run: the receiver
+-- of the message that it puts in; z where it puts in none
 unfoldable pub wakesAt : List ℕ → List ℕ → ℕ → ℕ → ℕ
 wakesAt t a z e = cond (eqb (kindW t e) 1) (cond (eqb (orpW a z) e) z (peerW t e)) z
 

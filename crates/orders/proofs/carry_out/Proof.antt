@@ -39,7 +39,7 @@ loop-again c =
     let loop-test = c .before .before .before .before .before .before .before .before .before .before .loop-test in
     let choice = c .before .before .before .before .before .before .before .before .choice in
     let if1 = c .if1 in
-    let done = (try-choice .ensures .1) in (
+    let done = (try-choice .ensures .1 .1) in (
       omega arith,
       (try-choice .kept .1 .1 .1 .1 .0) ∙ (loop .inv .1),
       (try-choice .kept .1 .1 .1 .0) ∙ (loop .inv .2),
