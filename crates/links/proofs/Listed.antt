@@ -1,5 +1,5 @@
--- The lists of kept messages by phase: an event of the pass goes before those of its phase, so that at the end each kept
--- message is on its list, and lists grow.
+-- The lists of kept messages by phase: an event of the pass goes before those of its phase, so that at the end each
+-- kept message is on its list, and lists are of growing events.
 use mathlib.Core.Path.{_≡_, _∙_}
 use mathlib.Core.List.{List}
 use Prim.Native.Nat.{ℕ, zero, suc, _+_, _-_, _*_, _≤_, _<_}
@@ -20,7 +20,7 @@ use Rattle.links.proofs.Linking.{far-A, len-A, small-A}
 pub heads-small : (t g : List ℕ) (cut n d : ℕ) → n ≤ 2048 → (k : ℕ) → getD (linkedH t g cut n d) k 0 < 2049
 unfolding linkedH keptH Small
 heads-small t g cut n zero h k = rw (zero-word 2056 k) (omega arith)
-heads-small t g cut n (suc d) h k = small-A (eqb (sentClass t g cut (n - d)) 2) (linkedH t g cut n d) (phaseW t (n - d)) (n - d) (omega arith) (heads-small t g cut n d h) k
+heads-small t g cut n (suc d) h k = small-A _ _ _ (n - d) (omega arith) (heads-small t g cut n d h) k
 
 -- ---- What is on a list
 

@@ -7,7 +7,7 @@ use native.Mathlib.Omega.{arith}
 use lib.ListN.{length, getD, take, drop, replicate, length-drop, length-map, length-replicate, getD-replicate, replicate-append-replicate, List·getD-eq-default}
 use lib.Seq.{getD-take, getD-drop, length-take-le, ext-getD}
 use Rattle.words.specs.Area.{areaWords}
-use Rattle.trace.specs.Table.{valueWord, tableWord}
+use Rattle.trace.specs.Table.{valueWord}
 use Rattle.trace.proofs.Places.{word-value}
 use Rattle.table.specs.Held.{held, holdsTrace}
 use Rattle.columns.specs.Inner.Columns.{traceWords}

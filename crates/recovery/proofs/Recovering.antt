@@ -14,7 +14,6 @@ use Rattle.theory.specs.Answers.{keptOnes, exactSteps}
 use Rattle.theory.specs.Inner.Laws.{Laws}
 use Rattle.theory.proofs.Orders.{complete-iff}
 use Rattle.theory.proofs.Lowest.{lowest-order}
-use Rattle.orders.specs.declared.Replayed.{Replayed}
 use Rattle.orders.specs.Answer.{answerOf}
 use Rattle.steps.specs.Inner.Steps.{listedEvents}
 use Rattle.steps.proofs.Counting.{lowest-steps}
@@ -34,8 +33,8 @@ use Rattle.messages.proofs.Listing.{refuses-messages, lists}
 use Rattle.restart.proofs.Restarting.{Ready, refuses-restart, answers-restart}
 use Rattle.recovery.proofs.Taking.{not-refused}
 
--- The lowest order from a line that loses no message, not carried out: it is complete, and it has as many steps as there
--- are listed events and kept messages.
+-- The lowest order from a line that loses no message, not carried out: it is complete, and it has as many steps as
+-- there are listed events and kept messages.
 pub lowest-counted : (R : Run) → Laws R → LossFree R → (listed kept : ℕ) → listed ≡ listedEvents R → kept ≡ length (keptOnes R)
     → record { number = 0; place = 0; steps = listed + kept; complete = true } ≡ answerOf R (run R (lowestOrder R)) (length (lowestOrder R))
 unfolding answerOf

@@ -127,8 +127,8 @@ fn recover_from(full: &[u32], cut: usize, set: u64, area: &mut [u32]) -> Recover
     }
 }
 
-// All that a failure asks for, from one table: the restart, what the lowest order from its line comes to, and the list of
-// the line's messages, which takes the place of the table. A refusal leaves the table as it was.
+// All that a failure asks for, from one table: the restart, what the lowest order from its line comes to, and the list
+// of the line's messages, which takes the place of the table. A refusal leaves the table as it was.
 pub fn recover(table: &mut [u32], step: u64, set: u64) -> Recovered
     ensures restart { λ r. ⌜ r .restarted ≡ restartAnswer (now (table .entry)) step set ⌝ }
     ensures replay { λ r. ⌜ r .replayed ≡ replayAnswer (now (table .entry)) (now (table .entry)) step set (r .restarted .line) (lowestOrder (runOf (now (table .entry)) step (r .restarted .line))) ⌝ }

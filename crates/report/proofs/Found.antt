@@ -1,4 +1,5 @@
--- From the answers that `report_from` has to the report's definition: the same lines, not too many, and the exact steps.
+-- From the answers that `report_from` has to the report's definition: the same lines, not too many, and the exact
+-- steps.
 use Prim.Native.Nat.{ℕ, _+_, _≤_}
 use mathlib.Core.Path.{_≡_, sym, ap, subst, _∙_}
 use mathlib.Core.List.{List, [], _∷_, _++_, append-assoc}
@@ -6,9 +7,8 @@ use native.Mathlib.Omega.{arith}
 use lib.ListN.{length}
 use lib.Seq.{slice}
 use Rattle.trace.specs.Trace.{Trace}
-use Rattle.theory.specs.Events.{size}
 use Rattle.theory.specs.Epochs.{ruleOf}
-use Rattle.theory.specs.Line.{Run, runAt, LossFree}
+use Rattle.theory.specs.Line.{Run, runAt}
 use Rattle.theory.specs.Order.{steps, lowestOrder}
 use Rattle.theory.specs.Answers.{gather, orphans, keptOnes, exactSteps}
 use Rattle.theory.proofs.Exact.{exact-steps}

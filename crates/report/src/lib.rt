@@ -81,8 +81,8 @@ fn put_messages(out: &mut [u8], at: usize, kept: bool, full: &[u32], events: &[u
     next
 }
 
-// The lines of a recovery: of its processes, of its orphans and of its kept messages, by the events that send them, first
-// those of the orphans, and of the totals.
+// The lines of a recovery: of its processes, of its orphans and of its kept messages, by the events that send them,
+// first those of the orphans, and of the totals.
 fn put_recovery(
     out: &mut [u8],
     r: Restarted,
@@ -125,8 +125,8 @@ fn report_from(full: &[u32], cut: usize, set: u64, out: &mut [u8]) -> usize
     )
 }
 
-// The report on a failure of the trace that was read: its words stand in the table, and the columns are filled in behind
-// them. What was read is a trace, so that it is not checked again.
+// The report on a failure of the trace that was read: its words stand in the table, and the columns are filled in
+// behind them. What was read is a trace, so that it is not checked again.
 fn report_in(full: &mut [u32], step: u64, set: u64, out: &mut [u8]) -> Reported
     requires { ⌜ ((t : Trace) × Fillable t (now full)) ⌝ }
     ensures { λ r. ⌜ ((t : Trace) (text : List ℕ) → Fillable t (now (full .entry)) → lastFailure text ≡ Failing.failing t step set

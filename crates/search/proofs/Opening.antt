@@ -1,5 +1,5 @@
--- What a new least phase opens. Gates: those below it open. Kept messages: one that is ready now and was not has a phase
--- that the least one has passed, so it is on a list that was walked.
+-- What a new least phase opens. Gates: those below it open. Kept messages: one that is ready now and was not has a
+-- phase that the least one has passed, so it is on a list that was walked.
 use mathlib.Core.Path.{_≡_, refl, sym, _∙_, ap}
 use mathlib.Core.Logic.{_⊎_, inl, inr, ⊎-elim, _≢_}
 use mathlib.Core.Bool.{true, false, or-true}

@@ -1,6 +1,6 @@
--- The search for the lowest choice: what a step leaves of what is known of processes and of channels. A process step can
--- let run only that process or the receiver of what it sends, a message handed over only the two ends of its channel,
--- but for gates that a new least phase opens. No step but a new least phase makes a kept message ready.
+-- The search for the lowest choice: what a step leaves of what is known of processes and of channels. A process step
+-- can let run only that process or the receiver of what it sends, a message handed over only the two ends of its
+-- channel, but for gates that a new least phase opens. Only a new least phase makes a kept message ready.
 use mathlib.Core.Path.{_≡_, refl, sym, _∙_, ap}
 use mathlib.Core.Logic.{_≢_}
 use mathlib.Core.Bool.{Bool, true, false, not}

@@ -223,7 +223,8 @@ fn join_phases(
     senders
 }
 
-// What a new least phase opens. No message has a phase above that of the last event by more than one.
+// What a new least phase opens: gates, and the lists of the phases that it passes. A phase is at most one more than the
+// events, whatever the least one is.
 fn opened(
     full: &[u32],
     links: &[u16],

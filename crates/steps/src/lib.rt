@@ -1,6 +1,6 @@
 // How many steps a complete replay takes from a line that loses no message, counted without a replay: by the theory's
-// theorem as many as there are listed events and kept messages. The kept ones are counted where messages are listed, the
-// listed events here. Assumes nothing.
+// theorem as many as there are listed events and kept messages. The kept ones are counted where messages are listed,
+// the listed events here. Assumes nothing.
 ghost use mathlib.Core.Path.{_≡_};
 ghost use Prim.Native.Nat.{_≤_};
 ghost use Rattle.theory.specs.Line.{Run};

@@ -1,6 +1,5 @@
--- `report::report_from` meets its contract: the line that was found goes through the events of its messages, the counts and
--- the printing.
-use mathlib.Core.Path.{_≡_}
+-- `report::report_from` meets its contract: the line that was found goes through the events of its messages, the counts
+-- and the printing.
 use Rattle.restart.proofs.Restarting.{engine-takeable}
 use Rattle.report.proofs.Found.{count-few, recounts}
 use native.Mathlib.Omega.{arith}
