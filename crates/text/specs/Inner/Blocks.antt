@@ -1,4 +1,5 @@
--- Several bytes looked at together, as one number (document 02, item 3). No public contract cites these.
+-- Several bytes looked at together, as one number (document 02, item 3). No contract of a function that users call
+-- cites these.
 use Prim.Native.Nat.{ℕ, suc, zero, _+_, _*_, _/_, _%_, _^_, _<_}
 use mathlib.Core.Path.{_≡_}
 use mathlib.Core.List.{List, [], _∷_}
