@@ -4,7 +4,7 @@
 // specs/Inner/Filling, and proofs/Passes says that event by event that makes the columns. specs/Inner/Given says what
 // the table and the gates of a line tell of a run, for all that reads them. Assumes nothing.
 ghost use mathlib.Core.Path.{_≡_};
-ghost use mathlib.Core.Bool.{true};
+ghost use mathlib.Core.Bool.{true, false};
 ghost use Prim.Native.Nat.{max, _≤_, _<_};
 ghost use lib.Dec.{ltb};
 ghost use lib.ListN.{length, getD};
@@ -195,7 +195,8 @@ fn pair_fits(procs: usize, a: usize, b: usize) -> bool
     a != b
 }
 
-// Notes event e, a send of a to b, if it is fit after those that were noted; whether that is so.
+// Notes event e, a send of a to b, if it is fit after those that were noted; whether that is so. Where it is not,
+// nothing changes.
 pub fn send_noted(
     full: &mut [u32],
     work: &mut [u16],
@@ -206,6 +207,7 @@ pub fn send_noted(
 ) -> bool
     requires { ⌜ Awaits procs (now full) (now work) e ⌝ }
     ensures answer { λ r. ⌜ r ≡ fitIn procs (now (work .entry)) (Send a b 0) ⌝ }
+    ensures refused { λ r. ⌜ (r ≡ false → (now (full .exit) ≡ now (full .entry)) × (now (work .exit) ≡ now (work .entry))) ⌝ }
     ensures columns { λ r. ⌜ (r ≡ true → now (full .exit) ≡ noteFull (now (full .entry)) (now (work .entry)) e (Send a b 0)) ⌝ }
     ensures working { λ r. ⌜ (r ≡ true → now (work .exit) ≡ noteWork (now (full .entry)) (now (work .entry)) e (Send a b 0)) ⌝ }
 {
@@ -235,6 +237,7 @@ pub fn recv_noted(
 ) -> bool
     requires { ⌜ Awaits procs (now full) (now work) e ⌝ }
     ensures answer { λ r. ⌜ r ≡ fitIn procs (now (work .entry)) (Recv a b) ⌝ }
+    ensures refused { λ r. ⌜ (r ≡ false → (now (full .exit) ≡ now (full .entry)) × (now (work .exit) ≡ now (work .entry))) ⌝ }
     ensures columns { λ r. ⌜ (r ≡ true → now (full .exit) ≡ noteFull (now (full .entry)) (now (work .entry)) e (Recv a b)) ⌝ }
     ensures working { λ r. ⌜ (r ≡ true → now (work .exit) ≡ noteWork (now (full .entry)) (now (work .entry)) e (Recv a b)) ⌝ }
 {
@@ -252,6 +255,7 @@ pub fn recv_noted(
 pub fn save_noted(full: &mut [u32], work: &mut [u16], procs: usize, e: usize, a: usize) -> bool
     requires { ⌜ Awaits procs (now full) (now work) e ⌝ }
     ensures answer { λ r. ⌜ r ≡ fitIn procs (now (work .entry)) (Save a) ⌝ }
+    ensures refused { λ r. ⌜ (r ≡ false → (now (full .exit) ≡ now (full .entry)) × (now (work .exit) ≡ now (work .entry))) ⌝ }
     ensures columns { λ r. ⌜ (r ≡ true → now (full .exit) ≡ noteFull (now (full .entry)) (now (work .entry)) e (Save a)) ⌝ }
     ensures working { λ r. ⌜ (r ≡ true → now (work .exit) ≡ noteWork (now (full .entry)) (now (work .entry)) e (Save a)) ⌝ }
 {
@@ -270,6 +274,7 @@ pub fn save_noted(full: &mut [u32], work: &mut [u16], procs: usize, e: usize, a:
 pub fn done_noted(full: &mut [u32], work: &mut [u16], procs: usize, e: usize, a: usize) -> bool
     requires { ⌜ Awaits procs (now full) (now work) e ⌝ }
     ensures answer { λ r. ⌜ r ≡ fitIn procs (now (work .entry)) (Done a) ⌝ }
+    ensures refused { λ r. ⌜ (r ≡ false → (now (full .exit) ≡ now (full .entry)) × (now (work .exit) ≡ now (work .entry))) ⌝ }
     ensures columns { λ r. ⌜ (r ≡ true → now (full .exit) ≡ noteFull (now (full .entry)) (now (work .entry)) e (Done a)) ⌝ }
     ensures working { λ r. ⌜ (r ≡ true → now (work .exit) ≡ noteWork (now (full .entry)) (now (work .entry)) e (Done a)) ⌝ }
 {

@@ -8,12 +8,11 @@ use native.Mathlib.Omega.{arith}
 use lib.ListN.{length, getD, take, drop}
 use lib.Seq.{take-append-seam}
 use Rattle.text.specs.declared.LineEnd.{LineEnd}
-use Rattle.text.specs.declared.Num.the-variants.{Value}
 use Rattle.text.specs.Number.{decimal}
 use Rattle.text.specs.Bytes.{bytesOf}
 use Rattle.text.specs.Inner.Line.{lineEnd, Ends}
 use Rattle.text.specs.Inner.Blocks.{packed}
-use Rattle.text.specs.Inner.Standing.{Stands, Written}
+use Rattle.text.specs.Inner.Standing.{Stands, NumberStands}
 use Rattle.text.proofs.Lines.{line-ends}
 use Rattle.text.proofs.Blocks.{Bytes}
 use Rattle.text.proofs.Standing.{allBytes, byte-stands, stands-then, stands-rest, key-stands}
@@ -22,7 +21,7 @@ use Rattle.trace.specs.declared.Event.the-variants.{Send, Recv}
 use Rattle.lines.specs.declared.Line.{Line}
 use Rattle.lines.specs.declared.Placed.{Placed}
 use Rattle.lines.specs.declared.Placed.the-variants.{Said, Missing}
-use Rattle.lines.specs.Line.{kSend, kTo, kVal, kRecv, kFrom, most, mostValue, lineSaid}
+use Rattle.lines.specs.Line.{kSend, kTo, kVal, kRecv, kFrom, most, lineSaid}
 use Rattle.lines.specs.Render.{renderEvent, KeysHold}
 use Rattle.lines.specs.Inner.Placing.{whereEnded, nextLine, Known}
 use Rattle.lines.proofs.OneLine.{lineFor, event-line}
@@ -88,24 +87,24 @@ module _ (text : List ℕ) (at : ℕ) where
       (subst₂ (λ (p q : ℕ). Stands text p (bytesOf "at=") q) (omega arith) (omega arith) four)
 
   -- the lines of events, field by field: each number with what `short` and `long` say of it
-  module _ (a p : ℕ) (sa : Written text (at + 11) 99 2 (Value a p)) where
+  module _ (a p : ℕ) (sa : NumberStands text (at + 11) 99 2 a p) where
     pub process-from : (key : List ℕ) (e : Event) → renderEvent e ≡ key ++ decimal a → (a ≤ most → KeysHold e) → Stands text at key (at + 11)
         → p < length text → getD text p 0 ≡ 10 → Said (lineFor e) (p + 1) ≡ nextLine text at
     process-from key e r k s h lf = event-from e p (k (omega (arith, sa .1))) (rw r (stands-then text s (sa .0))) h lf
 
     module _ (b q : ℕ) where
-      pub recv-from : Stands text at kRecv (at + 11) → Stands text p kFrom (p + 6) → Written text (p + 6) 99 2 (Value b q)
+      pub recv-from : Stands text at kRecv (at + 11) → Stands text p kFrom (p + 6) → NumberStands text (p + 6) 99 2 b q
           → q < length text → getD text q 0 ≡ 10 → Said (lineFor (Recv a b)) (q + 1) ≡ nextLine text at
       unfolding renderEvent
       recv-from s f sb h lf =
           event-from (Recv a b) q (omega (arith, sa .1), omega (arith, sb .1)) (stands-then text (stands-then text (stands-then text s (sa .0)) f) (sb .0)) h lf
 
-      pub send-from : (v r : ℕ) → Stands text at kSend (at + 11) → Stands text p kTo (p + 4) → Written text (p + 4) 99 2 (Value b q)
-          → Stands text q kVal (q + 5) → Written text (q + 5) mostValue 20 (Value v r)
+      pub send-from : (v r : ℕ) → Stands text at kSend (at + 11) → Stands text p kTo (p + 4) → NumberStands text (p + 4) 99 2 b q
+          → Stands text q kVal (q + 5) → NumberStands text (q + 5) 9999999999999999999 19 v r
           → r < length text → getD text r 0 ≡ 10 → Said (lineFor (Send a b v)) (r + 1) ≡ nextLine text at
       unfolding renderEvent
       send-from v r s t sb u sv h lf =
-          event-from (Send a b v) r (omega (arith, sa .1), omega (arith, sb .1), sv .1)
+          event-from (Send a b v) r (omega (arith, sa .1), omega (arith, sb .1), omega (arith, sv .1))
           (stands-then text (stands-then text (stands-then text (stands-then text (stands-then text s (sa .0)) t) (sb .0)) u) (sv .0)) h lf
 
 -- the keys between, over what the code has compared

@@ -2,14 +2,14 @@
 // the working words of the filling and then noted (crate columns says what the words mean). proofs/Claims says that the
 // laws of a recorded run follow. `tabulate` has no `requires`. Assumes nothing.
 ghost use mathlib.Core.Path.{_≡_};
-ghost use mathlib.Core.Bool.{true, _&&_};
+ghost use mathlib.Core.Bool.{true, false, _&&_};
 ghost use mathlib.Core.List.{[]};
 ghost use Prim.Native.Nat.{ℕ, _≤_, _<_};
 ghost use lib.Dec.{eqb};
 ghost use lib.ListN.{length, getD};
 ghost use Rattle.trace.specs.Trace.{Trace};
 ghost use Rattle.table.specs.Held.{heldValue, heldEvent, held, holdsTrace};
-ghost use Rattle.table.specs.Inner.Tested.{wordFits, fitFrom};
+ghost use Rattle.table.specs.Inner.Tested.{wordFits, fitFrom, framed};
 ghost use Rattle.theory.specs.Epochs.{loggedBy, ruleOf};
 ghost use Rattle.columns.specs.Inner.Columns.{fullWords, Columns, Flagged};
 ghost use Rattle.columns.specs.Inner.Full.{procsW, eventsW, eventW};
@@ -118,12 +118,14 @@ fn fill(full: &mut [u32]) -> bool
 }
 
 // The full table of the trace that an area holds, in a lent table of exactly FULL_WORDS words; false where the area
-// holds no trace, or the lent table has another size: then it is of no use. Which received messages are logged is
-// decided here, by the trace's rule.
+// holds no trace, or the lent table has another size: then it is of no use. It is as it was where its size is another,
+// or all of the area but its events is no trace's. Which received messages are logged is decided here, by the trace's
+// rule.
 pub fn tabulate(area: &[u32], full: &mut [u32]) -> bool
     ensures answer { λ r. ⌜ r ≡ (eqb (length (now (full .entry))) fullWords && holdsTrace (now (area .entry))) ⌝ }
     ensures columns { λ r. ⌜ (r ≡ true → Columns (held (now (area .entry))) (now (full .exit))) ⌝ }
     ensures flags { λ r. ⌜ (r ≡ true → Flagged (held (now (area .entry))) (loggedBy (held (now (area .entry))) (ruleOf (held (now (area .entry))))) (now (full .exit))) ⌝ }
+    ensures untouched { λ _. ⌜ ((eqb (length (now (full .entry))) fullWords && framed (now (area .entry))) ≡ false → now (full .exit) ≡ now (full .entry)) ⌝ }
 {
     if full.len() != FULL_WORDS {
         return false;

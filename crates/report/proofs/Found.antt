@@ -20,7 +20,7 @@ use Rattle.recovery_line.specs.Given.{lineIn}
 use Rattle.restart.specs.declared.Restarted.{Restarted}
 use Rattle.restart.specs.Restart.{restartOf, Restarts}
 use Rattle.restart.proofs.Restarting.{count-in}
-use Rattle.listing.specs.Inner.Words.{ListedEvents}
+use Rattle.listing.specs.Inner.Words.{EntriesOf}
 use Rattle.steps.specs.Inner.Steps.{listedEvents}
 use Rattle.steps.proofs.Counting.{lowest-steps}
 use Rattle.writer.specs.Inner.Puts.{Puts}
@@ -60,7 +60,7 @@ module _ (t : Trace) (full : List ℕ) (M : Marked t (ruleOf t) full) (cut set :
   pub count-few : r .line .count ≤ 64
   count-few = omega (arith, count-in t cut set r e, procs-is t full (M .tabled), procs-most t full (M .tabled))
 
-  module _ (gates : List ℕ) (G : Given Q cut full gates) (events : List ℕ) (a b c : ℕ) (E : ListedEvents Q full events a b c) (few : a + b + c ≤ 2048)
+  module _ (gates : List ℕ) (G : Given Q cut full gates) (events : List ℕ) (a b c : ℕ) (E : EntriesOf Q full events a b c) (few : a + b + c ≤ 2048)
       (listed : ℕ) (l : listed ≡ listedEvents Q) where
     steps-are : listed + b ≡ steps (lowestOrder Q)
     steps-are = lowest-steps Q (G .tells .laws) (m .greatest .loss-free) listed b l (E .kept-count)

@@ -108,7 +108,7 @@ unfolding lastDigits
 last-more r v h = rw (le-ltb v 10 h)
 
 -- room that a number does not need changes nothing
-room-more : (r v : ℕ) → v < 10 ^ suc r → lastDigits (suc (suc r)) v ≡ lastDigits (suc r) v
+pub room-more : (r v : ℕ) → v < 10 ^ suc r → lastDigits (suc (suc r)) v ≡ lastDigits (suc r) v
 room-more zero v h = last-small 1 v h ∙ sym (last-small 0 v h)
 room-more (suc r) v h =
     by-lt v 10

@@ -15,8 +15,8 @@ use Rattle.text.specs.Key.{startsWith}
 use Rattle.text.specs.Inner.Blocks.{packed}
 use Rattle.text.specs.declared.Num.{Num}
 use Rattle.text.specs.declared.Num.the-variants.{Value}
-use Rattle.text.specs.Inner.Standing.{Stands, Written}
-use Rattle.text.proofs.Numbers.{digit-low, digit-high, last-small, last-more, last-push}
+use Rattle.text.specs.Inner.Standing.{Stands, NumberStands, Written}
+use Rattle.text.proofs.Numbers.{digit-low, digit-high, last-small, last-more, room-more, last-push}
 use Rattle.text.proofs.Keys.{key-split}
 use Rattle.text.proofs.Blocks.{Bytes, bytes-from, starts-packed}
 
@@ -75,16 +75,16 @@ module _ (text : List ℕ) where
       rw (w, last-push 18 v (b - 48) z (omega (arith, digit-high b d)) (omega (arith, digit-high b d)), e) (stands-then s (byte-stands p b h refl))
 
   -- a number that was found, over the answer that the code has
-  pub found : (at most room : ℕ) (n : Num) (v p : ℕ) → Written text at most room n → n ≡ Value v p → Written text at most room (Value v p)
-  found at most room n v p w e = subst (Written text at most room) e w
+  pub found : (at most room : ℕ) (begins : Bool) (n : Num) (v p : ℕ) → Written text at most room begins n → n ≡ Value v p → NumberStands text at most room v p
+  found at most room begins n v p w e = subst (Written text at most room begins) e w
 
-  -- a number's end is near
-  pub decimal-near : (at v p : ℕ) → Stands text at (decimal v) p → p ≤ at + 20
-  decimal-near at v p s = omega (arith, s .size, last-length 20 v)
+  -- the end of a number below 10 ^ 19 is near
+  pub decimal-near : (at v p : ℕ) → v ≤ 9999999999999999999 → Stands text at (decimal v) p → p ≤ at + 19
+  decimal-near at v p h s = omega (arith, s .size, ap length (room-more 18 v (omega arith)), last-length 19 v)
 
   -- two digits, as `short` puts them together
   pub two-digits : (at : ℕ) → at + 1 < length text → isDigit (getD text at 0) ≡ true → isDigit (getD text (at + 1) 0) ≡ true → (getD text at 0 ≡ 48 → ⊥)
-      → Written text at 99 2 (Value (10 * getD text at 0 + getD text (at + 1) 0 - 528) (at + 2))
+      → NumberStands text at 99 2 (10 * getD text at 0 + getD text (at + 1) 0 - 528) (at + 2)
   two-digits at h d e n =
       let a = getD text at 0 in
       let b = getD text (at + 1) 0 in

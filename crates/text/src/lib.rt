@@ -1,10 +1,11 @@
 // Reading text: the end of a line, fixed keys and decimal numbers. Each function says what it finds by a definition of
 // specs/, for every text and place; only those for a quick look (`four`, `eight`, `short`, `long`) have a `requires`,
 // that so many bytes are there. Assumes nothing.
-ghost use mathlib.Core.Bool.{true};
+ghost use mathlib.Core.Bool.{true, _&&_, not};
 ghost use mathlib.Core.Path.{_≡_};
 ghost use mathlib.Core.Logic.{_↔_};
 ghost use Prim.Native.Nat.{_+_, _-_, _≤_, _<_};
+ghost use lib.Dec.{eqb};
 ghost use lib.ListN.{length, drop, getD};
 ghost use Rattle.text.specs.Inner.Line.{lineEnd};
 ghost use Rattle.text.specs.Inner.Blocks.{packed, marks, AnyLf, FirstLf};
@@ -205,11 +206,12 @@ pub fn number(text: &[u8], at: usize, bound: u64) -> Num
     Num::Value(0, at + 1)
 }
 
-// A number of one or two digits; none is no verdict. Here and in `long` what follows the digits is the caller's to look
-// at.
+// A number of one or two digits; none where no digit stands there, or a 0 before another. Here and in `long` what
+// follows the digits is the caller's to look at.
 pub fn short(text: &[u8], at: usize) -> Num
     requires { ⌜ at + 2 ≤ length (now text) ⌝ }
-    ensures { λ r. ⌜ Written (now (text .entry)) at 99 2 r ⌝ }
+    ensures { λ r. ⌜ Written (now (text .entry)) at 99 2
+        (isDigit (getD (now (text .entry)) at 0) && not (eqb (getD (now (text .entry)) at 0) 48 && isDigit (getD (now (text .entry)) (at + 1) 0))) r ⌝ }
 {
     let first = text[at] as u16;
     if !is_digit(first) {
@@ -225,10 +227,10 @@ pub fn short(text: &[u8], at: usize) -> Num
     Num::Value(10 * (first as u64) + second as u64 - 528, at + 2)
 }
 
-// A number of up to 19 digits, each of which 64 bits have room for; none is no verdict.
+// A number of up to 19 digits, each of which 64 bits have room for; none where no digit stands there.
 pub fn long(text: &[u8], at: usize) -> Num
-    requires { ⌜ at + 21 ≤ length (now text) ⌝ }
-    ensures { λ r. ⌜ Written (now (text .entry)) at 18446744073709551615 20 r ⌝ }
+    requires { ⌜ at + 20 ≤ length (now text) ⌝ }
+    ensures { λ r. ⌜ Written (now (text .entry)) at 9999999999999999999 19 (isDigit (getD (now (text .entry)) at 0)) r ⌝ }
 {
     let first = text[at] as u16;
     if !is_digit(first) {

@@ -1,6 +1,6 @@
 -- `columns::recv_noted` meets its contract: a fit event can be noted.
 use mathlib.Core.Path.{refl, sym, _∙_}
-use mathlib.Core.Bool.{false}
+use mathlib.Core.Bool.{true, false}
 use borrow.Author.Tests.{not-true, not-false, eq-eqb, ne-eqb}
 use Rattle.words.proofs.Cases.{clash}
 use Rattle.trace.specs.declared.Event.the-variants.{Recv}
@@ -14,7 +14,7 @@ returns : tie.Need-returns
 returns c =
     let pair-fits = c .before .pair-fits in
     let if1 = c .if1 in
-    (rw (sym (pair-fits .ensures) ∙ not-true _ (if1 .taken)), (λ z. clash {b = false} z refl, λ z. clash {b = false} z refl))
+    (rw (sym (pair-fits .ensures) ∙ not-true _ (if1 .taken)), (λ z. (refl, refl), (λ z. clash {b = false} z refl, λ z. clash {b = false} z refl)))
 
 oldest-requires : tie.Need-oldest-requires
 oldest-requires c κs =
@@ -30,7 +30,7 @@ returns-2 c =
     let if1 = c .before .before .before .if1 in
     let oldest = c .before .oldest in
     let if2 = c .if2 in
-    (rw ((sym (pair-fits .ensures) ∙ not-false _ (if1 .left)), eq-eqb _ 0 (sym (oldest .ensures) ∙ (if2 .taken))), (λ z. clash {b = false} z refl, λ z. clash {b = false} z refl))
+    (rw ((sym (pair-fits .ensures) ∙ not-false _ (if1 .left)), eq-eqb _ 0 (sym (oldest .ensures) ∙ (if2 .taken))), (λ z. (refl, refl), (λ z. clash {b = false} z refl, λ z. clash {b = false} z refl)))
 
 note-recv-requires : tie.Need-note-recv-requires
 note-recv-requires c κs =
@@ -49,7 +49,7 @@ returns-3 c =
     let if2 = c .before .before .before .before .before .before .before .if2 in
     let oldest = c .before .before .before .before .before .before .before .before .oldest in
     let note-recv = c .before .before .before .before .note-recv in
-    (rw ((sym (pair-fits .ensures) ∙ not-false _ (if1 .left)), ne-eqb _ 0 (λ q. (if2 .left) ((oldest .ensures) ∙ q))), (λ z. (note-recv .ensures .0), λ z. (note-recv .ensures .1)))
+    (rw ((sym (pair-fits .ensures) ∙ not-false _ (if1 .left)), ne-eqb _ 0 (λ q. (if2 .left) ((oldest .ensures) ∙ q))), (λ z. clash {b = true} refl z, (λ z. (note-recv .ensures .0), λ z. (note-recv .ensures .1))))
 
 pub recv-noted-spec : {M : Type 1} → statement M
 recv-noted-spec =

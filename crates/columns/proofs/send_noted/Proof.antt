@@ -1,6 +1,6 @@
 -- `columns::send_noted` meets its contract: a fit event can be noted.
 use mathlib.Core.Path.{refl, sym, _∙_}
-use mathlib.Core.Bool.{false}
+use mathlib.Core.Bool.{true, false}
 use borrow.Author.Tests.{not-true, not-false}
 use Rattle.words.proofs.Cases.{clash}
 use Rattle.trace.specs.declared.Event.the-variants.{Send}
@@ -12,7 +12,7 @@ returns : tie.Need-returns
 returns c =
     let if1 = c .if1 in
     let pair-fits = c .before .pair-fits in
-    (sym (not-true _ (if1 .taken)) ∙ (pair-fits .ensures), (λ z. clash {b = false} z refl, λ z. clash {b = false} z refl))
+    (sym (not-true _ (if1 .taken)) ∙ (pair-fits .ensures), (λ z. (refl, refl), (λ z. clash {b = false} z refl, λ z. clash {b = false} z refl)))
 
 note-send-requires : tie.Need-note-send-requires
 note-send-requires c κs =
@@ -27,7 +27,7 @@ returns-2 c =
     let pair-fits = c .before .before .before .before .before .before .before .before .pair-fits in
     let if1 = c .before .before .before .before .before .before .before .if1 in
     let note-send = c .before .before .before .before .note-send in
-    (sym (sym (pair-fits .ensures) ∙ not-false _ (if1 .left)), (λ z. (note-send .ensures .0), λ z. (note-send .ensures .1)))
+    (sym (sym (pair-fits .ensures) ∙ not-false _ (if1 .left)), (λ z. clash {b = true} refl z, (λ z. (note-send .ensures .0), λ z. (note-send .ensures .1))))
 
 pub send-noted-spec : {M : Type 1} → statement M
 send-noted-spec =

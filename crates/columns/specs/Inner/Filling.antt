@@ -1,5 +1,5 @@
 -- How the full table is filled, one event after another: the words that each kind of event stores, and what the table
--- and the working words hold after some events. No public contract cites these.
+-- and the working words hold after some events. No contract of a function that users call cites these.
 use Prim.Native.Nat.{ℕ, suc, _+_, _-_, _*_, _<_, _≤_}
 use mathlib.Core.Path.{_≡_}
 use mathlib.Core.Bool.{Bool, true, _&&_, not, cond}

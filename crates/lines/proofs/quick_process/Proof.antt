@@ -17,7 +17,7 @@ shared-slice-read-if1 c =
     let args = c .before .before .before .before .before .before .args in
     let short = c .before .before .before .before .short in
     let a = c .before .before .a in
-    omega (arith, (pre .0), (found (args .text .now) ((args .at) + 11) 99 2 _ _ _ (short .ensures) (a .given .1)) .2)
+    omega (arith, (pre .0), (found (args .text .now) ((args .at) + 11) 99 2 _ _ _ _ (short .ensures) (a .given .1)) .2)
 
 add-t12 : tie.Need-add-t12
 add-t12 c =
@@ -26,7 +26,7 @@ add-t12 c =
     let args = c .before .before .before .before .before .before .before .before .args in
     let short = c .before .before .before .before .before .before .short in
     let a = c .before .before .before .before .a in
-    omega (arith, good, (pre .0), (found (args .text .now) ((args .at) + 11) 99 2 _ _ _ (short .ensures) (a .given .1)) .2)
+    omega (arith, good, (pre .0), (found (args .text .now) ((args .at) + 11) 99 2 _ _ _ _ (short .ensures) (a .given .1)) .2)
 
 returns-3 : tie.Need-returns-3
 unfolding renderEvent
@@ -37,7 +37,7 @@ returns-3 c =
     let if2 = c .if2 in
     let pre = c .before .before .before .before .before .before .before .before .pre in
     let if1 = c .before .if1 in
-    process-from _ _ _ _ (found (args .text .now) ((args .at) + 11) 99 2 _ _ _ (short .ensures) (a .given .1)) kDone (Done _) refl (λ h. h) (rw (if2 .taken) at (pre .1)) (omega (arith, (pre .0), (found (args .text .now) ((args .at) + 11) 99 2 _ _ _ (short .ensures) (a .given .1)) .2)) (if1 .left)
+    process-from _ _ _ _ (found (args .text .now) ((args .at) + 11) 99 2 _ _ _ _ (short .ensures) (a .given .1)) kDone (Done _) refl (λ h. h) (rw (if2 .taken) at (pre .1)) (omega (arith, (pre .0), (found (args .text .now) ((args .at) + 11) 99 2 _ _ _ _ (short .ensures) (a .given .1)) .2)) (if1 .left)
 
 add-t7 : tie.Need-add-t7
 add-t7 c =
@@ -46,7 +46,7 @@ add-t7 c =
     let args = c .before .before .before .before .before .before .before .before .args in
     let short = c .before .before .before .before .before .before .short in
     let a = c .before .before .before .before .a in
-    omega (arith, good, (pre .0), (found (args .text .now) ((args .at) + 11) 99 2 _ _ _ (short .ensures) (a .given .1)) .2)
+    omega (arith, good, (pre .0), (found (args .text .now) ((args .at) + 11) 99 2 _ _ _ _ (short .ensures) (a .given .1)) .2)
 
 returns-4 : tie.Need-returns-4
 unfolding renderEvent
@@ -57,7 +57,7 @@ returns-4 c =
     let if2 = c .if2 in
     let pre = c .before .before .before .before .before .before .before .before .pre in
     let if1 = c .before .if1 in
-    process-from _ _ _ _ (found (args .text .now) ((args .at) + 11) 99 2 _ _ _ (short .ensures) (a .given .1)) kSave (Save _) refl (λ h. h) (rw (if2 .left) at (pre .1)) (omega (arith, (pre .0), (found (args .text .now) ((args .at) + 11) 99 2 _ _ _ (short .ensures) (a .given .1)) .2)) (if1 .left)
+    process-from _ _ _ _ (found (args .text .now) ((args .at) + 11) 99 2 _ _ _ _ (short .ensures) (a .given .1)) kSave (Save _) refl (λ h. h) (rw (if2 .left) at (pre .1)) (omega (arith, (pre .0), (found (args .text .now) ((args .at) + 11) 99 2 _ _ _ _ (short .ensures) (a .given .1)) .2)) (if1 .left)
 
 pub quick-process-spec : {M : Type 1} → statement M
 quick-process-spec =

@@ -15,7 +15,7 @@ four-requires c κs =
     let args = c .before .before .before .before .before .args in
     let short = c .before .before .before .short in
     let a = c .before .a in
-    omega (arith, (pre .0), (found (args .text .now) ((args .at) + 11) 99 2 _ _ _ (short .ensures) (a .given .1)) .2)
+    omega (arith, (pre .0), (found (args .text .now) ((args .at) + 11) 99 2 _ _ _ _ (short .ensures) (a .given .1)) .2)
 
 add-if2 : tie.Need-add-if2
 add-if2 c =
@@ -24,7 +24,7 @@ add-if2 c =
     let args = c .before .before .before .before .before .before .before .args in
     let short = c .before .before .before .before .before .short in
     let a = c .before .before .before .a in
-    omega (arith, good, (pre .0), (found (args .text .now) ((args .at) + 11) 99 2 _ _ _ (short .ensures) (a .given .1)) .2)
+    omega (arith, good, (pre .0), (found (args .text .now) ((args .at) + 11) 99 2 _ _ _ _ (short .ensures) (a .given .1)) .2)
 
 shared-slice-read-if2 : tie.Need-shared-slice-read-if2
 shared-slice-read-if2 c =
@@ -32,7 +32,7 @@ shared-slice-read-if2 c =
     let args = c .before .before .before .before .before .before .before .before .args in
     let short = c .before .before .before .before .before .before .short in
     let a = c .before .before .before .before .a in
-    omega (arith, (pre .0), (found (args .text .now) ((args .at) + 11) 99 2 _ _ _ (short .ensures) (a .given .1)) .2)
+    omega (arith, (pre .0), (found (args .text .now) ((args .at) + 11) 99 2 _ _ _ _ (short .ensures) (a .given .1)) .2)
 
 add-if3 : tie.Need-add-if3
 add-if3 c =
@@ -41,7 +41,7 @@ add-if3 c =
     let args = c .before .before .before .before .before .before .before .before .before .args in
     let short = c .before .before .before .before .before .before .before .short in
     let a = c .before .before .before .before .before .a in
-    omega (arith, good, (pre .0), (found (args .text .now) ((args .at) + 11) 99 2 _ _ _ (short .ensures) (a .given .1)) .2)
+    omega (arith, good, (pre .0), (found (args .text .now) ((args .at) + 11) 99 2 _ _ _ _ (short .ensures) (a .given .1)) .2)
 
 shared-slice-read-if3 : tie.Need-shared-slice-read-if3
 shared-slice-read-if3 c =
@@ -49,7 +49,7 @@ shared-slice-read-if3 c =
     let args = c .before .before .before .before .before .before .before .before .before .before .args in
     let short = c .before .before .before .before .before .before .before .before .short in
     let a = c .before .before .before .before .before .before .a in
-    omega (arith, (pre .0), (found (args .text .now) ((args .at) + 11) 99 2 _ _ _ (short .ensures) (a .given .1)) .2)
+    omega (arith, (pre .0), (found (args .text .now) ((args .at) + 11) 99 2 _ _ _ _ (short .ensures) (a .given .1)) .2)
 
 add-short-2 : tie.Need-add-short-2
 add-short-2 c =
@@ -58,7 +58,7 @@ add-short-2 c =
     let args = c .before .before .before .before .before .before .before .before .before .before .before .args in
     let short = c .before .before .before .before .before .before .before .before .before .short in
     let a = c .before .before .before .before .before .before .before .a in
-    omega (arith, good, (pre .0), (found (args .text .now) ((args .at) + 11) 99 2 _ _ _ (short .ensures) (a .given .1)) .2)
+    omega (arith, good, (pre .0), (found (args .text .now) ((args .at) + 11) 99 2 _ _ _ _ (short .ensures) (a .given .1)) .2)
 
 short-requires-2 : tie.Need-short-requires-2
 short-requires-2 c κs =
@@ -66,7 +66,7 @@ short-requires-2 c κs =
     let args = c .before .before .before .before .before .before .before .before .before .before .before .args in
     let short = c .before .before .before .before .before .before .before .before .before .short in
     let a = c .before .before .before .before .before .before .before .a in
-    omega (arith, (pre .0), (found (args .text .now) ((args .at) + 11) 99 2 _ _ _ (short .ensures) (a .given .1)) .2)
+    omega (arith, (pre .0), (found (args .text .now) ((args .at) + 11) 99 2 _ _ _ _ (short .ensures) (a .given .1)) .2)
 
 shared-slice-read-if4 : tie.Need-shared-slice-read-if4
 shared-slice-read-if4 c =
@@ -76,7 +76,7 @@ shared-slice-read-if4 c =
     let a = c .before .before .before .before .before .before .before .before .before .before .before .before .a in
     let short2 = c .before .before .before .before .short2 in
     let b = c .before .before .b in
-    omega (arith, (pre .0), (found (args .text .now) ((args .at) + 11) 99 2 _ _ _ (short .ensures) (a .given .1)) .2, (found (args .text .now) ((a .given .0 .1 .0) + 6) 99 2 _ _ _ (short2 .ensures) (b .given .1)) .2)
+    omega (arith, (pre .0), (found (args .text .now) ((args .at) + 11) 99 2 _ _ _ _ (short .ensures) (a .given .1)) .2, (found (args .text .now) ((a .given .0 .1 .0) + 6) 99 2 _ _ _ _ (short2 .ensures) (b .given .1)) .2)
 
 add-t8 : tie.Need-add-t8
 add-t8 c =
@@ -87,7 +87,7 @@ add-t8 c =
     let a = c .before .before .before .before .before .before .before .before .before .before .before .before .before .a in
     let short2 = c .before .before .before .before .before .short2 in
     let b = c .before .before .before .b in
-    omega (arith, good, (pre .0), (found (args .text .now) ((args .at) + 11) 99 2 _ _ _ (short .ensures) (a .given .1)) .2, (found (args .text .now) ((a .given .0 .1 .0) + 6) 99 2 _ _ _ (short2 .ensures) (b .given .1)) .2)
+    omega (arith, good, (pre .0), (found (args .text .now) ((args .at) + 11) 99 2 _ _ _ _ (short .ensures) (a .given .1)) .2, (found (args .text .now) ((a .given .0 .1 .0) + 6) 99 2 _ _ _ _ (short2 .ensures) (b .given .1)) .2)
 
 returns-7 : tie.Need-returns-7
 unfolding packed
@@ -105,8 +105,8 @@ returns-7 c =
     let if3 = c .before .before .before .before .before .before .if3 in
     let if4 = c .if4 in
     let bytes : Bytes (args .text .now) = λ i. omega (arith, (shared-slice-known .given) i) in
-    let sa = found (args .text .now) ((args .at) + 11) 99 2 _ _ _ (short .ensures) (a .given .1) in
-    let sb = found (args .text .now) ((a .given .0 .1 .0) + 6) 99 2 _ _ _ (short2 .ensures) (b .given .1) in
+    let sa = found (args .text .now) ((args .at) + 11) 99 2 _ _ _ _ (short .ensures) (a .given .1) in
+    let sb = found (args .text .now) ((a .given .0 .1 .0) + 6) 99 2 _ _ _ _ (short2 .ensures) (b .given .1) in
     let from = from-stands (args .text .now) (a .given .0 .1 .0) _ bytes (omega (arith, (pre .0), sa .2)) (four .ensures) (if1 .left) (if2 .left) (if3 .left) in
     recv-from _ _ _ _ sa _ _ (pre .1) from sb (omega (arith, (pre .0), sa .2, sb .2)) (if4 .left)
 

@@ -27,7 +27,7 @@ returns-3 c =
     let if3 = c .if3 in
     let if1 = c .before .before .before .before .before .before .if1 in
     let if2 = c .before .before .before .before .before .if2 in
-    let h = sym (tabled-holds (args .table .now) (args .full .now) _ pre (tabulate .ensures .0)) ∙ (if3 .taken) in (areas-fit (args .table .now) (args .room) 0 (if1 .left) (if2 .left) h, λ z. record { long = (if1 .left); enough = (if2 .left); holds = h; marked = marked (args .table .now) _ h ((tabulate .ensures .1 .0) (if3 .taken)) ((tabulate .ensures .1 .1) (if3 .taken)) })
+    let h = sym (tabled-holds (args .table .now) (args .full .now) _ pre (tabulate .ensures .0)) ∙ (if3 .taken) in (areas-fit (args .table .now) (args .room) 0 (if1 .left) (if2 .left) h, λ z. record { long = (if1 .left); enough = (if2 .left); holds = h; marked = marked (args .table .now) _ h ((tabulate .ensures .1 .0) (if3 .taken)) ((tabulate .ensures .1 .1 .0) (if3 .taken)) })
 
 returns-4 : tie.Need-returns-4
 returns-4 c =

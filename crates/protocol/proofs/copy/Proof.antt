@@ -1,4 +1,4 @@
--- `protocol::copy` meets its contract: after i turns the first i words are the area's and the others as they were.
+-- `protocol::copy` meets its contract: after i turns the first i words are the area's.
 use Prim.Native.Nat.{_≤_, _-_}
 use mathlib.Core.Path.{_≡_, refl}
 use lib.ListN.{length, getD}

@@ -14,14 +14,14 @@ use Rattle.protocol.proofs.tabulate.Tie as tie
 returns : tie.Need-returns
 returns c =
     let if1 = c .if1 in
-    (rw (ne-eqb _ _ (if1 .taken)), (λ z. clash {b = false} z refl, λ z. clash {b = false} z refl))
+    (rw (ne-eqb _ _ (if1 .taken)), (λ z. clash {b = false} z refl, (λ z. clash {b = false} z refl, λ z. refl)))
 
 returns-2 : tie.Need-returns-2
 returns-2 c =
     let if1 = c .before .before .if1 in
     let frame-fits = c .before .frame-fits in
     let if2 = c .if2 in
-    (rw (eq-eqb _ _ (if1 .left)) (no-frame _ (sym (frame-fits .ensures) ∙ not-true _ (if2 .taken)) ∙ tested-holds _), (λ z. clash {b = false} z refl, λ z. clash {b = false} z refl))
+    (rw (eq-eqb _ _ (if1 .left)) (no-frame _ (sym (frame-fits .ensures) ∙ not-true _ (if2 .taken)) ∙ tested-holds _), (λ z. clash {b = false} z refl, (λ z. clash {b = false} z refl, λ z. refl)))
 
 copy-requires : tie.Need-copy-requires
 copy-requires c κs =
@@ -47,7 +47,7 @@ returns-3 c =
     let if2 = c .before .before .before .before .before .before .before .before .if2 in
     let if1 = c .before .before .before .before .before .before .before .before .before .before .if1 in
     let fill = c .before .before .fill in
-    let holds = copied-holds (args .area .now) (copy .last .1 .0) (sym (frame-fits .ensures) ∙ not-false _ (if2 .left)) ((copy .kept .1 .0) ∙ (if1 .left)) (copy .ensures) _ (fill .ensures .0) in let ready = copied-fillable (args .area .now) (copy .last .1 .0) (sym (frame-fits .ensures) ∙ not-false _ (if2 .left)) ((copy .kept .1 .0) ∙ (if1 .left)) (copy .ensures) in (rw (eq-eqb _ _ (if1 .left)) holds, (λ z. (fill .ensures .1) _ (ready (sym holds ∙ z)) .0, λ z. (fill .ensures .1) _ (ready (sym holds ∙ z)) .1))
+    let holds = copied-holds (args .area .now) (copy .last .1 .0) (sym (frame-fits .ensures) ∙ not-false _ (if2 .left)) ((copy .kept .1 .0) ∙ (if1 .left)) (copy .ensures) _ (fill .ensures .0) in let ready = copied-fillable (args .area .now) (copy .last .1 .0) (sym (frame-fits .ensures) ∙ not-false _ (if2 .left)) ((copy .kept .1 .0) ∙ (if1 .left)) (copy .ensures) in (rw (eq-eqb _ _ (if1 .left)) holds, (λ z. (fill .ensures .1) _ (ready (sym holds ∙ z)) .0, (λ z. (fill .ensures .1) _ (ready (sym holds ∙ z)) .1, λ z. clash (rw (eq-eqb _ _ (if1 .left)) (sym (frame-fits .ensures) ∙ not-false _ (if2 .left))) z)))
 
 pub tabulate-spec : {M : Type 1} → statement M
 tabulate-spec =

@@ -14,7 +14,7 @@ returns c =
     let process = c .before .before .before .before .before .before .before .before .before .process in
     let peer = c .before .before .before .before .before .before .before .before .peer in
     let send-noted = c .before .before .before .before .send-noted in
-    word-send (args .procs) (args .e) (args .full .now) (args .work .now) _ _ _ (sym (top .ensures) ∙ (if1 .taken)) (rw ((process .ensures .0), (peer .ensures .0)) at (send-noted .ensures))
+    word-send (args .procs) (args .e) (args .full .now) (args .work .now) _ _ _ (sym (top .ensures) ∙ (if1 .taken)) (rw ((process .ensures .0), (peer .ensures .0)) at (send-noted .ensures .0), rw ((process .ensures .0), (peer .ensures .0)) at (send-noted .ensures .1 .1))
 
 returns-2 : tie.Need-returns-2
 returns-2 c =
@@ -39,7 +39,7 @@ returns-4 c =
     let process = c .before .before .before .before .before .before .before .before .before .before .before .before .before .before .process in
     let peer = c .before .before .before .before .before .before .before .before .before .before .before .before .before .peer in
     let recv-noted = c .before .before .before .before .recv-noted in
-    word-recv (args .procs) (args .e) (args .full .now) (args .work .now) _ _ _ (λ q. (if1 .left) ((top .ensures) ∙ q)) (omega arith) (omega arith) (sym (top .ensures) ∙ (if4 .taken)) (rw ((process .ensures .0), (peer .ensures .0)) at (recv-noted .ensures))
+    word-recv (args .procs) (args .e) (args .full .now) (args .work .now) _ _ _ (λ q. (if1 .left) ((top .ensures) ∙ q)) (omega arith) (omega arith) (sym (top .ensures) ∙ (if4 .taken)) (rw ((process .ensures .0), (peer .ensures .0)) at (recv-noted .ensures .0), rw ((process .ensures .0), (peer .ensures .0)) at (recv-noted .ensures .1 .1))
 
 returns-5 : tie.Need-returns-5
 returns-5 c =
@@ -51,7 +51,7 @@ returns-5 c =
     let if5 = c .before .before .before .before .before .before .before .if5 in
     let process = c .before .before .before .before .before .before .before .before .before .before .before .before .before .before .before .before .process in
     let save-noted = c .before .before .before .before .save-noted in
-    word-save (args .procs) (args .e) (args .full .now) (args .work .now) _ _ _ (λ q. (if1 .left) ((top .ensures) ∙ q)) (omega arith) (omega arith) (λ q. (if4 .left) ((top .ensures) ∙ q)) (sym (above .ensures) ∙ (if5 .taken)) (rw ((process .ensures .0)) at (save-noted .ensures))
+    word-save (args .procs) (args .e) (args .full .now) (args .work .now) _ _ _ (λ q. (if1 .left) ((top .ensures) ∙ q)) (omega arith) (omega arith) (λ q. (if4 .left) ((top .ensures) ∙ q)) (sym (above .ensures) ∙ (if5 .taken)) (rw ((process .ensures .0)) at (save-noted .ensures .0), rw ((process .ensures .0)) at (save-noted .ensures .1 .1))
 
 returns-6 : tie.Need-returns-6
 returns-6 c =
@@ -74,7 +74,7 @@ returns-7 c =
     let if6 = c .before .before .before .before .before .before .before .if6 in
     let process = c .before .before .before .before .before .before .before .before .before .before .before .before .before .before .before .before .before .process in
     let done-noted = c .before .before .before .before .done-noted in
-    word-done (args .procs) (args .e) (args .full .now) (args .work .now) _ _ _ (λ q. (if1 .left) ((top .ensures) ∙ q)) (omega arith) (omega arith) (λ q. (if4 .left) ((top .ensures) ∙ q)) (sym (above .ensures) ∙ (if6 .left)) (rw ((process .ensures .0)) at (done-noted .ensures))
+    word-done (args .procs) (args .e) (args .full .now) (args .work .now) _ _ _ (λ q. (if1 .left) ((top .ensures) ∙ q)) (omega arith) (omega arith) (λ q. (if4 .left) ((top .ensures) ∙ q)) (sym (above .ensures) ∙ (if6 .left)) (rw ((process .ensures .0)) at (done-noted .ensures .0), rw ((process .ensures .0)) at (done-noted .ensures .1 .1))
 
 pub word-noted-spec : {M : Type 1} → statement M
 word-noted-spec =

@@ -1,4 +1,4 @@
--- The listed events of a run, and how they are told by words. No public contract cites these.
+-- The listed events of a run, and how they are told by words. No contract of a function that users call cites these.
 use Prim.Native.Nat.{ℕ, _+_}
 use mathlib.Core.Bool.{Bool}
 use mathlib.Core.List.{List}

@@ -1,4 +1,4 @@
--- What the code tests, one word after another. No public contract cites these.
+-- What the code tests, one word after another. No contract of a function that users call cites these.
 use Prim.Native.Nat.{ℕ, zero, suc, _+_, _-_, _<_, _≤_}
 use mathlib.Core.List.{List, [], _∷_, _++_}
 use mathlib.Core.Bool.{Bool, true, _&&_}

@@ -1,6 +1,8 @@
 -- `text::long` meets its contract: the digits so far are the number so far, which is not 0.
 use Prim.Native.Nat.{_-_, _<_, _≤_}
+use mathlib.Core.Path.{sym, _∙_}
 use lib.ListN.{length}
+use borrow.Author.Tests.{not-true}
 use Rattle.text.specs.Number.{decimal}
 use Rattle.text.specs.Inner.Standing.{Stands}
 use Rattle.text.proofs.Numbers.{digit-so, digit-bounds}
@@ -11,7 +13,7 @@ use Rattle.text.proofs.long.Statement.{statement}
 use Rattle.text.proofs.long.Tie as tie
 
 abbrev Inv-loop : tie.InvT-loop
-Inv-loop text at first v₀ i₀ v i = (0 < v) × (v ≤ 18446744073709551615) × Stands text at (decimal v) i
+Inv-loop text at first v₀ i₀ v i = (0 < v) × (v ≤ 9999999999999999999) × Stands text at (decimal v) i
 
 abbrev μ-loop : tie.MeasureT-loop
 μ-loop text at first v₀ i₀ v i = length text - i
@@ -34,6 +36,12 @@ sub-v c =
     let if1 = c .if1 in
     omega (arith, digit-bounds _ _ (is-digit .ensures) (if1 .left))
 
+returns : tie.Need-returns Inv-loop μ-loop
+returns c =
+    let is-digit = c .before .is-digit in
+    let if1 = c .if1 in
+    sym (is-digit .ensures) ∙ not-true _ (if1 .taken)
+
 returns-2 : tie.Need-returns-2 Inv-loop μ-loop
 returns-2 c =
     let is-digit = c .before .before .is-digit in
@@ -49,7 +57,7 @@ loop-holds c =
 shared-slice-read-next : tie.Need-shared-slice-read-next Inv-loop μ-loop
 shared-slice-read-next c =
     let loop = c .before .before .loop in
-    omega (arith, decimal-near _ _ _ _ (loop .inv .2))
+    omega (arith, decimal-near _ _ _ _ (loop .inv .1) (loop .inv .2))
 
 cast-next : tie.Need-cast-next Inv-loop μ-loop
 cast-next c =
@@ -60,7 +68,7 @@ cast-next c =
 returns-3 : tie.Need-returns-3 Inv-loop μ-loop
 returns-3 c =
     let loop = c .before .before .before .before .loop in
-    ((loop .inv .2), (loop .inv .1), decimal-near _ _ _ _ (loop .inv .2))
+    ((loop .inv .2), (loop .inv .1), decimal-near _ _ _ _ (loop .inv .1) (loop .inv .2))
 
 cast-v-2 : tie.Need-cast-v-2 Inv-loop μ-loop
 cast-v-2 c =
@@ -84,26 +92,26 @@ add-i-2 : tie.Need-add-i-2 Inv-loop μ-loop
 add-i-2 c =
     let good = c .before .before .before .before .before .before .before .before .before .before .good in
     let loop = c .before .before .before .before .loop in
-    omega (arith, good, decimal-near _ _ _ _ (loop .inv .2))
+    omega (arith, good, decimal-near _ _ _ _ (loop .inv .1) (loop .inv .2))
 
 loop-less : tie.Need-loop-less Inv-loop μ-loop
 loop-less c =
     let loop = c .before .before .before .before .loop in
-    omega (arith, decimal-near _ _ _ _ (loop .inv .2))
+    omega (arith, decimal-near _ _ _ _ (loop .inv .1) (loop .inv .2))
 
 loop-again : tie.Need-loop-again Inv-loop μ-loop
 loop-again c =
     let is-digit2 = c .before .is-digit2 in
     let if3 = c .if3 in
     let loop = c .before .before .before .before .loop in
-    (omega (arith, digit-bounds _ _ (is-digit2 .ensures) (if3 .left)), omega (arith, digit-bounds _ _ (is-digit2 .ensures) (if3 .left)), push-stands _ _ _ _ (loop .inv .2) (loop .inv .0) (omega (arith, decimal-near _ _ _ _ (loop .inv .2))) (digit-so _ _ (is-digit2 .ensures) (if3 .left)) (omega arith))
+    (omega (arith, digit-bounds _ _ (is-digit2 .ensures) (if3 .left)), omega (arith, digit-bounds _ _ (is-digit2 .ensures) (if3 .left)), push-stands _ _ _ _ (loop .inv .2) (loop .inv .0) (omega (arith, decimal-near _ _ _ _ (loop .inv .1) (loop .inv .2))) (digit-so _ _ (is-digit2 .ensures) (if3 .left)) (omega arith))
 
 returns-4 : tie.Need-returns-4 Inv-loop μ-loop
 returns-4 c =
     let loop = c .before .loop in
-    ((loop .inv .2), (loop .inv .1), decimal-near _ _ _ _ (loop .inv .2))
+    ((loop .inv .2), (loop .inv .1), decimal-near _ _ _ _ (loop .inv .1) (loop .inv .2))
 
 pub long-spec : {M : Type 1} → statement M
 long-spec =
     tie.close
-    (tie.spec Inv-loop μ-loop (λ c. search needs) cast-first (λ c κs. search needs) (λ c. search needs) cast-v sub-v (λ c. search needs) returns-2 loop-holds shared-slice-read-next cast-next (λ c κs. search needs) returns-3 (λ c. omega arith) cast-v-2 add-v sub-v-2 add-i-2 loop-less loop-again returns-4)
+    (tie.spec Inv-loop μ-loop (λ c. search needs) cast-first (λ c κs. search needs) returns cast-v sub-v (λ c. search needs) returns-2 loop-holds shared-slice-read-next cast-next (λ c κs. search needs) returns-3 (λ c. omega arith) cast-v-2 add-v sub-v-2 add-i-2 loop-less loop-again returns-4)

@@ -1,5 +1,5 @@
--- Several bytes looked at together, as one number. No public contract cites these. Quotations are from the
--- requirements.
+-- Several bytes looked at together, as one number. No contract of a function that users call cites these. Quotations
+-- are from the requirements.
 use Prim.Native.Nat.{ℕ, suc, zero, _+_, _*_, _/_, _%_, _^_, _<_}
 use mathlib.Core.Path.{_≡_}
 use mathlib.Core.List.{List, [], _∷_}
