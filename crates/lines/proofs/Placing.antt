@@ -21,7 +21,7 @@ use Rattle.trace.specs.declared.Event.the-variants.{Send, Recv}
 use Rattle.lines.specs.declared.Line.{Line}
 use Rattle.lines.specs.declared.Placed.{Placed}
 use Rattle.lines.specs.declared.Placed.the-variants.{Said, Missing}
-use Rattle.lines.specs.Line.{kSend, kTo, kVal, kRecv, kFrom, most, lineSaid}
+use Rattle.lines.specs.Line.{kSend, kTo, kVal, kRecv, kFrom, most, mostValue, lineSaid}
 use Rattle.lines.specs.Render.{renderEvent, KeysHold}
 use Rattle.lines.specs.Inner.Placing.{whereEnded, nextLine, Known}
 use Rattle.lines.proofs.OneLine.{lineFor, event-line}
@@ -100,11 +100,11 @@ module _ (text : List ℕ) (at : ℕ) where
           event-from (Recv a b) q (omega (arith, sa .1), omega (arith, sb .1)) (stands-then text (stands-then text (stands-then text s (sa .0)) f) (sb .0)) h lf
 
       pub send-from : (v r : ℕ) → Stands text at kSend (at + 11) → Stands text p kTo (p + 4) → NumberStands text (p + 4) 99 2 b q
-          → Stands text q kVal (q + 5) → NumberStands text (q + 5) 9999999999999999999 19 v r
+          → Stands text q kVal (q + 5) → NumberStands text (q + 5) mostValue 20 v r
           → r < length text → getD text r 0 ≡ 10 → Said (lineFor (Send a b v)) (r + 1) ≡ nextLine text at
       unfolding renderEvent
       send-from v r s t sb u sv h lf =
-          event-from (Send a b v) r (omega (arith, sa .1), omega (arith, sb .1), omega (arith, sv .1))
+          event-from (Send a b v) r (omega (arith, sa .1), omega (arith, sb .1), sv .1)
           (stands-then text (stands-then text (stands-then text (stands-then text (stands-then text s (sa .0)) t) (sb .0)) u) (sv .0)) h lf
 
 -- the keys between, over what the code has compared

@@ -10,13 +10,15 @@ use lib.ListN.{length, getD, drop, length-append, length-drop, drop-of-length-le
 use lib.Seq.{drop-cons, drop-drop, drop-append-seam}
 use borrow.Author.Tests.{ltb-true}
 use Rattle.words.proofs.Cases.{by-lt, and-left, and-right}
-use Rattle.text.specs.Number.{isDigit, lastDigits, decimal}
+use Rattle.text.specs.Number.{isDigit, pushed, lastDigits, decimal}
 use Rattle.text.specs.Key.{startsWith}
 use Rattle.text.specs.Inner.Blocks.{packed}
 use Rattle.text.specs.declared.Num.{Num}
 use Rattle.text.specs.declared.Num.the-variants.{Value}
+use Rattle.text.specs.declared.Pushed.{Pushed}
+use Rattle.text.specs.declared.Pushed.the-variants.{Fits, Over}
 use Rattle.text.specs.Inner.Standing.{Stands, NumberStands, Written}
-use Rattle.text.proofs.Numbers.{digit-low, digit-high, last-small, last-more, room-more, last-push}
+use Rattle.text.proofs.Numbers.{digit-low, digit-high, pushed-fits, pushed-over, last-small, last-more, room-more, last-push}
 use Rattle.text.proofs.Keys.{key-split}
 use Rattle.text.proofs.Blocks.{Bytes, bytes-from, starts-packed}
 
@@ -28,6 +30,11 @@ last-length (suc r) v =
     by-lt v 10
     (λ l. rw (last-small r v l) (omega arith))
     (λ g. rw (last-more r v g, length-append) (omega (arith, last-length r (v / 10))))
+
+-- a value with one more digit, where it fits: its decimal stands there up to q
+abbrev Fitted : List ℕ → ℕ → ℕ → ℕ → Pushed → Type 0
+Fitted text at bound q (Fits w) = Stands text at (decimal w) q × (w ≤ bound)
+Fitted text at bound q Over = Unit
 
 -- seen by computation of a key: its words are bytes
 unfoldable pub allBytes : List ℕ → Bool
@@ -73,6 +80,18 @@ module _ (text : List ℕ) where
       let e : 48 + (b - 48) ≡ b = omega (arith, digit-low b d) in
       let w : v * 10 + b - 48 ≡ v * 10 + (b - 48) = omega (arith, digit-low b d) in
       rw (w, last-push 18 v (b - 48) z (omega (arith, digit-high b d)) (omega (arith, digit-high b d)), e) (stands-then s (byte-stands p b h refl))
+
+  -- the same where the digit may be too many, over the answer that the code has
+  pub fitted : (at v p bound : ℕ) → Stands text at (decimal v) p → 0 < v → p < length text → isDigit (getD text p 0) ≡ true → v < 10 ^ 19
+      → (n : Pushed) (w : ℕ) → n ≡ pushed v (getD text p 0) bound → n ≡ Fits w → Stands text at (decimal w) (p + 1) × (w ≤ bound)
+  fitted at v p bound s z h d l n w q e =
+      let b = getD text p 0 in
+      let x : v * 10 + b - 48 ≡ v * 10 + (b - 48) = omega (arith, digit-low b d) in
+      let more : Stands text at (decimal (v * 10 + (b - 48))) (p + 1) =
+      subst (λ (y : ℕ). Stands text at (decimal y) (p + 1)) x (push-stands at v p s z h d l) in
+      let fits : Fitted text at bound (p + 1) (pushed v b bound) =
+      by-lt bound (v * 10 + (b - 48)) (λ o. rw (pushed-over v b bound o) tt) (λ g. rw (pushed-fits v b bound g) (more, g)) in
+      subst (Fitted text at bound (p + 1)) (sym q ∙ e) fits
 
   -- a number that was found, over the answer that the code has
   pub found : (at most room : ℕ) (begins : Bool) (n : Num) (v p : ℕ) → Written text at most room begins n → n ≡ Value v p → NumberStands text at most room v p

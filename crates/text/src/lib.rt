@@ -227,10 +227,11 @@ pub fn short(text: &[u8], at: usize) -> Num
     Num::Value(10 * (first as u64) + second as u64 - 528, at + 2)
 }
 
-// A number of up to 19 digits, each of which 64 bits have room for; none where no digit stands there.
+// A number of up to 20 digits that 64 bits have room for; none where no digit stands there. The 20th may be too
+// large: then it is left to the caller, behind the number of 19.
 pub fn long(text: &[u8], at: usize) -> Num
-    requires { ⌜ at + 20 ≤ length (now text) ⌝ }
-    ensures { λ r. ⌜ Written (now (text .entry)) at 9999999999999999999 19 (isDigit (getD (now (text .entry)) at 0)) r ⌝ }
+    requires { ⌜ at + 21 ≤ length (now text) ⌝ }
+    ensures { λ r. ⌜ Written (now (text .entry)) at 18446744073709551615 20 (isDigit (getD (now (text .entry)) at 0)) r ⌝ }
 {
     let first = text[at] as u16;
     if !is_digit(first) {
@@ -249,7 +250,14 @@ pub fn long(text: &[u8], at: usize) -> Num
         v = v * 10 + next as u64 - 48;
         i += 1;
     }
-    Num::Value(v, i)
+    let last = text[i] as u16;
+    if !is_digit(last) {
+        return Num::Value(v, i);
+    }
+    let Pushed::Fits(w) = push(v, last, 18446744073709551615) else {
+        return Num::Value(v, i);
+    };
+    Num::Value(w, i + 1)
 }
 
 // Whether the rest of a key, from its byte `from` on, stands in the text where the whole key would stand at a place;

@@ -3,6 +3,7 @@ use Prim.Native.Nat.{_+_}
 use Rattle.text.specs.Inner.Blocks.{packed}
 use Rattle.text.proofs.Blocks.{Bytes}
 use Rattle.text.proofs.Standing.{found}
+use Rattle.lines.specs.Line.{mostValue}
 use Rattle.lines.proofs.Placing.{to-stands, val-stands, send-from}
 use native.Mathlib.Omega.{arith}
 use borrow.Author.Needs.{needs}
@@ -96,7 +97,7 @@ shared-slice-read-if4 c =
     let b = c .before .before .before .before .before .before .before .before .before .before .b in
     let long = c .before .before .before .before .long in
     let v = c .before .before .v in
-    omega (arith, (pre .0), (found (args .text .now) ((args .at) + 11) 99 2 _ _ _ _ (short .ensures) (a .given .1)) .2, (found (args .text .now) ((a .given .0 .1 .0) + 4) 99 2 _ _ _ _ (short2 .ensures) (b .given .1)) .2, (found (args .text .now) ((b .given .0 .1 .0) + 5) 9999999999999999999 19 _ _ _ _ (long .ensures) (v .given .1)) .2)
+    omega (arith, (pre .0), (found (args .text .now) ((args .at) + 11) 99 2 _ _ _ _ (short .ensures) (a .given .1)) .2, (found (args .text .now) ((a .given .0 .1 .0) + 4) 99 2 _ _ _ _ (short2 .ensures) (b .given .1)) .2, (found (args .text .now) ((b .given .0 .1 .0) + 5) mostValue 20 _ _ _ _ (long .ensures) (v .given .1)) .2)
 
 add-t10 : tie.Need-add-t10
 add-t10 c =
@@ -109,7 +110,7 @@ add-t10 c =
     let b = c .before .before .before .before .before .before .before .before .before .before .before .b in
     let long = c .before .before .before .before .before .long in
     let v = c .before .before .before .v in
-    omega (arith, good, (pre .0), (found (args .text .now) ((args .at) + 11) 99 2 _ _ _ _ (short .ensures) (a .given .1)) .2, (found (args .text .now) ((a .given .0 .1 .0) + 4) 99 2 _ _ _ _ (short2 .ensures) (b .given .1)) .2, (found (args .text .now) ((b .given .0 .1 .0) + 5) 9999999999999999999 19 _ _ _ _ (long .ensures) (v .given .1)) .2)
+    omega (arith, good, (pre .0), (found (args .text .now) ((args .at) + 11) 99 2 _ _ _ _ (short .ensures) (a .given .1)) .2, (found (args .text .now) ((a .given .0 .1 .0) + 4) 99 2 _ _ _ _ (short2 .ensures) (b .given .1)) .2, (found (args .text .now) ((b .given .0 .1 .0) + 5) mostValue 20 _ _ _ _ (long .ensures) (v .given .1)) .2)
 
 returns-8 : tie.Need-returns-8
 unfolding packed
@@ -132,7 +133,7 @@ returns-8 c =
     let bytes : Bytes (args .text .now) = λ i. omega (arith, (shared-slice-known .given) i) in
     let sa = found (args .text .now) ((args .at) + 11) 99 2 _ _ _ _ (short .ensures) (a .given .1) in
     let sb = found (args .text .now) ((a .given .0 .1 .0) + 4) 99 2 _ _ _ _ (short2 .ensures) (b .given .1) in
-    let sv = found (args .text .now) ((b .given .0 .1 .0) + 5) 9999999999999999999 19 _ _ _ _ (long .ensures) (v .given .1) in
+    let sv = found (args .text .now) ((b .given .0 .1 .0) + 5) mostValue 20 _ _ _ _ (long .ensures) (v .given .1) in
     let to = to-stands (args .text .now) (a .given .0 .1 .0) _ bytes (omega (arith, (pre .0), sa .2)) (four .ensures) (if1 .left) in
     let val = val-stands (args .text .now) (b .given .0 .1 .0) _ bytes (omega (arith, (pre .0), sa .2, sb .2)) (four2 .ensures) (if2 .left) (if3 .left) in
     send-from _ _ _ _ sa _ _ _ _ (pre .1) to sb val sv (omega (arith, (pre .0), sa .2, sb .2, sv .2)) (if4 .left)

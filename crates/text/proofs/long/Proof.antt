@@ -1,4 +1,5 @@
--- `text::long` meets its contract: the digits so far are the number so far, which is not 0.
+-- `text::long` meets its contract: the digits so far are the number so far, which is not 0; one more digit
+-- is pushed where it fits.
 use Prim.Native.Nat.{_-_, _<_, _≤_}
 use mathlib.Core.Path.{sym, _∙_}
 use lib.ListN.{length}
@@ -6,7 +7,7 @@ use borrow.Author.Tests.{not-true}
 use Rattle.text.specs.Number.{decimal}
 use Rattle.text.specs.Inner.Standing.{Stands}
 use Rattle.text.proofs.Numbers.{digit-so, digit-bounds}
-use Rattle.text.proofs.Standing.{decimal-near, digit-stands, push-stands}
+use Rattle.text.proofs.Standing.{decimal-near, digit-stands, push-stands, fitted}
 use native.Mathlib.Omega.{arith}
 use borrow.Author.Needs.{needs}
 use Rattle.text.proofs.long.Statement.{statement}
@@ -68,7 +69,7 @@ cast-next c =
 returns-3 : tie.Need-returns-3 Inv-loop μ-loop
 returns-3 c =
     let loop = c .before .before .before .before .loop in
-    ((loop .inv .2), (loop .inv .1), decimal-near _ _ _ _ (loop .inv .1) (loop .inv .2))
+    ((loop .inv .2), omega (arith, (loop .inv .1)), omega (arith, decimal-near _ _ _ _ (loop .inv .1) (loop .inv .2)))
 
 cast-v-2 : tie.Need-cast-v-2 Inv-loop μ-loop
 cast-v-2 c =
@@ -106,12 +107,50 @@ loop-again c =
     let loop = c .before .before .before .before .loop in
     (omega (arith, digit-bounds _ _ (is-digit2 .ensures) (if3 .left)), omega (arith, digit-bounds _ _ (is-digit2 .ensures) (if3 .left)), push-stands _ _ _ _ (loop .inv .2) (loop .inv .0) (omega (arith, decimal-near _ _ _ _ (loop .inv .1) (loop .inv .2))) (digit-so _ _ (is-digit2 .ensures) (if3 .left)) (omega arith))
 
+shared-slice-read-last : tie.Need-shared-slice-read-last Inv-loop μ-loop
+shared-slice-read-last c =
+    let loop = c .before .before .loop in
+    omega (arith, decimal-near _ _ _ _ (loop .inv .1) (loop .inv .2))
+
+cast-last : tie.Need-cast-last Inv-loop μ-loop
+cast-last c =
+    let shared-slice-known4 = c .shared-slice-known4 in
+    let loop = c .before .before .loop in
+    omega (arith, (shared-slice-known4 .given) (loop .i))
+
 returns-4 : tie.Need-returns-4 Inv-loop μ-loop
 returns-4 c =
-    let loop = c .before .loop in
-    ((loop .inv .2), (loop .inv .1), decimal-near _ _ _ _ (loop .inv .1) (loop .inv .2))
+    let loop = c .before .before .before .before .loop in
+    ((loop .inv .2), omega (arith, (loop .inv .1)), omega (arith, decimal-near _ _ _ _ (loop .inv .1) (loop .inv .2)))
+
+push-requires : tie.Need-push-requires Inv-loop μ-loop
+push-requires c κs =
+    let is-digit3 = c .before .is-digit3 in
+    let if4 = c .if4 in
+    digit-so _ _ (is-digit3 .ensures) (if4 .left)
+
+returns-5 : tie.Need-returns-5 Inv-loop μ-loop
+returns-5 c =
+    let loop = c .before .before .before .before .before .before .before .loop in
+    ((loop .inv .2), omega (arith, (loop .inv .1)), omega (arith, decimal-near _ _ _ _ (loop .inv .1) (loop .inv .2)))
+
+add-t23 : tie.Need-add-t23 Inv-loop μ-loop
+add-t23 c =
+    let good = c .before .before .before .before .before .before .before .before .before .before .before .before .before .before .good in
+    let loop = c .before .before .before .before .before .before .before .before .loop in
+    omega (arith, good, decimal-near _ _ _ _ (loop .inv .1) (loop .inv .2))
+
+returns-6 : tie.Need-returns-6 Inv-loop μ-loop
+returns-6 c =
+    let loop = c .before .before .before .before .before .before .before .before .loop in
+    let is-digit3 = c .before .before .before .before .before .is-digit3 in
+    let if4 = c .before .before .before .before .if4 in
+    let push = c .before .before .before .push in
+    let w = c .before .w in
+    let more = fitted _ _ _ _ 18446744073709551615 (loop .inv .2) (loop .inv .0) (omega (arith, decimal-near _ _ _ _ (loop .inv .1) (loop .inv .2))) (digit-so _ _ (is-digit3 .ensures) (if4 .left)) (omega (arith, (loop .inv .1))) _ _ (push .ensures) (w .given .1) in
+    (more .0, more .1, omega (arith, decimal-near _ _ _ _ (loop .inv .1) (loop .inv .2)))
 
 pub long-spec : {M : Type 1} → statement M
 long-spec =
     tie.close
-    (tie.spec Inv-loop μ-loop (λ c. search needs) cast-first (λ c κs. search needs) returns cast-v sub-v (λ c. search needs) returns-2 loop-holds shared-slice-read-next cast-next (λ c κs. search needs) returns-3 (λ c. omega arith) cast-v-2 add-v sub-v-2 add-i-2 loop-less loop-again returns-4)
+    (tie.spec Inv-loop μ-loop (λ c. search needs) cast-first (λ c κs. search needs) returns cast-v sub-v (λ c. search needs) returns-2 loop-holds shared-slice-read-next cast-next (λ c κs. search needs) returns-3 (λ c. omega arith) cast-v-2 add-v sub-v-2 add-i-2 loop-less loop-again shared-slice-read-last cast-last (λ c κs. search needs) returns-4 push-requires (λ c. search needs) (λ c. search needs) returns-5 add-t23 returns-6)
