@@ -4,32 +4,21 @@ use mathlib.Core.Bool.{Bool, true, false, not}
 use mathlib.Core.List.{List}
 use Prim.Native.Nat.{ℕ, _+_, _-_, _*_, _%_, _≤_, _<_}
 use native.Mathlib.Omega.{arith}
-use lib.ListN.{length-set, getD, set}
-use Rattle.words.specs.Area.{areaWords}
-use lib.Seq.{getD-set-same, getD-set-other}
+use lib.ListN.{getD, set}
+use lib.Seq.{getD-set-other}
 use borrow.Author.Tests.{lt-ltb, le-ltb, eq-eqb, ne-eqb}
 use lib.Dec.{eqb}
 use Rattle.words.proofs.Cases.{by-lt, by-eq, clash}
 use Rattle.sets.specs.Inner.Sets.{withIn}
 use Rattle.sets.proofs.Sets.{none-in, with-members}
-use Rattle.machine.specs.Inner.Words.{currentBase, orphanBase, takeBase, putBase, lowPlace, curW, orpW, takeW, putW, sendOk, eventOk, movedW, dropW, putInW, takeOutW, eventStepW, processW, applyW, wakesAt, wakes, Bounded, Small}
-use Rattle.machine.specs.Inner.Shapes.{Pointed, Aimed}
+use Rattle.machine.specs.Inner.Words.{currentBase, orphanBase, takeBase, putBase, lowPlace, curW, orpW, takeW, putW, sendOk, eventOk, movedW, dropW, putInW, takeOutW, eventStepW, processW, applyW, wakesAt, wakes}
+use Rattle.machine.specs.Inner.Shapes.{Aimed}
 use Rattle.machine.specs.Inner.Tree.{Treed}
 use Rattle.machine.proofs.Noted.{noted-other}
 use Rattle.machine.proofs.Steps.{event-send, event-recv, event-other}
 use Rattle.machine.proofs.Tree.{tree-low, treed-same}
 use Rattle.columns.specs.Inner.Full.{procsW, kindW, peerW}
 use Rattle.moves.specs.Inner.Tried.{Tried}
-
--- a new pointer is an event
-pub pointed-set : (l a : List ℕ) (k j : ℕ) → Pointed a → Small l → k < areaWords → Pointed (set a k (getD l j 0))
-unfolding Bounded Small
-pointed-set l a k j a-is s h = record {
-  area-long = simp length-set (a-is .area-long);
-  bounded = λ x p q. by-eq x k
-      (λ e. rw (e, getD-set-same a k (getD l j 0) 0 (omega (arith, a-is .area-long))) (s j))
-      (λ n. rw (getD-set-other a k x (getD l j 0) 0 n) (a-is .bounded x p q));
-}
 
 module _ (t l a : List ℕ) (z e k p : ℕ) (ek : k ≡ kindW t e) (ep : p ≡ peerW t e) where
   event-drop : (b : List ℕ) → k ≡ 1 → (o : ℕ) → o ≡ orpW a z → o ≡ e → b ≡ dropW t l a z e → b ≡ eventStepW t l a z e

@@ -48,10 +48,6 @@ module _ (a : List ℕ) (h : holdsTrace a ≡ true) where
   pub held-valid : Valid (held a)
   held-valid = valid (held a) (facts .1)
 
-  pub held-size : size (held a) ≡ getD a 1 0
-  unfolding held
-  held-size = length-held a 1 (getD a 1 0)
-
   pub held-few : size (held a) ≤ 2048
   held-few = well-few (held a) (facts .1)
 

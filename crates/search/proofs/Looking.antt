@@ -91,10 +91,6 @@ module _ (t l h g a₀ : List ℕ) (most : ℕ) where
     pub waiting : Waiting t g a (lowW a) senders
     pub going : (R : Run) (S : Started R t l g a₀) → Going R t l g a₀ S most a i
 
-  pub looking-same : (a b tree tree′ rs rs′ : List ℕ) (m m′ s s′ x x′ k k′ i : ℕ) → b ≡ a → tree′ ≡ tree → rs′ ≡ rs → m′ ≡ m → s′ ≡ s → x′ ≡ x → k′ ≡ k
-      → Looking a tree rs m s x k i → Looking b tree′ rs′ m′ s′ x′ k′ i
-  looking-same a b tree tree′ rs rs′ m m′ s s′ x x′ k k′ i ea et er em es ex ek L = rw (ea, et, er, em, es, ex, ek) L
-
   module _ (Q : Searchable t l h g a₀) where
     abbrev R : Run
     R = Q .run

@@ -1,7 +1,7 @@
 -- Sets of processes as numbers of 64 bits: their first member, the set without it, the set with one more, and what
 -- holds outside of them.
 use mathlib.Core.Path.{_≡_, refl, sym, _∙_, ap}
-use mathlib.Core.Bool.{Bool, true, false, _&&_, _||_, not, and-true, and-false, or-true, or-false}
+use mathlib.Core.Bool.{true, false, _&&_, _||_, not, and-true, and-false, or-true, or-false}
 use Prim.Native.Nat.{ℕ, zero, suc, _-_, _/_, _%_, _^_, min, max, _≤_, _<_}
 use native.Mathlib.Omega.{arith}
 use native.Mathlib.Nat.{pow-zero, pow-suc, div-one, div-self, zero-div}
@@ -196,28 +196,9 @@ or-out m x z o =
 -- ---- What holds outside of a set, while its members are looked at one after another
 
 module _ (P : ℕ → Type 0) where
-  -- of the members looked at, those in a new set may do without it
-  abbrev pub Pruned : ℕ → ℕ → Type 0
-  Pruned some left = (z : ℕ) → z < 64 → inSet left z ≡ false → inSet some z ≡ false → P z
-
-  pub pruned-start : (m : ℕ) → Outside P m → Pruned 0 m
-  pruned-start m h z l o n = h z l o
-
-  pub pruned-end : (some left : ℕ) → left ≡ 0 → Pruned some left → Outside P some
-  pruned-end some left e h z l o = h z l (rw e (none-in z)) o
-
-  pub pruned-or : (some left : ℕ) → Pruned some left → Outside P (bitOr some left)
-  pruned-or some left h z l o = let v = or-out some left z o in h z l (v .1) (v .0)
-
   module _ (left y left′ : ℕ) (p : 0 < left) (l : left < 2 ^ 64) (ey : y ≡ firstIn left) (el : left′ ≡ restOf left) where
     pub rest-outside : P y → Outside P left → Outside P left′
     rest-outside h w z lz o = by-eq z y (λ e. rw e h) (λ n. w z lz (rest-out left p l z (rw el at o) (λ x. n (x ∙ sym ey))))
-
-    pub pruned-next : (some some′ : ℕ) (none : Bool) → ((z : ℕ) → inSet some′ z ≡ false → (inSet some z ≡ false) × (z ≡ y → none ≡ true)) → (none ≡ true → P y)
-        → Pruned some left → Pruned some′ left′
-    pruned-next some some′ none out h w z lz o n = by-eq z y
-        (λ e. rw e (h (out z n .1 e)))
-        (λ x. w z lz (rest-out left p l z (rw el at o) (λ q. x (q ∙ sym ey))) (out z n .0))
 
 pub rest-less : (m : ℕ) → 0 < m → restOf m < m
 unfolding restOf
