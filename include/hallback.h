@@ -36,9 +36,9 @@
 
    Stack: a call keeps its tables on the stack, no more for a large trace than for a small one. With the thread stacks
    named below (HALLBACK_STACK_READ and so on, bytes, for pthread_attr_setstacksize) each call comes through; the gate
-   runs them so (tools/c/stack.c). They are 8 KB more than the least that was measured; 256 KB are enough for all, and
-   the program hallback takes some 480 KB beside its environment. Without enough stack the system ends the program by a
-   signal at the guard page, before anything else is written. */
+   runs them so (tools/c/stack.c). They are at least 8 KB more than the least that was measured; 256 KB are enough for
+   all, and the program hallback takes at most some 480 KB beside its environment. Without enough stack the system ends
+   the program by a signal at the guard page, before anything else is written. */
 #ifndef HALLBACK_H
 #define HALLBACK_H
 
