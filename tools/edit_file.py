@@ -51,42 +51,40 @@ def changed(path):
     return texts
 
 
-# An error of a log, with the lines that go on from it. Of a function without a proof file, whose proof is left to
-# antt's search, the log has no error but a note that names what is not proved.
-ERROR = re.compile(r"^(?:note: )?(\S+:\d+:\d+): (?:error(?:: )?|(?=it is not proved that ))(.*(?:\n  .*)*)", re.M)
+# What rt prints of an edit that it tried: one line, with the first 160 characters of the first error. (It keeps no log.)
+TOLD = re.compile(r"^rt: must-fail (\w+/[\w.-]+)\.edit: (.*)$", re.M)
 
-# Errors that tell nothing: one only follows from another, or a proof finds nothing to rewrite in what it is to prove.
-SILENT = re.compile(r"` was not admitted \(|^`[^`]*`: `(?:rw|simp)`: no ")
+# An edit that was refused, and why that may show nothing: a proof no longer fits the code, or a limit was met.
+REFUSED = re.compile(r"refused, as it must be(?: \((only .*?)\))?(?:: (.*))?$")
 
-# How antt says that something does not hold: two sides that should be the same are not, or no search finds a proof.
+# How the prover says that something does not hold: a goal of a function for which no proof is found, two sides that
+# should be the same and are not, a tactic of a lemma that finds no proof.
 FACT = re.compile(
-    r"the two (?:types|sides) |expected type `|\bdoes not hold\b|`(?:omega|search)`: |"
-    r"^`[^`]*`: give a proof of that as the last argument|^it is not proved that ")
+    r"\bit is not proved that |the two (?:types|sides) |, one side reads `|expected type `|\bdoes not hold\b|"
+    r"`(?:omega|search|grind|simp)`: |: give a proof of that as the last argument")
+
+# A tactic that finds nothing to rewrite in what it is to prove tells nothing.
+SILENT = re.compile(r"`(?:rw|simp)`: no ")
 
 
-def first_error(log):
-    """Where the first error is, as `proofs/f/Proof.antt:12:3`, and what it says: of those that tell something."""
-    errors = ERROR.findall(log)
-    telling = [error for error in errors if not SILENT.search(error[1])]
-    place, said = (telling or errors or [("", "")])[0]
-    within = re.search(r".*/(?:crates/[^/]+|must-fail/[^/]+/[^/]+)/((?:src|specs|proofs)/.*)$", place)
-    return (within.group(1) if within else place), said
+def told(log):
+    """What rt says of each edit in a log of rt ci or rt must-fail, by the edit's name."""
+    return dict(TOLD.findall(log))
 
 
-def unfit(log):
-    """Why the refusal in a log cannot show what the edit is named for, or an empty text where it can.
+def unfit(said):
+    """Why the refusal that rt tells of cannot show what the edit is named for, or an empty text where it can.
 
     That the edited text is wrong, and not only other words for the same, no log can tell: who writes an edit sees to
-    that. It can show it where the first error that tells something stands in a file of proofs/ (or is of a function that has none)
-    and says that something does not hold. It cannot where the edited text does not check at all: the compiler did not ask
-    the prover, or that error stands in src/ or specs/. Nor where a proof no longer fits the code (a module that `has no
-    Need-.. that can be named from here`, a record that `has no field`, a name that is not in scope, something applied
-    to too many arguments, a text that does not parse): such a proof fails whether the edited code is right or wrong.
+    that. It can show it where the first error says that something does not hold. It cannot where the edited text does
+    not check at all (BAD EDIT), nor where a proof file names what the edit took away, which fails whether the edited
+    code is right or wrong, nor where the prover met a limit: of these two rt says so itself.
     """
-    place, said = first_error(log)
-    first = f"{place}: {said[:200]}".splitlines()[0]
-    if not re.search(r"^logic=not-proved", log, re.M):
-        return f"the edited text did not reach the prover; {first}"
-    if not place.startswith("proofs/") and not said.startswith("it is not proved that "):
-        return f"the edited text does not check; {first}"
-    return "" if FACT.search(said) and not SILENT.search(said) else f"the proof does not fit the edited text; {first}"
+    found = REFUSED.match(said)
+    if not found:
+        return said
+    only, first = found.groups()
+    if only:
+        return f"{only.split(', so this says')[0].split(', which gave')[0]}: {first}"
+    first = first or ""
+    return "" if FACT.search(first) and not SILENT.search(first) else f"the first error tells of no fact: {first}"

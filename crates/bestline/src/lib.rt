@@ -8,7 +8,7 @@ use bruteforce::{DONE, Failure, SAVE, STAYS, epoch_by, loses, phases_at};
 // The best line of a failure: the largest number of each process in the lines that lose nothing; the epochs at the cut,
 // and the phases that the processes go on from; how many lines were judged for it; and whether the best is itself one
 // of those that are permitted and lose nothing, and nowhere below the floor.
-#[derive(Drop)]
+#[derive(Clone, Copy)]
 pub struct Best {
     pub line: [u32; 4],
     pub epochs: [u32; 4],

@@ -15,7 +15,7 @@ pub const DONE: u32 = 3;
 pub const STAYS: u32 = 32;
 
 // A trace of `size` events of `count` processes, and a failure of the processes of a set right after event `cut`.
-#[derive(Drop)]
+#[derive(Clone, Copy)]
 pub struct Failure {
     pub count: u32,
     pub events: [u32; 7],

@@ -17,7 +17,7 @@ use machine::{CURRENT_BASE, LOW_PLACE, NO_PHASE, TREE_WORDS};
 
 // What a replay answers: 0, or 11 with the place of the first choice that is not allowed, from 1; how many choices were
 // carried out, and whether no choice is left.
-#[derive(Drop)]
+#[derive(Clone, Copy)]
 pub struct Replayed {
     pub number: u32,
     pub place: usize,

@@ -7,7 +7,7 @@ ghost use Rattle.theory.specs.Line.{in_set, stays_in};
 ghost use Rattle.recovery_line.specs.Given.{line_in, numbers_of, back_of, back_ones};
 
 // A recovery line: for each process the epoch that it restarts in, or STAYS, and how many processes there are.
-#[derive(Drop)]
+#[derive(Clone, Copy)]
 pub struct Line {
     pub epochs: [u32; 64],
     pub count: usize,

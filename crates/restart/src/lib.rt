@@ -16,7 +16,7 @@ use words::AREA_WORDS;
 
 // What a failure asks for: the engine's line, the set of the processes that go back and its size, and of each process
 // its epoch at the cut and its phase at the restart, or at the cut where it stays.
-#[derive(Drop)]
+#[derive(Clone, Copy)]
 pub struct Restarted {
     pub number: u32,
     pub place: usize,

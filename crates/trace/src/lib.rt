@@ -8,7 +8,7 @@ ghost use Rattle.trace.specs.Trace.{value_of};
 ghost use Rattle.trace.specs.Table.{word_of, top_in, kind_in, process_in, peer_in};
 
 // An event of a trace: `ev=send at=A to=B val=V`, `ev=recv at=A from=B`, `ev=save at=A`, `ev=done at=A`.
-#[derive(Drop)]
+#[derive(Clone, Copy)]
 pub enum Event {
     Send { at: u64, to: u64, val: u64 },
     Recv { at: u64, from: u64 },
