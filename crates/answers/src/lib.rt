@@ -1,4 +1,6 @@
 // The engine's answers beside what brute force found: are they the same. Assumes what `libc` assumes.
+#![tactic(auto)]
+
 ghost use Rattle.std.specs.Prelude.{true, ◌≡◌, ◌≤◌};
 ghost use Rattle.bruteforce.specs.Counts.{SmallRun};
 

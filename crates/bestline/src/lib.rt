@@ -1,5 +1,7 @@
 // Every line of two or three processes, and the best of those that lose nothing, by trying them all. It names nothing
 // of the engine. Assumes nothing.
+#![tactic(auto)]
+
 ghost use Rattle.std.specs.Prelude.{◌≡◌, ◌+◌, ◌≤◌, ◌<◌};
 ghost use Rattle.bruteforce.specs.Counts.{SmallRun, spare};
 

@@ -2,6 +2,8 @@
 // epochs are finished, what a line loses, which phases and steps there are, worked out from the few events alone, by
 // counting them anew in the words of those rules. It names nothing of the engine: gate programs hold the engine to it.
 // Assumes nothing.
+#![tactic(auto)]
+
 mod events;
 mod rules;
 

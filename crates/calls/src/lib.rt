@@ -1,6 +1,8 @@
 // Calls of the library that rows of text name, carried out and printed: a trace, and a row for each call, of the name,
 // the call, the step, the set, the line's numbers, the choices and a remark. Proved safe and ending; what is printed no
 // contract can say. Assumes what `libc` assumes.
+#![tactic(auto)]
+
 ghost use Rattle.std.specs.Prelude.{◌+◌, ◌≤◌, length};
 ghost use Rattle.io.specs.Counts.{IsPrefixLen};
 

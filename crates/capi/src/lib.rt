@@ -1,6 +1,8 @@
 // The library for C and Rust: its public functions under plain names, numbers and slices only (include/hallback.h).
 // Each returns the number of the refusal, or 0, and writes the rest of its answer into a lent slice, as far as that has
 // room (specs/Answers). No function has a `requires`. Assumes nothing.
+#![tactic(auto)]
+
 ghost use Rattle.std.specs.Prelude.{◌≡◌, ◌+◌, ◌≤◌, [], ◌∷◌, length, get_or, cond};
 ghost use Rattle.writer.specs.Inner.Puts.{Puts};
 ghost use Rattle.writer.specs.Buffer.{room, written};

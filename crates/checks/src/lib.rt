@@ -1,6 +1,8 @@
 // What gate programs share: the rows of their cases taken apart, rows of results put together and printed, and two
 // areas compared. Each function says what it does by a definition of specs/Inner, for every input; no public function
 // has a `requires`. What reaches standard output no contract can say. Assumes what `libc` assumes.
+#![tactic(auto)]
+
 ghost use Rattle.std.specs.Prelude.{true, cond, ◌≡◌, ◌≤◌, length, get_or, take};
 ghost use Rattle.io.specs.Counts.{IsPrefixLen};
 ghost use Rattle.writer.specs.Inner.Puts.{Puts};

@@ -10,6 +10,8 @@
 // is worked out by crate `bruteforce` from the few events alone; none of the engine's tables or definitions is used.
 // Printed: how much was compared, and how much of it differs; the file `stdout` has 0. Proved safe and ending. Assumes
 // what `libc` assumes.
+#![tactic(auto)]
+
 ghost use Rattle.std.specs.Prelude.{◌<◌, ◌≤◌};
 ghost use Rattle.bruteforce.specs.Counts.{SmallRun};
 

@@ -2,6 +2,8 @@
 // of the area's first 16,384 words are not 0, and how many later words changed, or else the words themselves; where a
 // text is accepted, also its trace written back and read again. The file `stdout` has what MANUAL 2 and 6 ask of each.
 // Proved safe and ending; what is printed no contract can say. Assumes what `libc` assumes.
+#![tactic(auto)]
+
 ghost use Rattle.std.specs.Prelude.{◌≤◌, length};
 ghost use Rattle.io.specs.Counts.{IsPrefixLen};
 

@@ -14,6 +14,8 @@
 // Every trace of the first part is also written back and read again (crate `roundtrip`); those of the second are among
 // them. The file `stdout` was worked out from the requirements by a model that has nothing of the engine. Proved safe
 // and ending; what is printed no contract can say. Assumes what `libc` assumes.
+#![tactic(auto)]
+
 use words::AREA_WORDS;
 
 // The trace of a text written back, which is all of the text but its failure line; where the text is refused, the zeros

@@ -3,6 +3,7 @@
 // remark. `word K W`: that area with its word K changed to W; `length N`: its first N words; `zero`: the zero area, and
 // what a refused text leaves; `events N A B`, `saves N A B`: an area filled by hand up to the limits. Expected: the
 // file `stdout`. Proved safe and ending; what is printed no contract can say.
+#![tactic(auto)]
 
 // Field k of a row as a word.
 fn word(row: &[u8], k: usize) -> u32 {

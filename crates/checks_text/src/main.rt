@@ -3,6 +3,8 @@
 // with LF at places I and J (25: at none), searched from each place in turn up to the one after the end. What follows
 // is where `text::line_end` found the first LF, 99 for nowhere. The file `stdout` has what MANUAL 2.1 asks of each.
 // Proved safe and ending; what is printed no contract can say. Assumes what `libc` assumes.
+#![tactic(auto)]
+
 use text::LineEnd;
 
 // How long a text with one LF can be, and how long one with two is.

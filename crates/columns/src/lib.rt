@@ -3,6 +3,8 @@
 // says what each word means; the functions judge one event by working words and store what it adds, by
 // specs/Inner/Filling, and proofs/Passes says that event by event that makes the columns. specs/Inner/Given says what
 // the table and the gates of a line tell of a run, for all that reads them. Assumes nothing.
+#![tactic(auto)]
+
 ghost use Rattle.std.specs.Prelude.{◌≡◌, true, false, max, ◌≤◌, ◌<◌, ltb, length, get_or};
 ghost use Rattle.trace.specs.declared.Event.TheVariants.{Send, Recv, Save, Done};
 ghost use Rattle.theory.specs.Epochs.{joined};

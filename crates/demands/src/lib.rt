@@ -3,3 +3,4 @@
 // order. Read proofs/Demand1, Demand2 and Demand3 as lists, each claim under the sentence that it stands for, Gates
 // for which choices are allowed, and Printed for what the report and the program print; the other files say why.
 // Assumes nothing.
+#![tactic(auto)]

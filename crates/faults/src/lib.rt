@@ -1,5 +1,7 @@
 // What is wrong with a failure, 8 or 9, and with a line, 10, from the full table of a trace. The contracts are the
 // theory's definitions, for every trace that the table is of. Assumes nothing.
+#![tactic(auto)]
+
 ghost use Rattle.std.specs.Prelude.{◌≡◌, ◌&&◌, leb, ◌^◌, ◌≤◌, ◌<◌, length};
 ghost use Rattle.trace.specs.Trace.{Trace};
 ghost use Rattle.theory.specs.Lists.{all_below};

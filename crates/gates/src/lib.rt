@@ -1,5 +1,7 @@
 // The gates of a line: of each process which phase must be ready before it may run, and where it restarts. The contract
 // is the theory's definition, for every trace that the table is of. Assumes nothing.
+#![tactic(auto)]
+
 ghost use Rattle.std.specs.Prelude.{◌≡◌, ◌≤◌, ◌<◌, length};
 ghost use Rattle.trace.specs.Trace.{Trace};
 ghost use Rattle.theory.specs.Line.{run_at};

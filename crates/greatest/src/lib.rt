@@ -1,6 +1,8 @@
 // The greatest line without a lost message after a failure, with epochs at the cut and phases at the restarts, from the
 // full table of a trace. The contract is the theory's definition, for every trace that the table is of and every rule
 // that its messages are marked by. Assumes nothing.
+#![tactic(auto)]
+
 ghost use Rattle.std.specs.Prelude.{◌≡◌, cond, ℕ, ◌≤◌, ◌<◌, length, get_or};
 ghost use Rattle.words.specs.Area.{words_from};
 ghost use Rattle.trace.specs.Trace.{Trace};

@@ -2,6 +2,8 @@
 // its numbers, or none of these. specs/Line says it for every line, specs/Render the text of an event and of a failure;
 // proofs/OneLine that a line says it exactly if it is that text. An event's line in its usual form is read without a
 // search for its LF. No public function has a `requires`. Assumes nothing.
+#![tactic(auto)]
+
 ghost use Rattle.std.specs.Prelude.{◌≡◌, ◌+◌, ◌≤◌, eqb, length, cond};
 ghost use Rattle.text.specs.Inner.Standing.{Stands};
 ghost use Rattle.lines.specs.declared.Line.TheVariants.{Save, Done};

@@ -1,6 +1,8 @@
 // What a replay begins with: the links between events, lists of kept messages by phase, and the words of the first
 // state, from the full table of a trace and the gates of a line. specs/Inner/Linking says what the pass over the events
 // does; proofs/Claims says that what it leaves stands for the theory's first state. Assumes nothing.
+#![tactic(auto)]
+
 ghost use Rattle.std.specs.Prelude.{◌≡◌, true, ◌+◌, ◌≤◌, ◌<◌, length, get_or, replicate};
 ghost use Rattle.machine.specs.Inner.Shapes.{Pointed};
 ghost use Rattle.columns.specs.Inner.Full.{events_w, event_w, at_w, match_w, phase_w};

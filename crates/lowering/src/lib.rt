@@ -1,5 +1,7 @@
 // A line lowered until it loses no message: a worklist of processes that may have undone events not looked at.
 // specs/Inner/Lowering says what lowering at an event does and when it is done. Assumes nothing.
+#![tactic(auto)]
+
 ghost use Rattle.std.specs.Prelude.{◌≡◌, ℕ, min, ◌<◌, length, get_or, set};
 ghost use Rattle.recovery_line.specs.Inner.Words.{Sized};
 ghost use Rattle.positions.specs.Inner.Positions.{Linked, NewestRanged, Before};

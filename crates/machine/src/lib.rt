@@ -4,6 +4,8 @@
 // that put a message on record, and the tree of the least phase for those that build it and that set it.
 // specs/Inner/Words says what tests and steps do with words, specs/Inner/Tree what the tree is, specs/Inner/Related how
 // words stand for a state of the theory's machine; proofs/Choices that the two agree choice by choice. Assumes nothing.
+#![tactic(auto)]
+
 ghost use Rattle.std.specs.Prelude.{◌≡◌, ◌≤◌, ◌<◌, length, get_or, replicate};
 ghost use Rattle.words.specs.Area.{area_words};
 ghost use Rattle.columns.specs.Inner.Full.{procs_w};

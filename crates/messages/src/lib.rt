@@ -1,6 +1,8 @@
 // The orphans, the kept and the lost messages of a line, counted, and listed in the run area. specs/Messages says what
 // `messages` answers and leaves for every input, specs/Meaning what that means (demand 2). It has no `requires`;
 // `list_from` is the step of it that `recovery::recover` takes too. Assumes nothing.
+#![tactic(auto)]
+
 ghost use Rattle.std.specs.Prelude.{◌≡◌, ◌+◌, ◌≤◌, replicate};
 ghost use Rattle.words.specs.Area.{area_words, words_from};
 ghost use Rattle.theory.specs.Line.{Run};

@@ -1,6 +1,8 @@
 // One choice tried in words: where it may be carried out it is. What a process needs of the table, the links, the gates
 // and the run area is read once for test and step; a hand-over reads the pointer of its channel for each. Crate machine
 // has the tests by themselves, and its specs/Inner/Words says what each test and each step does. Assumes nothing.
+#![tactic(auto)]
+
 ghost use Rattle.std.specs.Prelude.{◌≡◌, true, false, List, ℕ, ◌≤◌, ◌<◌, length};
 ghost use Rattle.columns.specs.Inner.Full.{procs_w, kind_w, peer_w};
 ghost use Rattle.sets.specs.Inner.Sets.{with_in};

@@ -1,5 +1,7 @@
 // An order of choices carried out in words: its answer, and the delivery record that it leaves. specs/Answer says it by
 // the theory's machine; proofs/Ordering has a law for each way out. Assumes nothing.
+#![tactic(auto)]
+
 ghost use Rattle.std.specs.Prelude.{◌≡◌, ℕ, ◌≤◌, ◌<◌, length, get_or};
 ghost use Rattle.words.specs.Area.{area_words};
 ghost use Rattle.machine.specs.Inner.Words.{current_base, low_place};

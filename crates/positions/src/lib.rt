@@ -2,6 +2,8 @@
 // newest back; epochs at the cut and phases at the restarts are then read at one event of each process, and a process
 // that goes back is followed along its links. Its latest finished epoch is counted. specs/Inner/Positions says what the
 // links hold; proofs/Newest what is read at them, by the theory's definitions. Assumes nothing.
+#![tactic(auto)]
+
 ghost use Rattle.std.specs.Prelude.{◌≡◌, cond, List, ℕ, ◌+◌, ◌≤◌, ◌<◌, ltb, length, get_or};
 ghost use Rattle.trace.specs.Trace.{Trace};
 ghost use Rattle.columns.specs.Inner.Columns.{epoch_base, full_words};

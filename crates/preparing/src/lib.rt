@@ -1,6 +1,8 @@
 // What a call is given, checked in the order of the numbers: the areas (12, 13), the failure (8, 9), and with a line
 // 10. Where nothing is wrong, the full table of the trace is filled, and with a line its gates. specs/Faults says the
 // numbers for every input. Assumes nothing.
+#![tactic(auto)]
+
 ghost use Rattle.std.specs.Prelude.{◌≡◌, length};
 ghost use Rattle.trace.specs.Trace.{Trace};
 ghost use Rattle.theory.specs.Line.{run_at};

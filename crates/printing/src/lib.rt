@@ -1,5 +1,7 @@
 // The lines that the program prints, each from its numbers into a lent buffer, byte for byte by specs/Lines. Assumes
 // nothing.
+#![tactic(auto)]
+
 ghost use Rattle.writer.specs.Inner.Puts.{Puts};
 ghost use Rattle.printing.specs.Lines.{process_line, total_line, refusal_line};
 ghost use Rattle.printing.specs.Inner.Rows.{message_key, words_row};

@@ -1,5 +1,7 @@
 // What the program does between reading its input and writing its output: the limit of 65,536 bytes, the report and the
 // status. The buffers have their lengths from here. Assumes nothing.
+#![tactic(auto)]
+
 ghost use Rattle.std.specs.Prelude.{◌≡◌, List, cond, ℕ, ◌≤◌, length, take};
 ghost use Rattle.writer.specs.Buffer.{written};
 ghost use Rattle.report.specs.Report.{report_bytes};

@@ -1,6 +1,8 @@
 // The full table of the trace that a table area holds, filled in one pass over the events, each of which is judged by
 // the working words of the filling and then noted (crate columns says what the words mean). proofs/Claims says that the
 // laws of a recorded run follow. `tabulate` has no `requires`. Assumes nothing.
+#![tactic(auto)]
+
 ghost use Rattle.std.specs.Prelude.{◌≡◌, true, false, ◌&&◌, [], ℕ, ◌≤◌, ◌<◌, eqb, length, get_or};
 ghost use Rattle.trace.specs.Trace.{Trace};
 ghost use Rattle.table.specs.Held.{held_value, held_event, held, holds_trace};

@@ -3,6 +3,8 @@
 // Render (the text of a trace), Answer (answer and area) and Meaning (what an answer means: a text is accepted exactly
 // if it is the text of a well-formed trace, and a refusal is for the first faulty line). No function that users call
 // has a `requires`. Assumes nothing.
+#![tactic(auto)]
+
 ghost use Rattle.std.specs.Prelude.{◌≡◌, ◌≤◌, ◌<◌, length, drop, replicate};
 ghost use Rattle.lines.specs.Line.{line_said};
 ghost use Rattle.reader.specs.Answer.{verdict_answer, verdict_word, read_answer, read_area};

@@ -1,6 +1,8 @@
 // Recovery: orders of choices carried out from a recovery line, on a table area, and all that a failure asks for at
 // once. specs/Answers and Recover say what each function answers and leaves, for every input; no public function has a
 // `requires`. Assumes nothing.
+#![tactic(auto)]
+
 ghost use Rattle.std.specs.Prelude.{◌≡◌, ◌≤◌, length};
 ghost use Rattle.trace.specs.Trace.{Trace};
 ghost use Rattle.theory.specs.Events.{size};

@@ -1,6 +1,8 @@
 // A recovery line of a trace (the requirements call it a restart line; MANUAL 4.2): the epoch that each process
 // restarts in, or that it stays; and the set of those that go back. specs/Given says how a line stands in words. No
 // public function has a `requires`. Assumes nothing.
+#![tactic(auto)]
+
 ghost use Rattle.std.specs.Prelude.{◌≡◌, ◌&&◌, not, ltb, ℕ, min, ◌≤◌, length, take, set};
 ghost use Rattle.std.specs.Int.Count.{ones};
 ghost use Rattle.theory.specs.Line.{in_set, stays_in};

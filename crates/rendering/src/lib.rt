@@ -1,6 +1,8 @@
 // The trace written back: the text of the trace that a table area holds, into a lent buffer. The definitions are in
 // specs/Write, what they mean both ways in specs/Meaning; proofs/Claims has the same over definitions alone. No public
 // function has a `requires`. Assumes nothing.
+#![tactic(auto)]
+
 ghost use Rattle.std.specs.Prelude.{◌≡◌, [], ◌∷◌, ◌++◌, ◌≤◌, length, get_or};
 ghost use Rattle.words.specs.Area.{area_words};
 ghost use Rattle.trace.specs.declared.Event.TheVariants.{Send, Recv, Save, Done};

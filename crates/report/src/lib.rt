@@ -1,6 +1,8 @@
 // The report on a text that ends with a failure line: read, recovered and printed into a lent buffer, byte for byte by
 // specs/Report. One area serves for all of it: the text is read into it, the columns of the full table are filled in
 // behind the trace, and messages are printed from the columns. Assumes nothing.
+#![tactic(auto)]
+
 ghost use Rattle.std.specs.Prelude.{◌≡◌, List, ℕ, ◌+◌, ◌≤◌, length};
 ghost use Rattle.trace.specs.Trace.{Trace};
 ghost use Rattle.theory.specs.Events.{size};

@@ -2,6 +2,8 @@
 // epoch at the cut and its phase at the restart. specs/Restart says what `restart` answers for every table area and
 // failure, and what that means (demand 2). It has no `requires`; `restart_from` is the step of it that
 // `recovery::recover` takes too. Assumes nothing.
+#![tactic(auto)]
+
 ghost use Rattle.std.specs.Prelude.{◌≡◌, ◌≤◌};
 ghost use Rattle.trace.specs.Trace.{Trace};
 ghost use Rattle.table.specs.Held.{held};

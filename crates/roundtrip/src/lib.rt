@@ -1,5 +1,7 @@
 // A trace written back by `rendering::write`, compared with the text that it was read from, and read again; and what
 // came of it printed. Proved safe and ending; what is printed no contract can say. Assumes what `libc` assumes.
+#![tactic(auto)]
+
 ghost use Rattle.std.specs.Prelude.{◌≡◌, length};
 ghost use Rattle.rendering.specs.Write.{write_answer, write_buffer};
 ghost use Rattle.roundtrip.specs.Trip.{comes_back};

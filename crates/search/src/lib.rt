@@ -12,6 +12,8 @@
 // are looked at only where the least phase is above the least of them, so that after the first look at least one opens:
 // at most 64 looks and 2,080. Each phase is passed once, and there are at most two more of them than events. No term is
 // events times processes.
+#![tactic(auto)]
+
 ghost use Rattle.std.specs.Prelude.{◌≡◌, true, ℕ, ◌+◌, ◌*◌, ◌/◌, ◌%◌, ◌≤◌, ◌<◌, length, get_or};
 ghost use Rattle.words.specs.Area.{area_words};
 ghost use Rattle.machine.specs.Inner.Words.{low_w, hand_ok, put_in_w, kept_phase, Small};

@@ -1,5 +1,7 @@
 // Every small sequence of events by its number, and its text: what a gate program goes through. Assumes what `libc`
 // assumes.
+#![tactic(auto)]
+
 ghost use Rattle.std.specs.Prelude.{◌≤◌, ◌<◌, length};
 ghost use Rattle.io.specs.Counts.{IsPrefixLen};
 

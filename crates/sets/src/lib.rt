@@ -2,6 +2,8 @@
 // without it, the set with one more. Each contract gives the number, and then the members (`in_set`), so that nobody
 // need unfold the number's definition. The definitions are in specs/Inner/Sets, laws on them in proofs/Sets. No public
 // function has a `requires`. Assumes nothing.
+#![tactic(auto)]
+
 ghost use Rattle.std.specs.Prelude.{◌≡◌, ◌&&◌, ◌||◌, not, eqb, ℕ, ◌%◌};
 ghost use Rattle.theory.specs.Line.{in_set};
 ghost use Rattle.sets.specs.Inner.Sets.{first_in, rest_of, with_in, FirstOf};

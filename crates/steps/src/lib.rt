@@ -1,6 +1,8 @@
 // How many steps a complete replay takes from a line that loses no message, counted without a replay: by the theory's
 // theorem as many as there are listed events and kept messages. The kept ones are counted where messages are listed,
 // the listed events here. Assumes nothing.
+#![tactic(auto)]
+
 ghost use Rattle.std.specs.Prelude.{◌≡◌, ◌≤◌};
 ghost use Rattle.theory.specs.Line.{Run};
 ghost use Rattle.columns.specs.Inner.Given.{Tells, Gated};

@@ -2,6 +2,8 @@
 // (13 where they are not), for every area, however filled. The definitions are in specs/Held: the trace that an area
 // holds. proofs/Claims states that an area holds a trace exactly if its words are those of a well-formed trace, which
 // is what a reading leaves. No public function has a `requires`. Assumes nothing.
+#![tactic(auto)]
+
 ghost use Rattle.std.specs.Prelude.{◌≡◌, true, [], ◌-◌, ◌≤◌, ◌<◌, length};
 ghost use Rattle.words.specs.Area.{area_words};
 ghost use Rattle.table.specs.Held.{event_of, holds_trace};

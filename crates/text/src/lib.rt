@@ -1,6 +1,8 @@
 // Reading text: the end of a line, fixed keys and decimal numbers. Each function says what it finds by a definition of
 // specs/, for every text and place; only those for a quick look (`four`, `eight`, `short`, `long`) have a `requires`,
 // that so many bytes are there. Assumes nothing.
+#![tactic(auto)]
+
 ghost use Rattle.std.specs.Prelude.{true, ◌&&◌, not, ◌≡◌, ◌↔◌, ◌+◌, ◌-◌, ◌≤◌, ◌<◌, eqb, length, drop, get_or};
 ghost use Rattle.text.specs.Inner.Line.{line_end};
 ghost use Rattle.text.specs.Inner.Blocks.{packed, marks, AnyLf, FirstLf};

@@ -1,6 +1,8 @@
 // What a trace is, and events judged one after another. The definitions are in specs/: Trace (events and traces), Fit
 // (which traces are well formed), Table (the words of the table area that hold a trace); in specs/Inner: Tally
 // (counters that events are judged by). Assumes nothing.
+#![tactic(auto)]
+
 ghost use Rattle.std.specs.Prelude.{List, ℕ, ◌+◌, ◌-◌, ◌*◌, ◌/◌, ◌%◌, ◌≤◌, ◌<◌, length, get_or, set, ◌≡◌};
 ghost use Rattle.trace.specs.declared.Event.TheVariants.{Send, Recv, Save, Done};
 ghost use Rattle.trace.specs.Inner.Tally.{count_words, fault_by, tallied, Next};

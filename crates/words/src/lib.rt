@@ -1,6 +1,8 @@
 // Lent areas of words: what an area holds is said by a rule for its first words, and later words stay as they were. The
 // definitions are in specs/: Area, and Halves (a number of 64 bits in two words); laws on them, and on cases and lists,
 // in proofs/. No public function has a `requires`. Assumes nothing.
+#![tactic(auto)]
+
 ghost use Rattle.std.specs.Prelude.{◌≡◌, length, replicate, cond};
 ghost use Rattle.words.specs.Halves.{half, from_halves};
 

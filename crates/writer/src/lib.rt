@@ -1,5 +1,7 @@
 // Writing text into a lent buffer: bytes, decimal numbers, and keys with their numbers. A function is given the place
 // of its first byte and answers that of the next; a full buffer takes no more (specs/Buffer). Assumes nothing.
+#![tactic(auto)]
+
 ghost use Rattle.std.specs.Prelude.{◌≡◌, [], ◌∷◌, ◌++◌, ◌+◌, ◌/◌, ◌%◌, ◌<◌, ◌≤◌, length, drop};
 ghost use Rattle.text.specs.Number.{decimal};
 ghost use Rattle.writer.specs.Inner.Puts.{Puts};
