@@ -233,10 +233,10 @@ module _ (t l g a : List ℕ) where
 -- ---- No kept message becomes ready by a process step: the channel of a send has none left
 
 module _ (R : Run) (t l g a₀ : List ℕ) (S : Started R t l g a₀) where
-  left_same : (s u : State) (z p q : ℕ) → Did R s (process z) u → u.left p q ≡ s.left p q
-  left_same s u z p q (did_other h k) = refl
-  left_same s u z p q (did_send h k e) = refl
-  left_same s u z p q (did_recv h k e) = refl
+  left_same : (s : State) (z : ℕ) (u : State) (p q : ℕ) → Did R s (process z) u → u.left p q ≡ s.left p q
+  left_same s z u p q (did_other h k) = refl
+  left_same s z u p q (did_send h k e) = refl
+  left_same s z u p q (did_recv h k e) = refl
 
   -- what is ready stays so
   fewer : (s : State) (z e : ℕ) (es : List ℕ) (f : ℕ → ℕ → Bool) → s.todo z ≡ e ∷ es → (y : ℕ) → no_one (f y) (s.todo y) ≡ true → no_one (f y) (put s.todo z es y) ≡ true
@@ -250,10 +250,10 @@ module _ (R : Run) (t l g a₀ : List ℕ) (S : Started R t l g a₀) where
   ready_fewer s u z e es h j x k =
       all_true R.trace.procs _ (λ y l. rw j (fewer s z e es (λ w d. resends R x w d (kind R.trace d)) h y (all_at R.trace.procs _ k y l)))
 
-  ready_stays : (s u : State) (z : ℕ) → Did R s (process z) u → (x : ℕ) → ready R s x ≡ true → ready R u x ≡ true
-  ready_stays s u z (did_other {e = e} {es = es} h k) x = ready_fewer s _ z e es h refl x
-  ready_stays s u z (did_send {e = e} {es = es} h k i) x = ready_fewer s _ z e es h refl x
-  ready_stays s u z (did_recv {e = e} {es = es} h k i) x = ready_fewer s _ z e es h refl x
+  ready_stays : (s : State) (z : ℕ) (u : State) → Did R s (process z) u → (x : ℕ) → ready R s x ≡ true → ready R u x ≡ true
+  ready_stays s z u (did_other {e = e} {es = es} h k) x = ready_fewer s _ z e es h refl x
+  ready_stays s z u (did_send {e = e} {es = es} h k i) x = ready_fewer s _ z e es h refl x
+  ready_stays s z u (did_recv {e = e} {es = es} h k i) x = ready_fewer s _ z e es h refl x
 
   module _ (a : List ℕ) (s : State) (r : Rel R a s) (i : Inv R s) (z : ℕ) (hz : z < 64) (ok : process_ok t g a z ≡ true) where
     z_in : z < R.trace.procs
@@ -283,7 +283,7 @@ module _ (R : Run) (t l g a₀ : List ℕ) (S : Started R t l g a₀) where
       none_there : (q : ℕ) → q ≡ peer_w t (cur_w a z) → kind_w t (cur_w a z) ≡ 1 → send_ok (get_or g (64 + z) 0) (put_w (process_w t l a z) (64 * z + q)) ≡ true
       none_there q eq k =
           let hq : q < 64 = omega arith in
-          rw (S.cols.gated.places z z_in) (left_none R S.laws u j z q _ _ (r'.chan z q hz hq) (left_same s u z z q did ∙ none_left q eq k))
+          rw (S.cols.gated.places z z_in) (left_none R S.laws u j z q _ _ (r'.chan z q hz hq) (left_same s z u z q did ∙ none_left q eq k))
 
       -- a channel is the one of the send, or its next message to put in stays
       at_channel : {A : Type 0} (d : ℕ) → d < 4096 → ((d ≡ 64 * z + peer_w t (cur_w a z)) → kind_w t (cur_w a z) ≡ 1 → A) → (put_w (process_w t l a z) d ≡ put_w a d → A) → A
@@ -316,7 +316,7 @@ module _ (R : Run) (t l g a₀ : List ℕ) (S : Started R t l g a₀) where
       run_low h = by_lt (low_w (process_w t l a z)) (low_w a)
           (λ k. let x = low_w (process_w t l a z) in
           let b : ready R s x ≡ true = r.low x (omega arith) ∙ lt-ltb x (low_w a) k in
-          clash (sym (r'.low x (omega arith)) ∙ ready_stays s u z did x b) (le-ltb x x (omega arith)))
+          clash (sym (r'.low x (omega arith)) ∙ ready_stays s z u did x b) (le-ltb x x (omega arith)))
           (λ k. k)
 
 pub rest_idle : (t g a : List ℕ) (m : ℕ) → 0 < m → m < 2 ^ 64 → Idle t g a m → process_ok t g a (first_in m) ≡ false → Idle t g a (rest_of m)

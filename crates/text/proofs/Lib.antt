@@ -1,3 +1,4 @@
+pub mod Here
 pub mod Lines
 pub mod Blocks
 pub mod Marks

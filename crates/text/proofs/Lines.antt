@@ -12,15 +12,12 @@ use Rattle.words.proofs.Cases.{by_lt, by_eq}
 use Rattle.text.specs.declared.LineEnd.{LineEnd}
 use Rattle.text.specs.declared.LineEnd.TheVariants.{At, Missing}
 use Rattle.text.specs.Inner.Line.{lf_from, line_end, Ends}
+pub use Rattle.text.proofs.Here.{lf_here}
 
 module _ (text : List ℕ) (at : ℕ) where
   pub lf_none : length text ≤ at → lf_from at (drop at text) ≡ Missing
   unfolding lf_from
   lf_none h = rw (drop_of_length-le text {i = at} h)
-
-  pub lf_here : at < length text → get_or text at 0 ≡ 10 → lf_from at (drop at text) ≡ At at
-  unfolding lf_from
-  lf_here h e = rw (drop-cons text at 0 h, eq-eqb (get_or text at 0) 10 e)
 
   pub lf_next : at < length text → (get_or text at 0 ≡ 10 → ⊥) → lf_from at (drop at text) ≡ lf_from (at + 1) (drop (at + 1) text)
   unfolding lf_from

@@ -38,6 +38,7 @@ use Rattle.theory.specs.Inner.Flow.{Inv}
 use Rattle.theory.proofs.Loss.{inv}
 use Rattle.theory.proofs.Epochs.{done_notes, epoch_is, epoch_of_at, phase_of_send, logged_is, phase_recv, laws}
 use Rattle.theory.proofs.Lines.{now_is, now_few, finished_le, usable_finished, may_is, stays_at, restart_epoch, restart_mono, number_of, lower_less}
+use Rattle.theory.proofs.Unfinished.{unfinished_above}
 use Rattle.theory.proofs.Greatest.{highest_above, below_above, greatest_is, greatest_unique, floor_below}
 use Rattle.theory.proofs.Orders.{run_reaches, run_refused, run_steps, run_each, complete_iff, order_iff, order_differs, order_progress, order_done, order_bound}
 use Rattle.theory.proofs.Lowest.{lowest_some, lowest_iff, lowest_order_lem}
@@ -280,10 +281,6 @@ module _ (t : Trace) (w : well_formed t ≡ true) (cut : ℕ) (cl : cut ≤ size
       → (l : ℕ → ℕ) → Greatest t (rule_of t) cut usable failed l → (z : ℕ) → z < t.procs → f ≤ l z
   floor usable U = floor_below t (valid t w) cut cl usable U failed
 
-  -- a process whose epoch is above its latest finished one has an unfinished save
-  unfinished_above : (z : ℕ) → finished_at t z cut < current t (rule_of t) cut z → unfinished_at t cut z ≡ true
-  unfinished_above z h = lt-ltb (cnt (finishes t z) cut) (cnt (checkpoints t z) cut) (omega (arith, now_is t (rule_of t) (valid t w) cut cl z))
-
   -- "The floor becomes the smallest, over the failed zones and those with an unfinished save, of the latest finished
   -- epoch at the cut." It is y's, where no failed process and none with an unfinished save has a smaller.
   pub floor_finished : (y : ℕ)
@@ -300,7 +297,7 @@ module _ (t : Trace) (w : well_formed t ≡ true) (cut : ℕ) (cl : cut ≤ size
         by (failed z) (λ v. absurd (omega (arith, c z h (rw v)))) (λ v. v),
         on (le? (current t (rule_of t) cut z) (finished_at t z cut))
             (λ v. omega arith)
-            (λ v. absurd (omega (arith, c z h (or_right (failed z) (unfinished_at t cut z) (unfinished_above z v))))),
+            (λ v. absurd (omega (arith, c z h (or_right (failed z) (unfinished_at t cut z) (unfinished_above t w cut cl z v))))),
       )))
 
   -- "In a trace with no `done`, each zone that goes back goes to epoch 1."
@@ -336,7 +333,7 @@ module _ (t : Trace) (w : well_formed t ≡ true) (cut : ℕ) (cl : cut ≤ size
   pub unfinished_below : (z : ℕ) → (unfinished_at t cut z ≡ true) ↔ (finished_at t z cut < current t (rule_of t) cut z)
   unfinished_below z =
       let made = now_is t (rule_of t) (valid t w) cut cl z in
-      (λ h. omega (arith, made, ltb-true (cnt (finishes t z) cut) (cnt (checkpoints t z) cut) h), unfinished_above z)
+      (λ h. omega (arith, made, ltb-true (cnt (finishes t z) cut) (cnt (checkpoints t z) cut) h), unfinished_above t w cut cl z)
 
 -- ---- Numbers, "Who names the failure and the replay". "Order: .. for the rest 8, 9, 10, 11."
 

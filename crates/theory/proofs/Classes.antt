@@ -143,7 +143,7 @@ module _ (R : Run) where
     pub kept_counts : (p q k : ℕ) → kept R p q k ≡ (leb k (s_before R p q) && (ltb (r_before R p q) k && (ltb (r_cut R p q) k || R.logged p q k)))
     unfolding kept
     kept_counts p q k =
-        rw (undone_counts p q k, sent_before_lem p q k, recv_cut p q k, ← not_leb k (r_before R p q), ← not_leb k (r_cut R p q))
+        simp (undone_counts p q k, sent_before_lem p q k, recv_cut p q k, ← not_leb k (r_before R p q), ← not_leb k (r_cut R p q))
         (kept_test (ltb 0 k) (leb k (r_before R p q)) (leb k (s_before R p q)) (leb k (r_cut R p q)) (R.logged p q k) (low k (r_before R p q))
         (λ h. le-leb k (r_cut R p q) (omega (arith, leb-true k (r_before R p q) h, r_le p q))))
 

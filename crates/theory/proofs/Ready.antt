@@ -3,9 +3,9 @@
 -- Among such events Progress meets only gates and kept messages of a phase below r (a process that goes back has its
 -- gate below its events, a kept message that a receive wants is logged): so by recursion on r a choice is allowed. With
 -- that, all events serve.
-use mathlib.Core.Path.{◌≡◌, refl, sym, ◌∙◌, ap}
+use mathlib.Core.Path.{◌≡◌, refl, sym, ◌∙◌, ap, subst}
 use mathlib.Core.Logic.{◌≢◌}
-use mathlib.Core.Bool.{true, false}
+use mathlib.Core.Bool.{true, false, cond}
 use mathlib.Core.List.{List, [], ◌∷◌}
 use mathlib.Core.Option.{none, none-ne-some}
 use Prim.Native.Nat.{ℕ, zero, suc, ◌+◌, ◌-◌, ◌≤◌, ◌<◌}
@@ -99,7 +99,7 @@ module _ (R : Run) where
       unfolding gate
       low_gated z e a b c k f =
           let t = going_back z e b k in
-          ih (R.phase z (R.restart z) - 1) (omega (arith, phase_le L z (R.restart z) e (omega arith), low_at z e a k, restart_pos L z)) (rw t at f)
+          ih (R.phase z (R.restart z) - 1) (omega (arith, phase_le L z (R.restart z) e (omega arith), low_at z e a k, restart_pos L z)) (subst (λ b. ready R s (cond b (R.phase z (R.restart z)) (R.phase z (R.restart z) - 1)) ≡ false) t f)
 
       low_send : (z q e m : ℕ) → at R.trace e ≡ z → R.restart z < e → e ≤ size R.trace → Low r e → Kept R z q m
           → ready R s (R.carries z q m) ≡ false → CanStep R s

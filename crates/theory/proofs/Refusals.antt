@@ -90,7 +90,7 @@ module _ (t : Trace) (step set : ℕ) where
       let n : 0 < set = (set_named set).1 f.set_some in
       let b : eqb set 0 ≡ false = ne_eqb set 0 (λ e. omega arith) in
       let c : leb (2 ^ t.procs) set ≡ false = lt-leb _ _ ((set_below t.procs set).1 f.set_within) in
-      rw (a, b, c) refl
+      simp (a, b, c) refl
 
   -- and a number that is neither 8 nor 9 is the rest's
   failure_else : (rest n : ℕ) → (n ≡ 8 → ⊥) → (n ≡ 9 → ⊥) → step_or t step (set_or t set rest) ≡ n → FitFailure t step set × (rest ≡ n)
