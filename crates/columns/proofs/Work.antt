@@ -13,7 +13,7 @@ use borrow.Author.Tests.{le-ltb, lt-ltb, eq-eqb, ne_eqb}
 use Rattle.words.proofs.Cases.{by_eq, by_lt, clash}
 use Rattle.trace.specs.declared.Event.TheVariants.{Send, Recv}
 use Rattle.trace.specs.Trace.{Trace}
-use Rattle.theory.specs.Events.{size, event_at, at, sends, sent, rcvd, send_of}
+use Rattle.theory.specs.Events.{size, event_at, sends, sent, rcvd, send_of}
 use Rattle.theory.proofs.WellFormed.{Valid}
 use Rattle.theory.proofs.Events.{send_of_at, sent_le, sent_more, sent_same, rcvd_same}
 use Rattle.columns.specs.Inner.Filling.{or_new, send_work, recv_phase, recv_work, local_work, Filled, Working}

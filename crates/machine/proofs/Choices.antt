@@ -10,7 +10,7 @@ use native.Mathlib.Omega.{arith}
 use lib.ListN.{get_or}
 use lib.Dec.{ltb, eqb}
 use borrow.Author.Tests.{ltb-true, ltb-false, eq-eqb, ne_eqb}
-use Rattle.theory.specs.Events.{Kind, send, recv, other, size, at, kind}
+use Rattle.theory.specs.Events.{Kind, send, recv, other, size, kind}
 use Rattle.theory.specs.Line.{Run}
 use Rattle.theory.specs.Replay.{process, hand, State, ready, gate, moved, sending, taking, handing, send_step, recv_step, event_step, process_step, hand_step, step}
 use Rattle.theory.specs.Order.{choice_of, choose}

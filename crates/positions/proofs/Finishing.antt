@@ -1,6 +1,6 @@
 -- The latest finished epochs, counted one event after another: `finished_at`.
 use mathlib.Core.Path.{◌≡◌, sym, ◌∙◌}
-use mathlib.Core.Bool.{true, false, ◌&&◌}
+use mathlib.Core.Bool.{true, false}
 use mathlib.Core.List.{List}
 use Prim.Native.Nat.{ℕ, suc, ◌+◌, ◌≤◌, ◌<◌}
 use native.Mathlib.Omega.{arith}
@@ -13,7 +13,6 @@ use Rattle.words.proofs.Cases.{by_eq}
 use Rattle.trace.specs.Trace.{Trace}
 use Rattle.theory.specs.Lists.{cnt}
 use Rattle.theory.specs.Events.{size, finishes}
-use Rattle.theory.specs.Epochs.{finished_at}
 use Rattle.theory.proofs.Base.{cnt_suc, cnt_skip, cnt_bound}
 use Rattle.columns.specs.Inner.Columns.{Tabled}
 use Rattle.columns.specs.Inner.Full.{at_w, kind_w}

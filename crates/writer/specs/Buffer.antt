@@ -1,6 +1,6 @@
 -- Bytes written into a lent buffer, one after another. A full buffer takes no more: what is written is the front of the
 -- bytes.
-use Rattle.std.specs.Prelude.{ℕ, ◌+◌, List, ◌++◌, length, take, drop}
+use Rattle.std.specs.Prelude.{ℕ, List, ◌++◌, length, take, drop}
 
 -- ---- The same from the buffer's first place on: what a caller of a whole text sees (proofs/Buffers, `whole`)
 

@@ -1,5 +1,5 @@
 -- The same lines from the words that the code has. No public contract cites these.
-use Rattle.std.specs.Prelude.{Bool, cond, List, [], ◌∷◌, ◌++◌, ℕ, ◌+◌, ◌/◌, ◌%◌}
+use Rattle.std.specs.Prelude.{Bool, cond, List, [], ◌∷◌, ◌++◌, ℕ, ◌/◌, ◌%◌}
 use Rattle.text.specs.Number.{decimal}
 use Rattle.text.specs.Bytes.{bytes_of}
 use Rattle.printing.specs.Lines.{key_orphan, key_kept}

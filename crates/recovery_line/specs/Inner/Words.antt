@@ -1,5 +1,5 @@
 -- The words of the full table that are read for a line.
-use Rattle.std.specs.Prelude.{ℕ, ◌-◌, ◌<◌, ◌≤◌, ◌≡◌, List, length}
+use Rattle.std.specs.Prelude.{ℕ, ◌<◌, ◌≤◌, ◌≡◌, List, length}
 use Rattle.columns.specs.Inner.Columns.{full_words}
 use Rattle.columns.specs.Inner.Full.{procs_w, kind_w, match_w}
 

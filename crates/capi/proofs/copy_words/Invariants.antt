@@ -1,0 +1,12 @@
+-- `capi::copy_words` meets its contract: what is still to write from word i on.
+use mathlib.Core.Path.{◌≡◌}
+use Prim.Native.Nat.{◌+◌, ◌-◌, ◌≤◌}
+use lib.ListN.{length, drop}
+use Rattle.writer.specs.Inner.Puts.{puts}
+use Rattle.capi.proofs.copy_words.Given as goal
+
+abbrev pub invariant-loop-i : goal.invariant-loop-i
+invariant-loop-i l = (l.i ≤ length l.words) × (length l.answer ≡ length l.initial.answer) × (puts (drop l.i l.words) (record { bytes = l.answer; next = l.at + l.i }) ≡ puts l.words (record { bytes = l.initial.answer; next = l.at }))
+
+abbrev pub decreases-loop-i : goal.decreases-loop-i
+decreases-loop-i l = length l.words - l.i

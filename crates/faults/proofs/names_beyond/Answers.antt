@@ -1,0 +1,7 @@
+-- `faults::names_beyond` meets its contract: by the bits past the count.
+use Rattle.faults.proofs.Faults.{beyond_some}
+use Rattle.faults.proofs.names_beyond.Goals as goal
+
+pub returns : goal.returns
+returns c =
+    beyond_some c.args.set c.args.count

@@ -1,0 +1,17 @@
+-- `links::chain` meets its contract: a case for each value of the test.
+use Rattle.links.proofs.Passing.{chain_yes, chain_no}
+use Rattle.links.proofs.chain.Goals as goal
+
+pub returns-then-b : goal.returns-then-b
+returns-then-b c =
+    record {
+      links = rw c.pointer.ensures.word (chain_yes _ _ _ _ c.if-b.true);
+      words = chain_yes _ _ _ _ c.if-b.true;
+    }
+
+pub returns-else-b : goal.returns-else-b
+returns-else-b c =
+    record {
+      links = chain_no _ _ _ _ c.if-b.false;
+      words = chain_no _ _ _ _ c.if-b.false;
+    }

@@ -1,0 +1,13 @@
+-- `text::is_digit` meets its contract.
+use borrow.Author.Tests.{le-leb, lt-leb}
+use Rattle.text.specs.Number.{is_digit}
+use native.Mathlib.Omega.{arith}
+use Rattle.text.proofs.is_digit.Goals as goal
+
+pub returns-then-b-ge48 : goal.returns-then-b-ge48
+unfolding is_digit
+returns-then-b-ge48 c = rw (le-leb 48 c.args.b (omega arith))
+
+pub returns-else-b-ge48 : goal.returns-else-b-ge48
+unfolding is_digit
+returns-else-b-ge48 c = rw (lt-leb 48 c.args.b (omega arith))

@@ -1,0 +1,12 @@
+-- `words::zero` meets its contract: after i turns the first i words are 0 and the others as they were.
+use Prim.Native.Nat.{◌≤◌, ◌-◌}
+use mathlib.Core.Path.{◌≡◌}
+use mathlib.Core.List.{◌++◌}
+use lib.ListN.{length, drop, replicate}
+use Rattle.words.proofs.zero.Given as goal
+
+abbrev pub invariant-loop-i : goal.invariant-loop-i
+invariant-loop-i l = (l.i ≤ length l.initial.area) × (length l.area ≡ length l.initial.area) × (l.area ≡ replicate l.i 0 ++ drop l.i l.initial.area)
+
+abbrev pub decreases-loop-i : goal.decreases-loop-i
+decreases-loop-i l = length l.initial.area - l.i
