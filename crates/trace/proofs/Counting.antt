@@ -108,7 +108,8 @@ module _ (n : ℕ) (es : List Event) (counts : List ℕ) (small : n ≤ 64) (t :
       record {
         size = simp length-set t.size;
         transit = λ p q lp lq. rw (count_more (is_send p q) es (Done a), count_more (is_recv p q) es (Done a))
-            (omega (arith, get_or-set_other counts (4160 + a) (64 * p + q) x 0 (λ e. omega arith), t.transit p q lp lq));
+            (let far : get_or (tallied counts (Done a)) (64 * p + q) 0 ≡ get_or counts (64 * p + q) 0 = get_or-set_other counts _ (64 * p + q) _ 0 (λ e. omega arith) in
+            omega (arith, far, t.transit p q lp lq));
         saved = λ z lz. rw (count_more (is_save z) es (Done a))
             (get_or-set_other counts (4160 + a) (4096 + z) x 0 (λ e. omega arith) ∙ omega (arith, t.saved z lz));
         finished = λ z lz. rw (count_more (is_done z) es (Done a)) (omega (arith, raised_own counts 4160 a z (omega (arith, t.size)), t.finished z lz));
