@@ -68,7 +68,7 @@ fn fault(events: &[u32; 7], e: u32, w: u32) -> u32
 }
 
 // What reading the text of some events is to answer: where nothing is refused, 0 and 0.
-#[derive(Drop)]
+#[derive(Clone, Copy)]
 pub struct Refusal {
     pub number: u32,
     pub place: u32,

@@ -26,7 +26,7 @@ const LOW_VALUES: usize = 2049;
 const HIGH_VALUES: usize = 4098;
 
 // Where the failure of a call is, and the line that it goes back to.
-#[derive(Drop)]
+#[derive(Clone, Copy)]
 struct Call {
     step: u64,
     set: u64,

@@ -1,8 +1,8 @@
 -- Demand 1 (MANUAL 9.1; quotations here and in the other files are from the requirements): "Nothing unfit is accepted,
 -- nothing fit is refused, and no refusal leaves anything in a lent area but" what MANUAL 6.4 says. Of `restart`,
 -- `messages`, `replay` and `lowest`, by the definitions of what they answer and leave (`restart_answer`,
--- `messages_answer`, `messages_area`, `replay_answer`, `replay_area`: the contracts give these for every input), for every
--- table area a, run area, failure, line and order.
+-- `messages_answer`, `messages_area`, `replay_answer`, `replay_area`: the contracts give these for every input), for
+-- every table area a, run area, failure, line and order.
 -- (The first half of the demand, no step outside lent memory, no number that wraps, no run without end, is that every
 -- function is proved and that none of these has a `requires`. For texts: crates/reader/proofs/Claims.)
 use Prim.Native.Nat.{ℕ, suc, ◌≤◌, ◌<◌}

@@ -3,8 +3,8 @@
 -- only when no choice is allowed. The delivery record the replay leaves equals that of the run without failure exactly
 -- when the line loses no message. Equal is the same numbers and values in the same order on every channel. .. an order
 -- with one not allowed is refused and has no record."
--- Of what `replay` answers and leaves (`replay_answer`, `replay_area`), for every table area, run area, failure, line and
--- order; of `lowest` with its own order. What is accepted is Demand1's `replay_accepts`.
+-- Of what `replay` answers and leaves (`replay_answer`, `replay_area`), for every table area, run area, failure, line
+-- and order; of `lowest` with its own order. What is accepted is Demand1's `replay_accepts`.
 use Prim.Native.Nat.{ℕ, ◌≤◌}
 use mathlib.Core.Path.{◌≡◌, sym, ◌∙◌}
 use mathlib.Core.Logic.{◌↔◌, ◌≢◌}

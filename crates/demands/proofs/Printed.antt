@@ -90,7 +90,7 @@ module _ (text : List ℕ) (t : Trace) (step set : ℕ) (says : FailureText text
 
   lowest_exact : steps (lowest_order R) ≡ exact_steps R
   unfolding restart_of
-  lowest_exact = let (s, c, d) = lowest_order_lem R L in exact_steps_lem R L (lowest_order R) s c restarts_so.greatest.loss_free_lem d
+  lowest_exact = let (s, c, d) = lowest_order_lem R L in exact_steps_lem R L (lowest_order R) s c restarts_so.greatest.loss_free d
 
   recovers_so : Recovers text (recovery_of (record { trace = t; step = step; failed = set }))
   unfolding recovery_of restart_of

@@ -63,13 +63,13 @@ module _ (t : Trace) (w : well_formed t ≡ true) (cut set : ℕ) (cl : cut ≤ 
   loses_nothing p q k = by_bool (lost (run_at t cut (line_in made)) p q k)
       (λ u.
       let b = lost_within (run_at t cut (line_in made)) (laws t (rule_of t) (valid t w) cut (line_in made) cl) p q k u in
-      clash u (lost_same t cut (line_in made) (engine_line t cut set) p q k (same p b.0) (same q b.1) ∙ top.loss_free_lem p q k))
+      clash u (lost_same t cut (line_in made) (engine_line t cut set) p q k (same p b.0) (same q b.1) ∙ top.loss_free p q k))
       (λ u. u)
 
   greatest_made : Greatest t (rule_of t) cut (usable_at t cut) (in_set set) (line_in made)
   greatest_made = record {
     permitted = λ z h. rw (same z h) (top.permitted z h);
-    loss_free_lem = loses_nothing;
+    loss_free = loses_nothing;
     top = λ m a b z h. rw (same z h) (top.top m a b z h);
   }
 

@@ -73,9 +73,9 @@ module _ (l : List ℕ) where
   send_says : key_at l 0 k_send ≡ true → Says l (send_said l)
   unfolding send_said
   send_says t = begun k_send _ t (λ a p x e s h.
-      read_field most refl l (Says l) p k_to x _ s tt (λ b q y f u i.
-      read_field most_value refl l (Says l) q k_val y _ u tt (λ v r z g w j.
-      read_end (Says l) l r z (line.TheVariants.Send a b v) w tt (λ n. (rw (e, f, g, n, send_text), (h, i, j))))))
+      read_field _ refl l (Says l) p k_to x _ s tt (λ b q y f u i.
+      read_field _ refl l (Says l) q k_val y _ u tt (λ v r z g w j.
+      read_end (Says l) l r z (line.TheVariants.Send a b v) w tt (λ n. (rw (e, f, g, n, send_text), (h, omega arith, omega arith))))))
 
   recv_says : key_at l 0 k_recv ≡ true → Says l (recv_said l)
   unfolding recv_said

@@ -14,7 +14,7 @@ use text::{LineEnd, Num};
 
 // What a line says: a process count, a send, a receive, a checkpoint, the end of one or a failure, each with its
 // numbers; or none of these.
-#[derive(Drop)]
+#[derive(Clone, Copy)]
 pub enum Line {
     Procs(u64),
     Send(u64, u64, u64),
@@ -26,7 +26,7 @@ pub enum Line {
 }
 
 // What the line at a place of a text says and where the next one begins; or that it lacks its LF.
-#[derive(Drop)]
+#[derive(Clone, Copy)]
 pub enum Placed {
     Said(Line, usize),
     Missing,

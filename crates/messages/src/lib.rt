@@ -17,7 +17,7 @@ use recovery_line::Line;
 use words::AREA_WORDS;
 
 // How many messages of each class a line leaves.
-#[derive(Drop)]
+#[derive(Clone, Copy)]
 pub struct Counted {
     pub number: u32,
     pub place: usize,

@@ -110,7 +110,7 @@ pub fn restart_phases(
 
 // Of a process that goes back: its newest event before its restart, and its first event after that one; 0 where there
 // is none.
-#[derive(Drop)]
+#[derive(Clone, Copy)]
 pub struct Back {
     pub before: usize,
     pub first: usize,

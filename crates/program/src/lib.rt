@@ -16,7 +16,7 @@ pub const READ_BYTES: usize = TEXT_MOST + 1;
 pub const REPORT_BYTES: usize = 262144;
 
 // How many bytes there are to write, and the status: 0 recovered, 1 refused.
-#[derive(Drop)]
+#[derive(Clone, Copy)]
 pub struct Outcome {
     pub length: usize,
     pub status: u8,

@@ -22,7 +22,7 @@ use trace::Event;
 use words::AREA_WORDS;
 
 // A line where an event or a failure is due: a fit event, a failure, or the number of what is wrong.
-#[derive(Drop)]
+#[derive(Clone, Copy)]
 pub enum Judged {
     Fit(trace::Event),
     Fails(u64, u64),
@@ -31,7 +31,7 @@ pub enum Judged {
 
 // Where reading the lines ends: a refusal's number and line; the line after the last; or a failure line, its step, its
 // set, its own line and the place after it.
-#[derive(Drop)]
+#[derive(Clone, Copy)]
 pub enum Scanned {
     Refused(u32, usize),
     Ended(usize),
@@ -39,14 +39,14 @@ pub enum Scanned {
 }
 
 // The answer of a reading: the number of the refusal, 0 if accepted, and the line that it is for, from 1.
-#[derive(Drop)]
+#[derive(Clone, Copy)]
 pub struct Answer {
     pub number: u32,
     pub place: usize,
 }
 
 // The answer of reading a text that ends with a failure line: also that line's step and set.
-#[derive(Drop)]
+#[derive(Clone, Copy)]
 pub struct FailureAnswer {
     pub number: u32,
     pub place: usize,
@@ -66,6 +66,7 @@ fn first_line(line: &[u8]) -> Line
 }
 
 // What is wrong with an event after n others, which are counted.
+#[tactic(auto, using(crate::proofs::Judging::fault_1))]
 fn fault(counts: &[u16], procs: u64, n: usize, e: Event) -> u32
     requires { (procs ≤ 64) × (length counts.now ≡ count_words) }
     ensures { (t : Trace) → Tallied counts.now procs n t → result ≡ fault_here t e }

@@ -83,7 +83,7 @@ module _ (a : List ℕ) (step set : ℕ) where
       let cl = step_within a room step set full F in
       let c = completed a a step set l (lowest_order R) F.opened.holds cl r.replayed D.replayed in
       let (e, b) = steps_counted a a step set l (lowest_order R) F.opened.holds cl (run R (lowest_order R)) refl in
-      let exact : r.replayed.steps ≡ exact_steps R = (rw (← D.replayed) at e) (c ok).0 (c ok).1 D.restarts.greatest.loss_free_lem in (
+      let exact : r.replayed.steps ≡ exact_steps R = (rw (← D.replayed) at e) (c ok).0 (c ok).1 D.restarts.greatest.loss_free in (
         (answers_restart a step set n r.restarted f z D.restarted D.restarts).0,
         (D.replayed ∙ rw ok, (m.0, (m.1.0, (λ _. record { restarts = D.restarts; taken = ok; completed = c; exact = exact; at_most = rw D.replayed b; few = D.few }, m.1.1.1)))),
       )

@@ -85,7 +85,7 @@ pub fn lowest(table: &[u32], step: u64, set: u64, line: Line, area: &mut [u32]) 
 }
 
 // What `restart` answers, and with its line `lowest` and `messages`.
-#[derive(Drop)]
+#[derive(Clone, Copy)]
 pub struct Recovered {
     pub restarted: Restarted,
     pub replayed: Replayed,

@@ -18,7 +18,7 @@ use words::AREA_WORDS;
 
 // The answer of a writing: the number of the refusal, 0 if accepted; a place, which is always 0; and how many bytes the
 // text has, 0 in a refusal.
-#[derive(Drop)]
+#[derive(Clone, Copy)]
 pub struct WriteAnswer {
     pub number: u32,
     pub place: usize,

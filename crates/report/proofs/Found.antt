@@ -63,7 +63,7 @@ module _ (t : Trace) (full : List ℕ) (M : Marked t (rule_of t) full) (cut set 
   module _ (gates : List ℕ) (G : Given Q cut full gates) (events : List ℕ) (a b c : ℕ) (E : EntriesOf Q full events a b c) (few : a + b + c ≤ 2048)
       (listed : ℕ) (l : listed ≡ listed_events Q) where
     steps_are : listed + b ≡ steps (lowest_order Q)
-    steps_are = lowest_steps Q G.tells.laws m.greatest.loss_free_lem listed b l E.kept_count
+    steps_are = lowest_steps Q G.tells.laws m.greatest.loss_free listed b l E.kept_count
 
     abbrev found : Restarted → Run → Recovery
     found x R = record { restarted = x; orphans = orphans R; kept = kept_ones R; steps = steps (lowest_order R) }
@@ -79,7 +79,7 @@ module _ (t : Trace) (full : List ℕ) (M : Marked t (rule_of t) full) (cut set 
 
     -- the engine's line loses no message, so that the steps are exact
     exact : steps (lowest_order Q) ≡ exact_steps Q
-    exact = let (s, o, d) = lowest_order_lem Q G.tells.laws in exact_steps_lem Q G.tells.laws (lowest_order Q) s o m.greatest.loss_free_lem d
+    exact = let (s, o, d) = lowest_order_lem Q G.tells.laws in exact_steps_lem Q G.tells.laws (lowest_order Q) s o m.greatest.loss_free d
 
     ends_exactly : EndsExactly f (printed_of (given (recovery_of f)))
     unfolding recovery_of

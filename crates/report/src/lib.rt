@@ -25,7 +25,7 @@ use trace::EVENT_BASE;
 use words::AREA_WORDS;
 
 // How many bytes of a report were written, and whether it is a refusal.
-#[derive(Drop)]
+#[derive(Clone, Copy)]
 pub struct Reported {
     pub length: usize,
     pub refused: bool,

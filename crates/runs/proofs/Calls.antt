@@ -295,7 +295,7 @@ module _ (text a : List ℕ) (step set : ℕ) (holds : holds_trace a ≡ true) (
     none_lost : lost_ones R ≡ []
     none_lost =
         let L : Laws R = laws t (rule_of t) (held_valid a holds) step (line_in (engine_line_of t step set)) ((failure_fit t step set).0 taken.0).step_most in
-        (lost_none R L).1 (subst LossFree same ready.means.greatest.loss_free_lem)
+        (lost_none R L).1 (subst LossFree same ready.means.greatest.loss_free)
 
     module _ (run₀ : List ℕ) (long : area_words ≤ length run₀) where
       ok : line_fault_of a (length run₀) step set r.line ≡ 0
@@ -321,7 +321,7 @@ module _ (text a : List ℕ) (step set : ℕ) (holds : holds_trace a ≡ true) (
             let T = code_run a step r.line in
             let q = carried_out_lem (run T (lowest_order T)) (length (lowest_order T)) (P.0 ∙ rw ok) in
             let n = sym (ap (λ (z : Replayed). z.steps) q) ∙ (C ok).2 ∙ ap (λ (Q : Run). steps (lowest_order Q)) same ∙ ap (λ (z : Recovery). z.steps) found in
-            (q ∙ rw n, (P.1.1.0 (C ok).0 (C ok).1).1 ready.means.greatest.loss_free_lem)
+            (q ∙ rw n, (P.1.1.0 (C ok).0 (C ok).1).1 ready.means.greatest.loss_free)
 
   -- ---- `messages` and `replay` with a line of numbers
 

@@ -91,7 +91,7 @@ fn next_receiver(full: &[u32], gates: &[u32], area: &[u32], p: usize, ready: &mu
 
 // A channel whose oldest kept message may be handed over, CHANNELS for none, and the set of senders from that of the
 // channel on.
-#[derive(Drop)]
+#[derive(Clone, Copy)]
 struct Hand {
     channel: usize,
     senders: u64,
@@ -136,7 +136,7 @@ fn hand_over(links: &[u16], area: &mut [u32], c: usize) -> u64
 // What the search knows: a set of processes outside of which none may run, one of senders outside of which none has a
 // kept message that is ready, one of processes outside of which no gate is shut, and a phase that the gates of its
 // members are not below.
-#[derive(Drop)]
+#[derive(Clone, Copy)]
 struct Open {
     may: u64,
     senders: u64,

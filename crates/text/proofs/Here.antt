@@ -1,4 +1,5 @@
--- The turn of the search that finds the LF. (Apart from Lines, so that the edit that fits this law leaves that file as it is.)
+-- The turn of the search that finds the LF. (Apart from Lines, so that the edit that fits this law leaves that file as
+-- it is.)
 use Prim.Native.Nat.{ℕ, ◌<◌}
 use mathlib.Core.Path.{◌≡◌}
 use mathlib.Core.List.{List}

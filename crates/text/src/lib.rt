@@ -11,21 +11,21 @@ ghost use Rattle.text.specs.Number.{is_digit, pushed, digits_from, number_at};
 ghost use Rattle.text.specs.Key.{starts_with, key_at};
 
 // Where a line ends: the place of its LF, or nowhere.
-#[derive(Drop)]
+#[derive(Clone, Copy)]
 pub enum LineEnd {
     At(usize),
     Missing,
 }
 
 // A number and the place after it, or none that is fit.
-#[derive(Drop)]
+#[derive(Clone, Copy)]
 pub enum Num {
     Value(u64, usize),
     Refused,
 }
 
 // A value with one more digit at its end, or too large for its bound.
-#[derive(Drop)]
+#[derive(Clone, Copy)]
 pub enum Pushed {
     Fits(u64),
     Over,

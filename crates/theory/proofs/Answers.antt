@@ -12,7 +12,7 @@ use lib.Dec.{leb, eqb}
 use borrow.Author.Tests.{eqb-true, le-leb}
 use Rattle.theory.specs.Lists.{iv, keep, no_one, all_below, sum}
 use Rattle.theory.specs.Inner.Lists.{has}
-use Rattle.theory.specs.Events.{send, size, at, kind, sends, sent, rcvd, send_of}
+use Rattle.theory.specs.Events.{send, size, kind, sends, sent, rcvd, send_of}
 use Rattle.theory.specs.Line.{Run, lost, orphan, kept, orphan_phase, LossFree}
 use Rattle.theory.specs.Replay.{State, resends, ready, taken_by}
 use Rattle.theory.specs.Record.{delivered, faultless, SameRecord}

@@ -269,7 +269,7 @@ module _ (t : Trace) (w : well_formed t ≡ true) (rule : Rule) where
           (below_above t rule A cut cl usable U failed m a p q k h, lower_less t rule A cut cl usable U failed m a.permitted p q k h)
 
       pub lowering_ends : (m : ℕ → ℕ) → Above t rule cut usable failed m → LossFree (recorded t rule cut m) → Greatest t rule cut usable failed m
-      lowering_ends m a f = record { permitted = a.permitted; loss_free_lem = f; top = a.top }
+      lowering_ends m a f = record { permitted = a.permitted; loss_free = f; top = a.top }
 
 -- ---- The floor, for the requirements' rule
 
@@ -373,7 +373,7 @@ module _ (t : Trace) (step set : ℕ) where
         let f = line_taken.0 e in
         demand_3 t w step f.failure.step_most (in_set set) line f.permitted
 
--- Not claims of the requirements, but for code that is to meet them: Lines.lost-epochs and epochs-lost (a permitted
--- line loses a message by epochs alone), Counters.counted (a channel is two numbers), Steps.reach-work (each step takes
--- one from the work that is left), Classes (counts), Refusals.set-shifted (a set names a process N or more if a shift
+-- Not claims of the requirements, but for code that is to meet them: Lines.lost_epochs and epochs_lost (a permitted
+-- line loses a message by epochs alone), Counters.counted (a channel is two numbers), Steps.reach_work (each step takes
+-- one from the work that is left), Classes (counts), Refusals.set_shifted (a set names a process N or more if a shift
 -- by N leaves something).

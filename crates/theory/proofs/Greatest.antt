@@ -83,14 +83,14 @@ module _ (t : Trace) (rule : Rule) (A : Valid t) (cut : ℕ) (cl : cut ≤ size 
   lowering_greatest zero m a h = go (lowered t rule cut usable m) refl
     where
       go : (o : Option (ℕ → ℕ)) → lowered t rule cut usable m ≡ o → Greatest t rule cut usable failed m
-      go none e = record { permitted = a.permitted; loss_free_lem = lowered_none m e; top = a.top }
+      go none e = record { permitted = a.permitted; loss_free = lowered_none m e; top = a.top }
       go (some n) e = let r = lowered_some m n e in absurd (omega (arith, below_sum m a r.0 r.1 r.2 r.3))
   lowering_greatest (suc c) m a h = go (lowered t rule cut usable m) refl (λ n b l. lowering_greatest c n b l)
     where
       go : (o : Option (ℕ → ℕ)) → lowered t rule cut usable m ≡ o
           → ((n : ℕ → ℕ) → Above t rule cut usable failed n → sum t.procs n ≤ c → Greatest t rule cut usable failed (lowering t rule cut usable c n))
           → Greatest t rule cut usable failed (if_some o m (λ n. lowering t rule cut usable c n))
-      go none e f = record { permitted = a.permitted; loss_free_lem = lowered_none m e; top = a.top }
+      go none e f = record { permitted = a.permitted; loss_free = lowered_none m e; top = a.top }
       go (some n) e f =
           let r = lowered_some m n e in
           let s = below_sum m a r.0 r.1 r.2 r.3 in
@@ -103,7 +103,7 @@ module _ (t : Trace) (rule : Rule) (A : Valid t) (cut : ℕ) (cl : cut ≤ size 
       (λ u. omega (arith, (U.within z _ u).1, now_few t rule A cut cl z)) (λ u. omega (arith, u.0))))
 
   pub greatest_unique : (l m : ℕ → ℕ) → Greatest t rule cut usable failed l → Greatest t rule cut usable failed m → (z : ℕ) → z < t.procs → l z ≡ m z
-  greatest_unique l m a b z h = omega (arith, a.top m b.permitted b.loss_free_lem z h, b.top l a.permitted a.loss_free_lem z h)
+  greatest_unique l m a b z h = omega (arith, a.top m b.permitted b.loss_free z h, b.top l a.permitted a.loss_free z h)
 
 -- ---- The floor, for the requirements' rule
 

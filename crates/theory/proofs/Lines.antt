@@ -252,4 +252,4 @@ pub past_unlogged : (t : Trace) (A : Valid t) (cut : ℕ) (cl : cut ≤ size t) 
 past_unlogged t A cut cl l p q k x =
     let n : (y : ℕ) → y ≤ cut → y ≤ size t = λ y h. omega arith in
     let u = logged_is t (rule_of t) p q x.d x.e x.d_send x.e_recv x.d_pos x.e_pos (n x.d x.d_cut) (n x.e x.e_cut) (x.d_is ∙ sym x.e_is) in
-    ltb-false (epoch_at t (rule_of t) p x.d) (epoch_at t (rule_of t) q x.e) (sym u ∙ rw x.d_is x.unlogged)
+    omega (arith, ltb-false _ _ (sym u ∙ rw x.d_is x.unlogged))

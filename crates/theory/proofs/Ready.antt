@@ -5,11 +5,12 @@
 -- that, all events serve.
 use mathlib.Core.Path.{◌≡◌, refl, sym, ◌∙◌, ap, subst}
 use mathlib.Core.Logic.{◌≢◌}
-use mathlib.Core.Bool.{true, false, cond}
+use mathlib.Core.Bool.{true, false}
 use mathlib.Core.List.{List, [], ◌∷◌}
 use mathlib.Core.Option.{none, none-ne-some}
 use Prim.Native.Nat.{ℕ, zero, suc, ◌+◌, ◌-◌, ◌≤◌, ◌<◌}
 use native.Mathlib.Omega.{arith}
+use Rattle.std.proofs.lemmas.Bool.{cond-false}
 use lib.Dec.{leb, ltb}
 use borrow.Author.Tests.{leb-true, lt-ltb, le-ltb}
 use Rattle.theory.specs.Lists.{no_one}
@@ -99,7 +100,8 @@ module _ (R : Run) where
       unfolding gate
       low_gated z e a b c k f =
           let t = going_back z e b k in
-          ih (R.phase z (R.restart z) - 1) (omega (arith, phase_le L z (R.restart z) e (omega arith), low_at z e a k, restart_pos L z)) (subst (λ b. ready R s (cond b (R.phase z (R.restart z)) (R.phase z (R.restart z) - 1)) ≡ false) t f)
+          let g : gate R z ≡ R.phase z (R.restart z) - 1 = omega (arith, cond-false (R.stays z) (R.phase z (R.restart z)) (R.phase z (R.restart z) - 1) t) in
+          ih (R.phase z (R.restart z) - 1) (omega (arith, phase_le L z (R.restart z) e (omega arith), low_at z e a k, restart_pos L z)) (subst (λ n. ready R s n ≡ false) g f)
 
       low_send : (z q e m : ℕ) → at R.trace e ≡ z → R.restart z < e → e ≤ size R.trace → Low r e → Kept R z q m
           → ready R s (R.carries z q m) ≡ false → CanStep R s

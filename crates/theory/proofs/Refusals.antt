@@ -17,6 +17,13 @@ use Rattle.theory.specs.Refusals.{step_or, set_or, failure_fault, permits, line_
 use Rattle.theory.specs.Inner.Refusals.{FitFailure, FitLine}
 use Rattle.theory.proofs.Base.{by, on, clash, le?, both, or_right, all_true, all_at}
 
+-- ---- Rows: of two processes and no event, the sets that name 2; none; 0 and 1; the step 1, with the set that names
+-- none
+
+pub rows : (failure_fault (started 2) 0 4 ≡ 9) × (failure_fault (started 2) 0 0 ≡ 9) × (failure_fault (started 2) 0 3 ≡ 0) × (failure_fault (started 2) 1 0 ≡ 8)
+unfolding failure_fault
+rows = (refl, refl, refl, refl)
+
 -- ---- Sets of processes
 
 below_pow : (m : ℕ) → m < 2 ^ m
@@ -193,10 +200,3 @@ module _ (t : Trace) (step set count : ℕ) (line : ℕ → ℕ) where
         (r.0, λ q. let f : fits ≡ true = fits_iff.1 q in absurd (let z : 0 ≡ 10 = rw f at r.1 in omega arith)),
     λ r. failure_rest t step set (cond (not fits) 10 0) r.0 ∙ by fits (λ f. absurd (r.1 (fits_iff.0 f))) (λ f. rw f refl),
   )
-
--- ---- Rows: of two processes and no event, the sets that name 2; none; 0 and 1; the step 1, with the set that names
--- none
-
-pub rows : (failure_fault (started 2) 0 4 ≡ 9) × (failure_fault (started 2) 0 0 ≡ 9) × (failure_fault (started 2) 0 3 ≡ 0) × (failure_fault (started 2) 1 0 ≡ 8)
-unfolding failure_fault
-rows = (refl, refl, refl, refl)

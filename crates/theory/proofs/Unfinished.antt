@@ -1,5 +1,5 @@
--- A process whose epoch is above its latest finished one has an unfinished save. (Apart from Claims, so that the edit that
--- fits this law leaves that file as it is.)
+-- A process whose epoch is above its latest finished one has an unfinished save. (Apart from Claims, so that the edit
+-- that fits this law leaves that file as it is.)
 use mathlib.Core.Path.{◌≡◌}
 use mathlib.Core.Bool.{true}
 use Prim.Native.Nat.{ℕ, ◌≤◌, ◌<◌}

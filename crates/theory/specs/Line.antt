@@ -107,7 +107,7 @@ module _ (t : Trace) (rule : Rule) (cut : ℕ) where
     -- "Lines are compared zone by zone. The engine's line is the greatest without a lost message."
     pub record Greatest (l : ℕ → ℕ) : Type 0 where
       pub permitted : Permitted l
-      pub loss_free_lem : LossFree (recorded l)
+      pub loss_free : LossFree (recorded l)
       pub top : (m : ℕ → ℕ) → Permitted m → LossFree (recorded m) → (z : ℕ) → z < t.procs → m z ≤ l z
 
   -- ---- The same line by lowering: from the highest permitted line, as long as a message is lost, its sender goes down

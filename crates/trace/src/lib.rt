@@ -110,6 +110,7 @@ fn channel(from: u64, to: u64) -> usize
 }
 
 // What is wrong with a message between two processes: 3 where one is none, 4 where they are one.
+#[tactic(auto, unfolding(crate::specs::Inner::Tally::fault_by))]
 fn pair_fault(procs: u64, at: u64, peer: u64) -> u32
     ensures { (counts : List ℕ) (val : ℕ) → result ≡ fault_by procs counts (Send at peer val) }
 {
@@ -141,6 +142,7 @@ fn recv_fault(counts: &[u16], procs: u64, at: u64, from: u64) -> u32
 }
 
 // What is wrong with a checkpoint: 6 where it is the process's 31st.
+#[tactic(auto, unfolding(crate::specs::Inner::Tally::fault_by))]
 fn save_fault(counts: &[u16], procs: u64, at: u64) -> u32
     requires { (procs ≤ 64) × (length counts.now ≡ count_words) }
     ensures { result ≡ fault_by procs counts.now (Save at) }

@@ -9,9 +9,9 @@ use Rattle.theory.specs.Events.{at, sends, recvs, sent, rcvd, send_of, recv_of}
 use Rattle.theory.specs.Epochs.{joined, epoch_at, phase_at, logged_by, rule_of, finished_at}
 use Rattle.columns.specs.Inner.Columns.{number_base, epoch_base, phase_base, match_base, logged_base, full_words}
 
--- Working words: process z's epoch at z, its phase at phasesBase + z and its latest finished epoch at finishedBase + z;
--- of channel c = 64 p + q the oldest send in transit and the latest send, as events, 0 where there is none; of a send
--- the next send on its channel.
+-- Working words: process z's epoch at z, its phase at phases_base + z and its latest finished epoch at finished_base +
+-- z; of channel c = 64 p + q the oldest send in transit and the latest send, as events, 0 where there is none; of a
+-- send the next send on its channel.
 abbrev pub phases_base : ℕ
 phases_base = 64
 

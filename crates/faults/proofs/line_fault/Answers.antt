@@ -1,5 +1,6 @@
 -- `faults::line_fault` meets its contract: the count first, then the numbers.
 use mathlib.Core.Path.{◌∙◌}
+use native.Mathlib.Omega.{arith}
 use Rattle.columns.proofs.Full.{procs_is, procs_most}
 use Rattle.recovery_line.proofs.Lines.{line_at}
 use Rattle.positions.proofs.Finishing.{uncounted}
@@ -12,7 +13,7 @@ processes-count-requires c =
 
 pub returns-then-line-count : goal.returns-then-line-count
 returns-then-line-count c =
-    λ t G l. fault_count t _ G _ l _ _ _ _ c.processes-count.ensures.0 c.if-line-count.true
+    λ t G l. fault_count t _ G _ l _ _ _ _ c.processes-count.ensures.0 (λ q. omega arith)
 
 pub finished_at-requires : goal.finished_at-requires
 finished_at-requires c =

@@ -1,4 +1,4 @@
--- `lowering::lower_at` meets its contract: one test after another, as lostW has them.
+-- `lowering::lower_at` meets its contract: one test after another, as lost_w has them.
 use mathlib.Core.Path.{sym}
 use Rattle.lowering.proofs.Laws.{no_receive, received_early, sent_late, is_logged, is_lost, is_lowered, not_lowered}
 use Rattle.lowering.proofs.lower_at.Goals as goal

@@ -14,8 +14,8 @@ pub record Tree (tree : List ℕ) : Type 0 where
   pub long : length tree ≡ 128
   pub nodes : Nodes tree 0
 
--- the leaves of the n first processes are the phases of their next orphans, noPhase where they have none; every other
--- leaf is noPhase
+-- the leaves of the n first processes are the phases of their next orphans, no_phase where they have none; every other
+-- leaf is no_phase
 unfoldable pub LeavesHold : List ℕ → List ℕ → List ℕ → ℕ → Type 0
 LeavesHold full area tree n = (z : ℕ) → z < 64 → get_or tree (64 + z) 0 ≡ cond (ltb z n) (least_with full (orp_w area z) no_phase) no_phase
 

@@ -22,7 +22,7 @@ take_base = 6275
 abbrev pub put_base : ℕ
 put_base = 10371
 
--- the least phase of an orphan that is not sent again; noPhase where there is none
+-- the least phase of an orphan that is not sent again; no_phase where there is none
 abbrev pub low_place : ℕ
 low_place = 14467
 

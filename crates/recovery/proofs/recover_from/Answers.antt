@@ -27,4 +27,4 @@ list_from-counted-requires c =
 
 pub returns : goal.returns
 returns c =
-    λ t M h. let e = c.restart_from-restarted.ensures.answer t M h in let m = c.restart_from-restarted.ensures.means t M h in let g = c.gates_of.ensures t (engine_takeable t _ M c.args.cut c.args.set h _ e m) in let counts = c.list_from-counted.ensures.answer _ g in record { restarted = e; restarts = m; replayed = lowest_counted _ g.tells.laws m.greatest.loss_free_lem _ _ (c.listed_events-listed.ensures.count _ g.tells g.gated) (ap (λ (x : Counted). x.kept) counts); counted = counts; words = c.list_from-counted.ensures.words _ g; few = c.list_from-counted.ensures.few }
+    λ t M h. let e = c.restart_from-restarted.ensures.answer t M h in let m = c.restart_from-restarted.ensures.means t M h in let g = c.gates_of.ensures t (engine_takeable t _ M c.args.cut c.args.set h _ e m) in let counts = c.list_from-counted.ensures.answer _ g in record { restarted = e; restarts = m; replayed = lowest_counted _ g.tells.laws m.greatest.loss_free _ _ (c.listed_events-listed.ensures.count _ g.tells g.gated) (ap (λ (x : Counted). x.kept) counts); counted = counts; words = c.list_from-counted.ensures.words _ g; few = c.list_from-counted.ensures.few }
