@@ -51,7 +51,7 @@ def changed(path):
     return texts
 
 
-# What rt prints of an edit that it tried: one line, with the first 160 characters of the first error. (It keeps no log.)
+# What rt prints of an edit that it tried: one line, with the first 160 characters of the first error. (It has no log.)
 TOLD = re.compile(r"^rt: must-fail (\w+/[\w.-]+)\.edit: (.*)$", re.M)
 
 # An edit that was refused, and why that may show nothing: a proof no longer fits the code, or a limit was met.
