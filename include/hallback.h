@@ -1,5 +1,5 @@
 /* Recovery of a recorded parallel run: reading, writing back, restart line, messages, replay. Link
-   target/staticlib/libcapi.a (rt staticlib capi). For C99 or later, and C++.
+   target/staticlib/libcapi.a (tools/build capi). For C99 or later, and C++.
 
    Every function may be called with any numbers and any slices. It returns the number of the refusal, or 0 if the call
    was accepted (README.md has a table of the numbers), and writes the rest of its answer as numbers into `answer`, one

@@ -51,20 +51,23 @@ def changed(path):
     return texts
 
 
-# What rt prints of an edit that it tried: one line, with the first 160 characters of the first error. (It keeps no log.)
+# What rt prints of an edit that it tried: one line, with the first 160 characters of the first error. (It has no log.)
 TOLD = re.compile(r"^rt: must-fail (\w+/[\w.-]+)\.edit: (.*)$", re.M)
 
 # An edit that was refused, and why that may show nothing: a proof no longer fits the code, or a limit was met.
 REFUSED = re.compile(r"refused, as it must be(?: \((only .*?)\))?(?:: (.*))?$")
 
-# How the prover says that something does not hold: a goal of a function for which no proof is found, two sides that
-# should be the same and are not, a tactic of a lemma that finds no proof.
-FACT = re.compile(
-    r"\bit is not proved that |the two (?:types|sides) |, one side reads `|expected type `|\bdoes not hold\b|"
-    r"`(?:omega|search|grind|simp)`: |: give a proof of that as the last argument")
+# An error as rt prints it: where it is, and what it says. Of a goal without an answer, whose proof is left to the
+# prover's search, there is no error but a note that names what is not proved.
+ERROR = re.compile(r"(?:note: )?(?:\./)?(\S+?):\d+:\d+: (?:error: )?(.*)")
 
-# A tactic that finds nothing to rewrite in what it is to prove tells nothing.
-SILENT = re.compile(r"`(?:rw|simp)`: no ")
+# Errors that tell nothing: one only follows from another, or a proof finds nothing to rewrite in what it is to prove.
+SILENT = re.compile(r"` was not admitted \(|^`[^`]*`: `(?:rw|simp)`: no ")
+
+# How the prover says that something does not hold: two sides that should be the same are not, or no proof is found.
+FACT = re.compile(
+    r"the two (?:types|sides) |, one side reads `|expected type `|\bdoes not hold\b|`(?:omega|search|grind|simp)`: |"
+    r"^`[^`]*`: give a proof of that as the last argument|^it is not proved that ")
 
 
 def told(log):
@@ -76,9 +79,10 @@ def unfit(said):
     """Why the refusal that rt tells of cannot show what the edit is named for, or an empty text where it can.
 
     That the edited text is wrong, and not only other words for the same, no log can tell: who writes an edit sees to
-    that. It can show it where the first error says that something does not hold. It cannot where the edited text does
-    not check at all (BAD EDIT), nor where a proof file names what the edit took away, which fails whether the edited
-    code is right or wrong, nor where the prover met a limit: of these two rt says so itself.
+    that. It can show it where the first error stands in a file of proofs/ (or is of a goal that has no answer there)
+    and says that something does not hold. It cannot where the edited text does not check at all (BAD EDIT, or that
+    error stands in src/ or specs/), nor where a proof file names what the edit took away, which fails whether the
+    edited code is right or wrong, nor where the prover met a limit: of these two rt says so itself.
     """
     found = REFUSED.match(said)
     if not found:
@@ -86,5 +90,10 @@ def unfit(said):
     only, first = found.groups()
     if only:
         return f"{only.split(', so this says')[0].split(', which gave')[0]}: {first}"
-    first = first or ""
-    return "" if FACT.search(first) and not SILENT.search(first) else f"the first error tells of no fact: {first}"
+    error = ERROR.match(first or "")
+    if not error:
+        return f"rt tells of no error: {first or 'nothing'}"
+    place, what = error.groups()
+    if not place.startswith("proofs/") and not what.startswith("it is not proved that "):
+        return f"the edited text does not check: {first}"
+    return "" if FACT.search(what) and not SILENT.search(what) else f"the first error tells of no fact: {first}"

@@ -11,7 +11,7 @@
 fn main() {
     eprintln!(
         "differential: nothing to compare with, since ../target/staticlib/libcapi.a was not there \
-         when this was built; build it (rt staticlib capi), then run this again"
+         when this was built; build it (tools/build capi), then run this again"
     );
     std::process::exit(1);
 }

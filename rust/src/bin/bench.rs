@@ -25,7 +25,7 @@
 fn main() {
     eprintln!(
         "bench: nothing to compare with, since ../target/staticlib/libcapi.a was not there when \
-         this was built; build it (rt staticlib capi), then run this again"
+         this was built; build it (tools/build capi), then run this again"
     );
     std::process::exit(1);
 }
