@@ -2,7 +2,8 @@
 use mathlib.Core.Path.{refl, ap, ◌∙◌}
 use Rattle.messages.specs.declared.Counted.{Counted}
 use Rattle.messages.specs.Messages.{messages_answer, messages_area}
-use Rattle.capi.proofs.Giving.{answer_is, messages_are, lists_in}
+use Rattle.capi.proofs.Giving.{answer_is, lists_in}
+use Rattle.capi.proofs.Putting.{messages_are}
 use Rattle.capi.proofs.hallback_messages.Goals as goal
 
 pub returns : goal.returns

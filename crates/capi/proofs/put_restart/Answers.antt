@@ -1,5 +1,5 @@
 -- `capi::put_restart` meets its contract: four numbers, then three arrays.
-use Rattle.capi.proofs.Giving.{restart_put}
+use Rattle.capi.proofs.Putting.{restart_put}
 use Rattle.capi.proofs.put_restart.Goals as goal
 
 pub returns : goal.returns
