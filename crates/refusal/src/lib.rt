@@ -4,6 +4,9 @@
 
 ghost use Rattle.std.specs.Prelude.{◌≡◌};
 ghost use Rattle.refusal.specs.Refusals.{number_of, at_no_place};
+ghost use Rattle.trace.specs.Inner.Tally as unfit;
+
+use trace::Unfit;
 
 /// Why a call is refused. The discriminants are the numbers of MANUAL 6.2.
 #[derive(Clone, Copy, Debug, PartialEq, Eq)]
@@ -72,5 +75,19 @@ impl From<Refusal> for Refused {
 
     fn from(refusal: Refusal) -> Refused {
         refusal.at(0)
+    }
+}
+
+impl From<Unfit> for Refusal {
+    ghost from_gives = { λ u r. number_of r ≡ unfit.number_of u };
+
+    fn from(unfit: Unfit) -> Refusal {
+        match unfit {
+            Unfit::NoProcess => Refusal::NoProcess,
+            Unfit::Itself => Refusal::Itself,
+            Unfit::NothingInTransit => Refusal::NothingInTransit,
+            Unfit::TooManySaves => Refusal::TooManySaves,
+            Unfit::NothingToFinish => Refusal::NothingToFinish,
+        }
     }
 }
