@@ -1,12 +1,12 @@
 -- The list of the messages, from a full table and gates to the run area.
 use Prim.Native.Nat.{ℕ, ◌+◌, ◌<◌, ◌≤◌}
-use mathlib.Core.Path.{◌≡◌, refl, sym, ap, ◌∙◌}
+use mathlib.Core.Path.{◌≡◌, refl, ap, ◌∙◌}
 use mathlib.Core.List.{List, ◌++◌}
 use native.Mathlib.Omega.{arith}
 use mathlib.Core.Bool.{false}
 use lib.Dec.{eqb}
-use lib.ListN.{length, get_or, take, drop, replicate, length-replicate, length-append, get_or-append}
-use lib.Seq.{length-take-le, take_at, drop_at}
+use lib.ListN.{length, get_or, take, drop, replicate, get_or-append}
+use lib.Seq.{length-take-le}
 use borrow.Author.Tests.{ne_eqb}
 use Rattle.words.specs.Area.{area_words, words_from}
 use Rattle.words.proofs.Area.{length_words, words_at_lem}
