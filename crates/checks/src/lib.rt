@@ -9,7 +9,7 @@ ghost use Rattle.checks.specs.Inner.Filled.{piece, takes, filled, Fills};
 ghost use Rattle.checks.specs.Inner.Rows.{Place, field_place, number_of};
 
 // The place of the first byte b at or after a place, or the end.
-fn find(bytes: &[u8], from: usize, b: u8) -> usize
+pub fn find(bytes: &[u8], from: usize, b: u8) -> usize
     ensures { Place b from bytes.now result }
 {
     if from > bytes.len() {
