@@ -7,7 +7,7 @@ use native.Mathlib.Numerals.{add-one}
 use lib.ListN.{length, get_or, take, drop, length-drop}
 use lib.Seq.{slice, take-nil, length-take-le, get_or-take, get_or-drop}
 use Rattle.theory.specs.Answers.{gather}
-use Rattle.restart.specs.declared.Restarted.{Restarted}
+use Rattle.restart.specs.Restart.{RestartAnswer}
 use Rattle.writer.specs.declared.Sink.{Sink}
 use Rattle.writer.specs.Inner.Sinks.{Takes}
 use Rattle.writer.proofs.Buffers.{takes_none, takes_then}
@@ -55,7 +55,7 @@ middle_sends events a n s = (
 
 -- ---- The whole report of a recovery
 
-pub recovery_put : (r : Restarted) (full events : List ℕ) (orphans kept steps : ℕ) {s₀ s₁ s₂ s₃ s₄ : Sink ℕ}
+pub recovery_put : (r : RestartAnswer) (full events : List ℕ) (orphans kept steps : ℕ) {s₀ s₁ s₂ s₃ s₄ : Sink ℕ}
     → Takes (gather (process_line_of r) r.line.count) s₀ s₁
     → Takes (event_rows (bytes_of key_orphan) full (take orphans events)) s₁ s₂
     → Takes (event_rows (bytes_of key_kept) full (take (orphans + kept - orphans) (drop orphans events))) s₂ s₃
