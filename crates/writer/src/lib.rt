@@ -42,8 +42,8 @@ impl<'a, T: Copy> Sink<'a, T> {
 }
 
 impl<'a> Sink<'a, u64> {
-    // Words, each as a number of 64 bits; one test of the room serves for all of them. (Beside `put_all`, since one method
-    // for both would have to say by the law of a `From` what each word becomes.)
+    // Words, each as a number of 64 bits; one test of the room serves for all of them. (Beside `put_all`, since one
+    // method for both would have to say by the law of a `From` what each word becomes.)
     pub fn put_words(&mut self, words: &[u32])
         ensures { Takes words.now self.old self.new }
     {
