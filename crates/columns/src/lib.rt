@@ -135,7 +135,14 @@ fn note_send(full: &mut [u32], work: &mut [u16], e: usize, a: usize, b: usize)
     let waiting = oldest(work, b, a);
     let first = if waiting == 0 { e as u16 } else { waiting };
     let number = full[NUMBER_BASE + latest] + 1;
-    store(full, e, number, u32::from(work[a]), u32::from(work[PHASES + a]), 0);
+    store(
+        full,
+        e,
+        number,
+        u32::from(work[a]),
+        u32::from(work[PHASES + a]),
+        0,
+    );
     work[NEXT + latest] = e as u16;
     work[LATEST + c] = e as u16;
     work[OLDEST + c] = first;

@@ -2,8 +2,6 @@ use lib.ListN.{length-set}
 use Rattle.positions.proofs.Finishing.{cut_few, none_finished, finished_most, turn_unfinished, turn_finished}
 use native.Mathlib.Omega.{arith}
 use Rattle.std.proofs.Common.{◌<◌, ◌-◌, ◌∙◌}
-use Rattle.words.proofs.Cases.{clash}
-use borrow.Author.Tests.{eq-eqb, eqb-true}
 use Rattle.positions.proofs.finished_at.Goals as goal
 use Rattle.positions.proofs.finished_at.Goals.{then-done, else-done}
 
@@ -42,11 +40,11 @@ loop-e-preserved c =
       then-done w ↦ record {
         to = omega (arith, c.loop-e-test.true);
         wide = c.if-done.auto.finished ∙ i.wide;
-        counted = rw w.finished-is (turn_finished _ _ p _ i.counted _ c.kind-done.ensures (eqb-true _ 0 w.if-done.true) _ w.process.ensures.0 i.wide);
+        counted = rw w.finished-is (turn_finished _ _ p _ i.counted _ c.kind-done.ensures w.if-done.true _ w.process.ensures.0 i.wide);
       }
     | else-done w ↦ record {
         to = omega (arith, c.loop-e-test.true);
         wide = c.if-done.auto.finished ∙ i.wide;
-        counted = rw w.finished-is (turn_unfinished _ _ p _ i.counted _ c.kind-done.ensures (λ q. clash (eq-eqb _ 0 q) w.if-done.false));
+        counted = rw w.finished-is (turn_unfinished _ _ p _ i.counted _ c.kind-done.ensures w.if-done.false);
       }
     ]
