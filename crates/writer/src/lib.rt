@@ -6,9 +6,9 @@ ghost use Rattle.std.specs.Prelude.{◌≡◌, [], ◌∷◌, ◌++◌, ◌+◌,
 ghost use Rattle.text.specs.Number.{decimal};
 ghost use Rattle.writer.specs.Inner.Sinks.{Takes};
 
-// A lent buffer, and the place that the next item goes to: any place, also one past the buffer. The methods are put into
-// their callers, so that the compiler knows the lengths of keys and keeps both fields in registers: as calls, writing a
-// trace takes 1.5 times the instructions.
+// A lent buffer, and the place that the next item goes to: any place, also one past the buffer. The methods are put
+// into their callers, so that the compiler knows the lengths of keys and keeps both fields in registers: as calls,
+// writing a trace takes 1.5 times the instructions.
 #[derive(Drop)]
 pub struct Sink<'a, T> {
     pub out: &'a mut [T],
