@@ -130,11 +130,7 @@ module _ (R : Run) (cut : ℕ) (full gates : List ℕ) (G : Given R cut full gat
     is_upcoming = rw (at_e, match_is, not_leb e (R.restart p)) tests.comes;
   })
 
--- what `class_at` promises, from the words that it has: the event's word, the peer q, the two restarts, the receive
-pub told : (full gates : List ℕ) (cut e w q sender receiver m r : ℕ) → w ≡ event_w full e → q ≡ peer_in w
-    → sender ≡ get_or gates (64 + at_w full e) 0 → receiver ≡ get_or gates (64 + q) 0 → m ≡ match_w full e → r ≡ class_by e m sender receiver cut (logged_w full m)
-    → (r ≡ class_w full gates cut e) × ((R : Run) (p q : ℕ) → Given R cut full gates → sends R.trace p q e ≡ true → 0 < e → e ≤ size R.trace
-    → Classed R p q (sent R.trace p q e) r)
-told full gates cut e w q sender receiver m r ew eq es er em h =
-    let i : r ≡ class_w full gates cut e = unfold class_w in h ∙ rw (es, er, em, eq, ew) in
-    (i, λ R p q G s a b. rw i (class_is R cut full gates G p q e s a b))
+-- what the class of the words means
+pub told : (full gates : List ℕ) (cut e r : ℕ) → r ≡ class_w full gates cut e → (R : Run) (p q : ℕ) → Given R cut full gates → sends R.trace p q e ≡ true
+    → 0 < e → e ≤ size R.trace → Classed R p q (sent R.trace p q e) r
+told full gates cut e r i R p q G s a b = rw i (class_is R cut full gates G p q e s a b)

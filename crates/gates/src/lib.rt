@@ -21,7 +21,7 @@ fn gate(number: u32, phase: u32) -> u32
     if number == STAYS {
         return phase;
     }
-    if phase == 0 { 0 } else { phase - 1 }
+    phase.saturating_sub(1)
 }
 
 // The event that a process restarts after: the cut if it stays, its start for epoch 1, else the checkpoint, which is
@@ -30,13 +30,11 @@ fn restart_event(number: u32, cut: usize, first: usize) -> u32
     requires { (cut ≤ 2048) × (first ≤ 2048) }
     ensures { result ≡ restart_event number cut first }
 {
-    if number == STAYS {
-        return cut as u32;
+    match number {
+        STAYS => cut as u32,
+        1 => 0,
+        _ => first as u32,
     }
-    if number == 1 {
-        return 0;
-    }
-    first as u32
 }
 
 // Of each process its gate and the event that it restarts after, where the events up to the cut are linked.
@@ -51,14 +49,10 @@ pub fn gates(
     requires { (length gates.old ≡ 128) × ((t : Trace) × Settable t full.now earlier.now latest.now line cut) }
     ensures { (t : Trace) → Settable t full.now earlier.now latest.now line cut → Gated (run_at t cut (line_in line)) gates.new }
 {
-    let numbers = line.epochs;
-    let count = line.count;
-    let mut z: usize = 0;
-    while z < count {
-        let number = numbers[z];
+    for z in 0..line.count {
+        let number = line.epochs[z];
         let back = positions::go_back(full, earlier, number, latest[z] as usize);
         gates[z] = gate(number, positions::restart_phase(full, number, back.before));
         gates[RESTART_BASE + z] = restart_event(number, cut, back.first);
-        z += 1;
     }
 }

@@ -31,10 +31,8 @@ fn first_line(finished: &[u32], count: usize, set: u64, numbers: &mut [u32; 64])
     ensures others { (z : ℕ) → count ≤ z → get_or numbers.new z 0 ≡ get_or numbers.old z 0 }
     ensures long { length numbers.new ≡ 64 }
 {
-    let mut z: usize = 0;
-    while z < count {
+    for z in 0..count {
         numbers[z] = first_number(set, z as u32, finished[z]);
-        z += 1;
     }
 }
 
@@ -49,15 +47,15 @@ pub fn greatest(full: &[u32], cut: usize, set: u64, epochs: &mut [u32], phases: 
     ensures phases { (t : Trace) (rule : Rule) → Marked t rule full.now → cut ≤ size t → phases.new ≡ words_from (each t (restart_phase_in t cut (line_in result))) 0 64 }
 {
     let count = columns::processes(full);
-    let mut earlier = [0u16; LINKS];
-    let mut latest = [0u16; 64];
+    let mut earlier = [0; LINKS];
+    let mut latest = [0; 64];
     positions::link(full, cut, &mut earlier, &mut latest);
     positions::epochs_at(full, &latest, count, epochs);
-    let mut finished = [1u32; 64];
+    let mut finished = [1; 64];
     positions::finished_at(full, cut, &mut finished);
     let mut line = Line {
-        epochs: [0u32; 64],
-        count: count,
+        epochs: [0; 64],
+        count,
     };
     first_line(&finished, count, set, &mut line.epochs);
     lowering::lower(full, &finished, &earlier, &mut line.epochs, &mut latest);

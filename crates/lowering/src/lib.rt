@@ -2,7 +2,7 @@
 // specs/Inner/Lowering says what lowering at an event does and when it is done. Assumes nothing.
 #![tactic(auto)]
 
-ghost use Rattle.std.specs.Prelude.{◌≡◌, ℕ, min, ◌<◌, length, get_or, set};
+ghost use Rattle.std.specs.Prelude.{◌≡◌, ℕ, ◌<◌, length, get_or, set};
 ghost use Rattle.recovery_line.specs.Inner.Words.{Sized};
 ghost use Rattle.positions.specs.Inner.Positions.{Linked, NewestRanged, Before};
 ghost use Rattle.lowering.specs.Inner.Lowering.{lost_w, lower_at, Lowered, joined_by, undone_w, Lowerable, Lookable};
@@ -11,14 +11,9 @@ use columns::{EPOCH_BASE, LOGGED_BASE};
 use sets::EVERYONE;
 use trace::{EVENT_BASE, RECEIVE};
 
-fn smaller(a: u32, b: u32) -> u32
-    ensures { result ≡ min a b }
-{
-    if a < b { a } else { b }
-}
-
 // Where event e receives a message that the line loses, its sender is lowered to the epoch of the send, or to its
 // latest finished epoch where that is smaller; whether that is so.
+#[tactic(auto, unfolding(crate::specs::Inner::Lowering::lost_w, crate::specs::Inner::Lowering::lost_e, crate::specs::Inner::Lowering::lower_at))]
 fn lower_at(full: &[u32], finished: &[u32], epochs: &mut [u32], e: usize) -> bool
     requires { Lowerable full.now finished.now epochs.old e }
     ensures line { epochs.new ≡ lower_at full.now finished.now epochs.old e }
@@ -40,7 +35,7 @@ fn lower_at(full: &[u32], finished: &[u32], epochs: &mut [u32], e: usize) -> boo
     if epochs[p] <= sent {
         return false;
     }
-    epochs[p] = smaller(sent, finished[p]);
+    epochs[p] = sent.min(finished[p]);
     true
 }
 
@@ -50,10 +45,7 @@ fn undoes(full: &[u32], epochs: &[u32], latest: &[u16], z: usize) -> bool
     ensures { result ≡ undone_w full.now epochs.now latest.now z }
 {
     let e = latest[z] as usize;
-    if e == 0 {
-        return false;
-    }
-    epochs[z] <= full[EPOCH_BASE + e]
+    e != 0 && epochs[z] <= full[EPOCH_BASE + e]
 }
 
 // Looks at the newest event of process z that was not looked at yet. A sender that is lowered joins those that may have

@@ -6,3 +6,4 @@ pub mod Told
 pub mod Steps
 pub mod Begun
 pub mod Ordering
+pub mod Cleared

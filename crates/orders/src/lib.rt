@@ -12,26 +12,22 @@ ghost use Rattle.machine.specs.Inner.Tree.{Treed};
 ghost use Rattle.theory.specs.Order.{run};
 ghost use Rattle.orders.specs.Inner.Left.{Left};
 ghost use Rattle.columns.specs.Inner.Given.{Given};
-ghost use Rattle.orders.specs.Answer.{answer_of, words_of};
+ghost use Rattle.orders.specs.Answer.{answered, answer_of, words_of};
 
 use links::LINK_WORDS;
 use machine::{CURRENT_BASE, LOW_PLACE, NO_PHASE, TREE_WORDS};
 
-// What a replay answers: 0, or 11 with the place of the first choice that is not allowed, from 1; how many choices were
-// carried out, and whether no choice is left.
-#[derive(Clone, Copy)]
+// What a replay answers: how many choices were carried out, and whether no choice is left.
+#[derive(Clone, Copy, Debug, PartialEq, Eq)]
 pub struct Replayed {
-    pub number: u32,
-    pub place: usize,
     pub steps: usize,
     pub complete: bool,
 }
 
-// A choice as the number that it is.
-fn choice(c: u16) -> usize
-    ensures { result ≡ c }
-{
-    c as usize
+// The place of the first choice that is not allowed, from 1.
+#[derive(Clone, Copy, Debug, PartialEq, Eq)]
+pub struct NotAllowed {
+    pub place: usize,
 }
 
 // Carries out an order, as far as its choices are allowed: how many were carried out. The step counter is the place in
@@ -43,50 +39,30 @@ fn carry_out(
     order: &[u16],
     tree: &mut [u32],
     area: &mut [u32],
-) -> usize
+) -> Result<usize, NotAllowed>
     requires { Begun full.now links.now gates.now area.old × Treed full.now area.old tree.old }
     ensures { (R : Run) → Started R full.now links.now gates.now area.old → Left R area.new (length order.now) (run R order.now) result }
 {
     let mut steps: usize = 0;
-    while steps < order.len() {
-        let c = choice(order[steps]);
-        if moves::try_choice(full, links, gates, tree, area, c) {
-            steps += 1;
-        } else {
-            return steps;
+    for c in order {
+        if !moves::try_choice(full, links, gates, tree, area, usize::from(*c)) {
+            return Err(NotAllowed { place: steps + 1 });
         }
+        steps += 1;
     }
-    steps
-}
-
-// Makes every word from one place on 0, up to another.
-fn clear(area: &mut [u32], from: usize, to: usize)
-    requires { (from ≤ to) × (to ≤ length area.old) }
-    ensures others { (k : ℕ) → (from ≤ k → to ≤ k) → get_or area.new k 0 ≡ get_or area.old k 0 }
-    ensures zeros { (k : ℕ) → from ≤ k → k < to → get_or area.new k 0 ≡ 0 }
-{
-    let mut i = from;
-    while i < to {
-        area[i] = 0;
-        i += 1;
-    }
+    Ok(steps)
 }
 
 // The answer to an order that was carried out; the area keeps the record, its working words are 0 again. Those after
 // them were 0 all along.
-pub fn finish(area: &mut [u32], steps: usize, done: bool) -> Replayed
+pub fn finish(area: &mut [u32], steps: usize, complete: bool) -> Replayed
     requires { length area.old ≡ area_words }
-    ensures answer { result ≡ (record { number = 0; place = 0; steps = steps; complete = done }) }
+    ensures answer { result ≡ (record { steps = steps; complete = complete }) }
     ensures kept { (k : ℕ) → (current_base ≤ k → low_place < k) → get_or area.new k 0 ≡ get_or area.old k 0 }
     ensures zeros { (k : ℕ) → current_base ≤ k → k ≤ low_place → get_or area.new k 0 ≡ 0 }
 {
-    clear(area, CURRENT_BASE, LOW_PLACE + 1);
-    Replayed {
-        number: 0,
-        place: 0,
-        steps: steps,
-        complete: done,
-    }
+    area[CURRENT_BASE..LOW_PLACE + 1].fill(0);
+    Replayed { steps, complete }
 }
 
 // Replays an order from the first state.
@@ -96,35 +72,39 @@ fn replay_in(
     gates: &[u32],
     order: &[u16],
     area: &mut [u32],
-) -> Replayed
+) -> Result<Replayed, NotAllowed>
     requires { Begun full.now links.now gates.now area.old }
-    ensures answer { (R : Run) → Started R full.now links.now gates.now area.old → result ≡ answer_of R (run R order.now) (length order.now) }
+    ensures answer { (R : Run) → Started R full.now links.now gates.now area.old → answered result ≡ answer_of R (run R order.now) (length order.now) }
     ensures words { (R : Run) → Started R full.now links.now gates.now area.old → area.new ≡ words_of R (run R order.now) }
 {
     let mut tree = [NO_PHASE; TREE_WORDS];
     machine::build_tree(full, area, &mut tree);
-    let steps = carry_out(full, links, gates, order, &mut tree, area);
-    if steps < order.len() {
-        words::zero(area);
-        return Replayed {
-            number: 11,
-            place: steps + 1,
-            steps: 0,
-            complete: false,
-        };
+    match carry_out(full, links, gates, order, &mut tree, area) {
+        Ok(steps) => {
+            let complete = machine::complete(full, gates, area);
+            Ok(finish(area, steps, complete))
+        }
+        Err(refused) => {
+            area.fill(0);
+            Err(refused)
+        }
     }
-    let done = machine::complete(full, gates, area);
-    finish(area, steps, done)
 }
 
 // Replays an order of the run that the full table and the gates tell, in an area of exactly 16,384 words.
-pub fn replay(full: &[u32], gates: &[u32], order: &[u16], area: &mut [u32], cut: usize) -> Replayed
+pub fn replay(
+    full: &[u32],
+    gates: &[u32],
+    order: &[u16],
+    area: &mut [u32],
+    cut: usize,
+) -> Result<Replayed, NotAllowed>
     requires { (length area.old ≡ area_words) × ((R : Run) × Given R cut full.now gates.now) }
-    ensures answer { (R : Run) → Given R cut full.now gates.now → result ≡ answer_of R (run R order.now) (length order.now) }
+    ensures answer { (R : Run) → Given R cut full.now gates.now → answered result ≡ answer_of R (run R order.now) (length order.now) }
     ensures words { (R : Run) → Given R cut full.now gates.now → area.new ≡ words_of R (run R order.now) }
 {
     let mut links = [0u16; LINK_WORDS];
-    words::zero(area);
+    area.fill(0);
     links::begin(full, gates, &mut links, area, cut);
     replay_in(full, &links, gates, order, area)
 }

@@ -2,6 +2,16 @@
 use Rattle.std.specs.Prelude.{ℕ, ◌+◌, ◌≤◌, ◌≡◌, Bool, ◌&&◌, cond, List, leb, ltb, eqb, length, get_or}
 use Rattle.columns.specs.Inner.Columns.{full_words}
 use Rattle.columns.specs.Inner.Full.{at_w, peer_w, match_w, logged_w}
+use Rattle.classes.specs.declared.Class.{Class}
+use Rattle.classes.specs.declared.Class.TheVariants as class
+
+-- the number of a class, which a row of the list holds (docs/LAYOUT.md)
+abbrev pub number_of_class : Class → ℕ
+number_of_class class.None = 0
+number_of_class class.Orphan = 1
+number_of_class class.Kept = 2
+number_of_class class.Lost = 3
+number_of_class class.Upcoming = 4
 
 -- is there a receive, and is it no later than an event
 abbrev pub done_by : ℕ → ℕ → Bool

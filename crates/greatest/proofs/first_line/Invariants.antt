@@ -1,7 +1,6 @@
 -- `greatest::first_line` meets its contract: after z turns the first z numbers are those of the first line, the others
 -- as they were.
 use mathlib.Core.Path.{◌≡◌}
-use Prim.Native.Nat.{◌-◌, ◌≤◌}
 use lib.ListN.{length, get_or}
 use mathlib.Core.Bool.{cond}
 use Rattle.theory.specs.Line.{in_set}
@@ -9,7 +8,4 @@ use Rattle.words.proofs.Written.{Written}
 use Rattle.greatest.proofs.first_line.Given as goal
 
 abbrev pub invariant-loop-z : goal.invariant-loop-z
-invariant-loop-z l = (l.z ≤ l.count) × (length l.numbers ≡ length l.initial.numbers) × Written (λ k. cond (in_set l.set k) (get_or l.finished k 0) 32) l.initial.numbers l.z l.numbers
-
-abbrev pub decreases-loop-z : goal.decreases-loop-z
-decreases-loop-z l = l.count - l.z
+invariant-loop-z l = (length l.numbers ≡ length l.initial.numbers) × Written (λ k. cond (in_set l.set k) (get_or l.finished k 0) 32) l.initial.numbers l.z l.numbers

@@ -1,5 +1,8 @@
 -- `orders::replay_in` meets its contract: refused, or carried out and finished.
-use mathlib.Core.Path.{refl, ◌∙◌}
+use mathlib.Core.Path.{refl, ◌∙◌, ap}
+use Rattle.std.specs.Prelude.{Ok}
+use Rattle.orders.specs.declared.Replayed.{Replayed}
+use Rattle.orders.specs.Answer.{answered}
 use Rattle.orders.proofs.Ordering.{first_asked, stop_answer, stop_words, went_asked, went_answer, went_words}
 use Rattle.orders.proofs.replay_in.Goals as goal
 
@@ -7,20 +10,20 @@ pub build_tree-requires : goal.build_tree-requires
 build_tree-requires c =
     ((first_asked _ _ _ _ c.requires).0, (first_asked _ _ _ _ c.requires).1, refl)
 
-pub returns-then-steps-order : goal.returns-then-steps-order
-returns-then-steps-order c =
+pub complete-complete-requires : goal.complete-complete-requires
+complete-complete-requires c =
+    went_asked _ _ _ _ c.requires _ c.carry_out.auto.area _ _ _ (c.in-Ok.ensures c.requires.run c.requires.started)
+
+pub returns-in-Ok : goal.returns-in-Ok
+returns-in-Ok c =
     record {
-      answer = λ R S. stop_answer R _ _ _ _ S _ _ _ _ (c.carry_out-steps.ensures R S) c.if-steps-order.true;
-      words = λ R S. stop_words R _ _ _ _ S _ _ _ _ _ (c.carry_out-steps.ensures R S) c.if-steps-order.true (c.carry_out-steps.auto.area ∙ c.requires.area_long) c.zero.ensures;
+      answer = λ R S. ap (λ (r : Replayed). answered (Ok r)) c.finish.ensures.answer ∙ went_answer R _ _ _ _ S _ _ _ _ _ (c.in-Ok.ensures R S) c.complete-complete.ensures;
+      words = λ R S. went_words R _ _ _ _ S _ _ _ _ _ (c.in-Ok.ensures R S) (c.finish.auto.area ∙ c.carry_out.auto.area ∙ c.requires.area_long) c.finish.ensures.kept c.finish.ensures.zeros;
     }
 
-pub complete-done-requires : goal.complete-done-requires
-complete-done-requires c =
-    went_asked _ _ _ _ c.requires _ c.carry_out-steps.auto.area _ _ _ (c.carry_out-steps.ensures c.requires.run c.requires.started) c.if-steps-order.false
-
-pub returns : goal.returns
-returns c =
+pub returns-in-Err : goal.returns-in-Err
+returns-in-Err c =
     record {
-      answer = λ R S. went_answer R _ _ _ _ S _ _ _ _ _ _ (c.carry_out-steps.ensures R S) c.if-steps-order.false c.complete-done.ensures c.finish.ensures.answer;
-      words = λ R S. went_words R _ _ _ _ S _ _ _ _ _ (c.carry_out-steps.ensures R S) c.if-steps-order.false (c.finish.auto.area ∙ c.carry_out-steps.auto.area ∙ c.requires.area_long) c.finish.ensures.kept c.finish.ensures.zeros;
+      answer = λ R S. stop_answer R _ _ _ _ S _ _ _ _ (c.in-Err.ensures R S);
+      words = λ R S. stop_words R _ _ _ _ S _ _ _ _ _ (c.in-Err.ensures R S) (c.carry_out.auto.area ∙ c.requires.area_long) (c.fill.ensures.after (λ y e. e));
     }
