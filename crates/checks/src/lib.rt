@@ -35,13 +35,11 @@ fn field(row: &[u8], k: usize) -> usize
 }
 
 // The number that field k of a row begins with, if there is one. None is above 2^64 - 2.
+#[tactic(auto, unfolding(crate::specs::Inner::Rows::number_of))]
 pub fn number(row: &[u8], k: usize) -> Option<u64>
     ensures { result ≡ number_of row.now k }
 {
-    match text::number(row, field(row, k), u64::MAX - 1) {
-        text::Num::Value(v, _at) => Some(v),
-        text::Num::Refused => None,
-    }
+    Some(text::number(row, field(row, k), u64::MAX - 1)?.value)
 }
 
 // Value k, or 0 past the last.
