@@ -4,9 +4,11 @@
 #![tactic(auto)]
 
 ghost use Rattle.std.specs.Prelude.{◌≡◌, ◌≤◌, length, get_or, take};
-ghost use Rattle.writer.specs.Inner.Puts.{Puts};
+ghost use Rattle.writer.specs.Inner.Sinks.{Takes};
 ghost use Rattle.checks.specs.Inner.Filled.{piece, takes, filled, Fills};
 ghost use Rattle.checks.specs.Inner.Rows.{Place, field_place, number_of};
+
+use writer::Sink;
 
 // The place of the first byte b at or after a place, or the end.
 pub fn find(bytes: &[u8], from: usize, b: u8) -> usize
@@ -57,26 +59,27 @@ fn taken(b: u8) -> usize
 }
 
 // What a byte of a pattern stands for where v is the next value.
-fn put_piece(out: &mut [u8], at: usize, b: u8, v: u64) -> usize
-    ensures { Puts (piece b v) out.old at out.new result }
+fn put_piece(sink: &mut Sink<'_, u8>, b: u8, v: u64)
+    ensures { Takes (piece b v) sink.old sink.new }
 {
     if b == b'#' {
-        return writer::put_number(out, at, v);
+        sink.put_number(v);
+    } else {
+        sink.put(b);
     }
-    writer::put_bytes(out, at, &[b])
 }
 
 // Puts a pattern with its values filled in at a place, and answers the place after it; a full buffer takes no more.
 pub fn put(out: &mut [u8], at: usize, pattern: &[u8], values: &[u64]) -> usize
     ensures { Fills pattern.now values.now out.old at out.new result }
 {
-    let mut next = at;
+    let mut sink = Sink { out, next: at };
     let mut k = 0;
     for b in pattern {
-        next = put_piece(out, next, *b, value(values, k));
+        put_piece(&mut sink, *b, value(values, k));
         k += taken(*b);
     }
-    next
+    sink.next
 }
 
 // Prints a pattern with its values filled in, its first 512 bytes, and answers how many bytes that is.
