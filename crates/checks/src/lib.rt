@@ -1,13 +1,15 @@
-// What gate programs share: the numbers of the rows of their cases, and rows of results put together and printed. Each
-// function says what it does by a definition of specs/Inner, for every input; no public function has a `requires`. What
+// What gate programs share: the numbers of the rows of their cases, those of a refusal, and rows of results put together
+// and printed. Each function says what it does by a definition of specs/Inner, for every input; no public function has a `requires`. What
 // reaches standard output no contract can say. Assumes what `libc` assumes.
 #![tactic(auto)]
 
-ghost use Rattle.std.specs.Prelude.{◌≡◌, ◌≤◌, length, get_or, take};
+ghost use Rattle.std.specs.Prelude.{◌≡◌, ◌≤◌, length, get_or, take, option_map_or};
+ghost use Rattle.refusal.specs.Refusals.{number_of};
 ghost use Rattle.writer.specs.Inner.Sinks.{Takes};
 ghost use Rattle.checks.specs.Inner.Filled.{piece, takes, filled, Fills};
 ghost use Rattle.checks.specs.Inner.Rows.{Place, field_place, number_of};
 
+use refusal::Refused;
 use writer::Sink;
 
 // The place of the first byte b at or after a place, or the end.
@@ -42,6 +44,17 @@ pub fn number(row: &[u8], k: usize) -> Option<u64>
     ensures { result ≡ number_of row.now k }
 {
     Some(text::number(row, field(row, k), u64::MAX - 1)?.value)
+}
+
+// The number and the place of a refusal, 0 and 0 where nothing is refused.
+pub fn number_and_place(refused: Option<Refused>) -> (u64, u64)
+    ensures number { result.0 ≡ option_map_or (λ r. number_of r.refusal) refused 0 }
+    ensures place { result.1 ≡ option_map_or (λ r. r.place) refused 0 }
+{
+    match refused {
+        Some(r) => (u64::from(r.refusal.number()), r.place as u64),
+        None => (0, 0),
+    }
 }
 
 // Value k, or 0 past the last.
