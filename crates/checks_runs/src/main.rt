@@ -22,7 +22,7 @@ use words::AREA_WORDS;
 // that are left are no trace.
 fn print_back(text: &[u8]) {
     let mut table = [0u32; AREA_WORDS];
-    reader::read_failure(text, &mut table);
+    let _ = reader::read_failure(text, &mut table);
     let mut out = [roundtrip::BEFORE; roundtrip::ROOM];
     roundtrip::print_trip(&table, text, &mut out);
 }
