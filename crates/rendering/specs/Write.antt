@@ -7,8 +7,8 @@ use Rattle.table.specs.Held.{held, holds_trace}
 use Rattle.refusal.specs.Refusals.{number_of}
 use Rattle.refusal.specs.declared.Refused.{Refused}
 
--- an answer: the number of the refusal, 0 if accepted; a place, which is always 0; and how many bytes the text has, 0 in
--- a refusal
+-- an answer: the number of the refusal, 0 if accepted; a place, which is always 0; and how many bytes the text has,
+-- 0 in a refusal
 pub record WriteAnswer : Type 0 where
   pub number : ℕ
   pub place : ℕ

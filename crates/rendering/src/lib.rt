@@ -1,7 +1,7 @@
 // The trace written back: the text of the trace that a table area holds, into a lent buffer. The definitions are in
-// specs/Write, what they mean both ways in specs/Meaning; proofs/Claims has the same over definitions alone. (By `write!`
-// and `Display` the same lines take 1.6 to 2.4 times the instructions.) No public function has a `requires`. Assumes
-// nothing.
+// specs/Write, what they mean both ways in specs/Meaning; proofs/Claims has the same over definitions alone. (Tried by
+// `write!` and `Display`: the same lines take 1.6 to 2.4 times the instructions.) No public function has a `requires`.
+// Assumes nothing.
 #![tactic(auto)]
 
 ghost use Rattle.std.specs.Prelude.{◌≡◌, [], ◌∷◌, ◌++◌, ◌≤◌, length, get_or};
