@@ -187,6 +187,7 @@ fn read_line(row: &[u8], count: u32) -> Line {
     Line { epochs, count }
 }
 
+// A letter stands for a call: an enum of the four would be no plainer than this match.
 fn run_call(table: &[u32; AREA_WORDS], kind: u8, c: Call, row: &[u8]) {
     match kind {
         b'o' => replay_order(table, c, row),
@@ -227,7 +228,7 @@ fn run_trace(text: &[u8], rows: &[u8]) {
 }
 
 // Every trace with its rows: the `-` after the trace is a row without a call. Answers the place after the last: all of
-// the input was gone through.
+// the input was gone through. The loop goes on by what was read, as no `for` does.
 pub fn run_traces(input: &[u8]) -> usize
     ensures { length input.now ≤ result }
 {

@@ -1,10 +1,11 @@
 // What gate programs share: the numbers of the rows of their cases, those of a refusal, and rows of results put together
-// and printed. Each function says what it does by a definition of specs/Inner, for every input; no public function has a `requires`. What
-// reaches standard output no contract can say. Assumes what `libc` assumes.
+// and printed. Each function says what it does by a definition, for every input; no public function has a `requires`.
+// What reaches standard output no contract can say. Assumes what `libc` assumes.
 #![tactic(auto)]
 
-ghost use Rattle.std.specs.Prelude.{◌≡◌, ◌≤◌, length, get_or, take, option_map_or};
-ghost use Rattle.refusal.specs.Refusals.{number_of};
+ghost use Rattle.std.specs.Prelude.{◌≡◌, ◌≤◌, length, get_or, take};
+ghost use Rattle.std.specs.Option.{option_map_or};
+ghost use Rattle.refusal.specs.Refusals as refusals;
 ghost use Rattle.writer.specs.Inner.Sinks.{Takes};
 ghost use Rattle.checks.specs.Inner.Filled.{piece, takes, filled, Fills};
 ghost use Rattle.checks.specs.Inner.Rows.{Place, field_place, number_of};
@@ -48,7 +49,7 @@ pub fn number(row: &[u8], k: usize) -> Option<u64>
 
 // The number and the place of a refusal, 0 and 0 where nothing is refused.
 pub fn number_and_place(refused: Option<Refused>) -> (u64, u64)
-    ensures number { result.0 ≡ option_map_or (λ r. number_of r.refusal) refused 0 }
+    ensures number { result.0 ≡ option_map_or (λ r. refusals.number_of r.refusal) refused 0 }
     ensures place { result.1 ≡ option_map_or (λ r. r.place) refused 0 }
 {
     match refused {

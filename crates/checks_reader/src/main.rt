@@ -68,6 +68,8 @@ fn table(name: &[u8], text: &[u8], from: usize) {
     print_back(text);
 }
 
+// Texts stand in buffers of fixed size, since nothing of this repository allocates (rule of the project).
+//
 // Puts a piece so many times at the end of a text, and answers where it ends then. No text here has a byte `#`.
 fn repeat(text: &mut [u8], from: usize, piece: &[u8], times: usize) -> usize
     requires { from ≤ length text.old }

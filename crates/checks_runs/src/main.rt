@@ -37,7 +37,8 @@ fn print_report(text: &[u8]) {
     io::write_all(1, b"-\n");
 }
 
-// A report on every text. The `-` and the LF after it belong to none, so that a text may lack its last LF.
+// A report on every text. The `-` and the LF after it belong to none, so that a text may lack its last LF. The
+// loop goes on by what was read, as no `for` does.
 fn print_reports(input: &[u8]) {
     let mut at: usize = 0;
     while at < input.len() {
