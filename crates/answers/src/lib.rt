@@ -57,7 +57,12 @@ pub fn same_answer(count: u32, b: Best, answer: Result<Restarted, Refused>) -> b
 
 // Is a replay of the lowest order right: accepted and complete; from a line that loses nothing the record of the run
 // without failure, after all steps; from any other line another record.
-pub fn right_replay(f: Failure, line: &[u32; 4], answer: Result<Replayed, Refused>, same: bool) -> bool
+pub fn right_replay(
+    f: Failure,
+    line: &[u32; 4],
+    answer: Result<Replayed, Refused>,
+    same: bool,
+) -> bool
     requires { SmallRun f }
     ensures { result ≡ true → (replay_answered answer).number ≡ 0 }
 {

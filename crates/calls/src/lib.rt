@@ -162,13 +162,7 @@ fn find_line(table: &[u32; AREA_WORDS], c: Call) {
     };
     checks::print(
         b" number=# place=# restart=# restart=# restart=#",
-        &[
-            number,
-            place,
-            u64::from(a),
-            u64::from(b),
-            u64::from(c),
-        ],
+        &[number, place, u64::from(a), u64::from(b), u64::from(c)],
     );
 }
 
