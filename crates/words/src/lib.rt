@@ -3,7 +3,7 @@
 // in proofs/. No public function has a `requires`. Assumes nothing.
 #![tactic(auto)]
 
-ghost use Rattle.std.specs.Prelude.{◌≡◌, length, replicate, cond};
+ghost use Rattle.std.specs.Prelude.{◌≡◌, length, replicate};
 ghost use Rattle.words.specs.Halves.{half, from_halves};
 
 // How many words of a lent area are used: an area with fewer is refused, and words past these are never touched.
@@ -14,27 +14,6 @@ pub fn zero(area: &mut [u32])
     ensures { area.new ≡ replicate (length area.old) 0 }
 {
     area.fill(0);
-}
-
-// 1 for yes, 0 for no.
-pub fn one_if(yes: bool) -> u32
-    ensures { result ≡ cond yes 1 0 }
-{
-    u32::from(yes)
-}
-
-// A word, or 0 for no.
-pub fn or_zero(yes: bool, v: u32) -> u32
-    ensures { result ≡ cond yes v 0 }
-{
-    if yes { v } else { 0 }
-}
-
-// A word as an index.
-pub fn wide(x: u32) -> usize
-    ensures { result ≡ x }
-{
-    x as usize
 }
 
 // The two halves of a number of 64 bits, and the number of two halves.
