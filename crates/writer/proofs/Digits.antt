@@ -1,10 +1,10 @@
 -- The digits of a number: written from the last one down, and those of one below 1,000, each by itself.
 use Prim.Native.Nat.{ℕ, suc, ◌+◌, ◌-◌, ◌/◌, ◌%◌, ◌<◌, ◌≤◌}
 use mathlib.Core.Path.{◌≡◌, sym, ap, ◌∙◌}
-use mathlib.Core.List.{List, [], ◌∷◌, ◌++◌, append_assoc, append-nil}
+use mathlib.Core.List.{List, [], ◌∷◌, ◌++◌, append_assoc}
 use native.Mathlib.Omega.{arith}
-use lib.ListN.{length, set, drop, length-set, take, length-drop, drop_of_length-le}
-use lib.Seq.{drop-cons, drop-set-lt, get_or-set_same, take_all}
+use lib.ListN.{length, set, drop, length-set}
+use lib.Seq.{drop-cons, drop-set-lt, get_or-set_same}
 use borrow.Author.Tests.{lt-ltb, le-ltb}
 use Rattle.text.specs.Number.{last_digits, decimal}
 use Rattle.text.proofs.Numbers.{last_small, last_more}

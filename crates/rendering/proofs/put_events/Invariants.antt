@@ -1,5 +1,5 @@
 -- `rendering::put_events` meets its contract: the lines of the events before e.
-use Rattle.std.proofs.Common.{◌-◌, ◌≤◌, ◌<◌}
+use Rattle.std.proofs.Common.{◌-◌}
 use Rattle.table.specs.Held.{held_events}
 use Rattle.reader.specs.Render.{render_events}
 use Rattle.writer.specs.Inner.Sinks.{Takes}

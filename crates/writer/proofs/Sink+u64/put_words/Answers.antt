@@ -1,6 +1,5 @@
 use mathlib.Core.Path.{◌≡◌, refl}
 use native.Mathlib.Omega.{arith}
-use Rattle.std.proofs.Common.{rules}
 use lib.ListN.{length-set}
 use Rattle.writer.proofs.Buffers.{full_put, words_none, words_next, words_all}
 use Rattle.writer.proofs.Sink+u64.put_words.Goals as goal

@@ -1,5 +1,5 @@
 -- `Sink::put_words` meets its contract: after k turns the first k words are there.
-use Rattle.std.proofs.Common.{◌≡◌, ◌+◌, ◌≤◌, length, take}
+use Rattle.std.proofs.Common.{◌≡◌, ◌+◌, length, take}
 use Rattle.writer.specs.Inner.Puts.{Puts}
 use Rattle.writer.proofs.Sink+u64.put_words.Given as goal
 
