@@ -6,8 +6,10 @@
 ghost use Rattle.std.specs.Prelude.{◌+◌, ◌≤◌, length};
 ghost use Rattle.io.specs.Counts.{IsPrefixLen};
 
+use messages::Counted;
 use orders::Replayed;
 use recovery_line::Line;
+use refusal::Refused;
 use words::AREA_WORDS;
 
 // What every run area holds before a call: words that the call leaves as they were are seen in what is printed.
@@ -41,36 +43,36 @@ fn faultless(table: &[u32; AREA_WORDS], c: Call, run: &[u32; AREA_WORDS]) -> boo
         count: c.line.count,
     };
     let mut whole = [0u32; AREA_WORDS];
-    recovery::lowest(table, c.step, c.set, all, &mut whole);
-    checks::same_words(run, &whole)
-}
-
-fn print_received(e: usize, number: u32, value: u64) {
-    if number != 0 {
-        checks::print(b" ev=# no=# val=#", &[e as u64, number as u64, value]);
-    }
+    let _ = recovery::lowest(table, c.step, c.set, all, &mut whole);
+    *run == whole
 }
 
 // The record in a run area: of each receive that took a message its event, the message's number and its value.
 fn print_record(run: &[u32; AREA_WORDS]) {
-    let mut e: usize = 1;
-    while e <= 2048 {
-        let value = words::from_halves(run[LOW_VALUES + e], run[HIGH_VALUES + e]);
-        print_received(e, run[e], value);
-        e += 1;
+    for e in 1..=2048 {
+        let number = run[e];
+        if number != 0 {
+            let value = words::from_halves(run[LOW_VALUES + e], run[HIGH_VALUES + e]);
+            checks::print(b" ev=# no=# val=#", &[e as u64, u64::from(number), value]);
+        }
     }
 }
 
 // The answer to a replay, and the record that is left: is it that of the run without failure, and what it has.
-fn print_replayed(r: Replayed, same: bool, run: &[u32; AREA_WORDS]) {
+fn print_replayed(answer: Result<Replayed, Refused>, same: bool, run: &[u32; AREA_WORDS]) {
+    let (number, place) = checks::number_and_place(answer.err());
+    let (steps, complete) = match answer {
+        Ok(r) => (r.steps, r.complete),
+        Err(_) => (0, false),
+    };
     checks::print(
         b" number=# place=# steps=# complete=# same=#",
         &[
-            r.number as u64,
-            r.place as u64,
-            r.steps as u64,
-            checks::flag(r.complete),
-            checks::flag(same),
+            number,
+            place,
+            steps as u64,
+            u64::from(complete),
+            u64::from(same),
         ],
     );
     print_record(run);
@@ -81,16 +83,13 @@ fn read_order(row: &[u8], from: usize, order: &mut [u16]) -> usize
     requires { from ≤ 68 }
     ensures { IsPrefixLen result order.new }
 {
-    let mut i = 0;
-    while i < order.len() {
-        let v = checks::number(row, from + i);
-        if v == checks::NONE {
+    for (i, choice) in order.iter_mut().enumerate() {
+        let Some(v) = checks::number(row, from + i) else {
             return i;
-        }
-        order[i] = (v % 65536) as u16;
-        i += 1;
+        };
+        *choice = (v % 65536) as u16;
     }
-    i
+    order.len()
 }
 
 // An order of choices.
@@ -109,87 +108,80 @@ fn replay_lowest(table: &[u32; AREA_WORDS], c: Call) {
     print_replayed(r, faultless(table, c, &run), &run);
 }
 
-fn print_message(channel: u32, number: u32, phase: u32) {
-    checks::print(
-        b" from=# to=# no=# phase=#",
-        &[
-            (channel % 64) as u64,
-            (channel / 64 % 64) as u64,
-            number as u64,
-            phase as u64,
-        ],
-    );
-}
-
 // The messages of a list after the first `before` of them, `count` in number.
 fn print_messages(run: &[u32; AREA_WORDS], before: usize, count: usize)
     requires { before + count ≤ 2048 }
 {
-    let mut i: usize = 0;
-    while i < count {
-        let row = before + i + 1;
-        print_message(
-            run[ROW_BASE + row],
-            run[ROW_NUMBER_BASE + row],
-            run[ROW_PHASE_BASE + row],
+    for row in before + 1..before + count + 1 {
+        let channel = run[ROW_BASE + row];
+        checks::print(
+            b" from=# to=# no=# phase=#",
+            &[
+                u64::from(channel % 64),
+                u64::from(channel / 64 % 64),
+                u64::from(run[ROW_NUMBER_BASE + row]),
+                u64::from(run[ROW_PHASE_BASE + row]),
+            ],
         );
-        i += 1;
     }
 }
 
 // How many messages of each class a line leaves, and the lost ones.
 fn list_messages(table: &[u32; AREA_WORDS], c: Call) {
     let mut run = [BEFORE; AREA_WORDS];
-    let m = messages::messages(table, c.step, c.set, c.line, &mut run);
+    let answer = messages::messages(table, c.step, c.set, c.line, &mut run);
+    let (number, place) = checks::number_and_place(answer.err());
+    let m = match answer {
+        Ok(m) => m,
+        Err(_) => Counted {
+            orphans: 0,
+            kept: 0,
+            lost: 0,
+        },
+    };
     checks::print(
         b" number=# place=# orphans=# kept=# lost=#",
         &[
-            m.number as u64,
-            m.place as u64,
-            m.orphans as u64,
-            m.kept as u64,
-            m.lost as u64,
+            number,
+            place,
+            u64::from(m.orphans),
+            u64::from(m.kept),
+            u64::from(m.lost),
         ],
     );
     print_messages(&run, m.orphans as usize + m.kept as usize, m.lost as usize);
 }
 
-fn print_restart(r: restart::Restarted, a: u32, b: u32, c: u32) {
+// The engine's line, of three processes.
+fn find_line(table: &[u32; AREA_WORDS], c: Call) {
+    let answer = restart::restart(table, c.step, c.set);
+    let (number, place) = checks::number_and_place(answer.err());
+    let [a, b, c] = match answer {
+        Ok(r) => [r.line.epochs[0], r.line.epochs[1], r.line.epochs[2]],
+        Err(_) => [0; 3],
+    };
     checks::print(
         b" number=# place=# restart=# restart=# restart=#",
-        &[
-            r.number as u64,
-            r.place as u64,
-            a as u64,
-            b as u64,
-            c as u64,
-        ],
+        &[number, place, u64::from(a), u64::from(b), u64::from(c)],
     );
 }
 
-// The engine's line, of three processes.
-fn find_line(table: &[u32; AREA_WORDS], c: Call) {
-    let r = restart::restart(table, c.step, c.set);
-    let numbers = r.line.epochs;
-    print_restart(r, numbers[0], numbers[1], numbers[2]);
+// The number of a row's field, all ones where there is none.
+fn number(row: &[u8], k: usize) -> u64 {
+    checks::number(row, k).unwrap_or(u64::MAX)
 }
 
 // The line of a row, of so many processes.
 fn read_line(row: &[u8], count: u32) -> Line {
-    let mut epochs = [0u32; 64];
-    let mut z: usize = 0;
-    while z < 64 {
-        if z < count as usize {
-            epochs[z] = (checks::number(row, 4 + z) % 4294967296) as u32;
-        }
-        z += 1;
+    let count = count as usize;
+    let mut epochs = [0; 64];
+    for (z, epoch) in epochs.iter_mut().enumerate().take(count) {
+        *epoch = (number(row, 4 + z) % 4294967296) as u32;
     }
-    Line {
-        epochs: epochs,
-        count: count as usize,
-    }
+    Line { epochs, count }
 }
 
+// A letter stands for a call: an enum of the four would be no plainer than this match.
 fn run_call(table: &[u32; AREA_WORDS], kind: u8, c: Call, row: &[u8]) {
     match kind {
         b'o' => replay_order(table, c, row),
@@ -207,8 +199,8 @@ fn run_row(table: &[u32; AREA_WORDS], row: &[u8]) {
         return;
     }
     let c = Call {
-        step: checks::number(row, 2),
-        set: checks::number(row, 3),
+        step: number(row, 2),
+        set: number(row, 3),
         line: read_line(row, table[0]),
     };
     io::write_all(1, &row[..end]);
@@ -218,22 +210,19 @@ fn run_row(table: &[u32; AREA_WORDS], row: &[u8]) {
 
 // The rows of a trace.
 fn run_rows(table: &[u32; AREA_WORDS], rows: &[u8]) {
-    let mut at: usize = 0;
-    while at < rows.len() {
-        let end = checks::find(rows, at, b'\n');
-        run_row(table, &rows[at..end]);
-        at = end + 1;
+    for row in rows.split(|b| *b == b'\n') {
+        run_row(table, row);
     }
 }
 
 fn run_trace(text: &[u8], rows: &[u8]) {
     let mut table = [0u32; AREA_WORDS];
-    reader::read(text, &mut table);
+    let _ = reader::read(text, &mut table);
     run_rows(&table, rows);
 }
 
 // Every trace with its rows: the `-` after the trace is a row without a call. Answers the place after the last: all of
-// the input was gone through.
+// the input was gone through. The loop goes on by what was read, as no `for` does.
 pub fn run_traces(input: &[u8]) -> usize
     ensures { length input.now ≤ result }
 {

@@ -7,44 +7,29 @@
 ghost use Rattle.std.specs.Prelude.{◌≤◌, length};
 ghost use Rattle.io.specs.Counts.{IsPrefixLen};
 
+use refusal::Refused;
 use words::AREA_WORDS;
 
 // What every area holds before a reading.
 const BEFORE: u32 = 7;
 
-// 1 where word i of an area is there and is not v.
-fn differs(area: &[u32], i: usize, v: u32) -> u64
-    ensures { result ≤ 1 }
-{
-    if i >= area.len() {
-        return 0;
-    }
-    if area[i] == v { 0 } else { 1 }
-}
-
 // How many words of an area, from a place to another, are not v.
 fn others(area: &[u32], from: usize, to: usize, v: u32) -> u64 {
-    let mut n: u64 = 0;
-    let mut i = from;
-    while i < to {
-        n += differs(area, i, v);
-        i += 1;
-    }
-    n
+    area.iter().take(to).skip(from).filter(|w| **w != v).count() as u64
 }
 
-fn print_answer(name: &[u8], a: reader::Answer) {
+fn print_answer(name: &[u8], answer: Result<(), Refused>) {
     io::write_all(1, name);
-    checks::print(b" # #", &[a.number as u64, a.place as u64]);
+    let (number, place) = checks::number_and_place(answer.err());
+    checks::print(b" # #", &[number, place]);
 }
 
 // Reads a text into an area of 16,400 words.
 fn case(name: &[u8], text: &[u8]) {
     let mut area = [BEFORE; 16400];
-    let a = reader::read(text, &mut area);
-    print_answer(name, a);
-    let left = others(&area, 0, 16384, 0);
-    let past = others(&area, 16384, 16400, BEFORE);
+    print_answer(name, reader::read(text, &mut area));
+    let left = others(&area, 0, AREA_WORDS, 0);
+    let past = others(&area, AREA_WORDS, 16400, BEFORE);
     checks::print(b" # #\n", &[left, past]);
     print_back(text);
 }
@@ -52,56 +37,47 @@ fn case(name: &[u8], text: &[u8]) {
 // Reads a text into an area of 16,383 words, one too few: the count is of words that changed.
 fn small(name: &[u8], text: &[u8]) {
     let mut area = [BEFORE; 16383];
-    let a = reader::read(text, &mut area);
-    print_answer(name, a);
+    print_answer(name, reader::read(text, &mut area));
     checks::print(b" #\n", &[others(&area, 0, 16383, BEFORE)]);
 }
 
 // A text read, and where it is accepted written back and read again.
 fn print_back(text: &[u8]) {
     let mut area = [BEFORE; AREA_WORDS];
-    let a = reader::read(text, &mut area);
-    if a.number == 0 {
+    if reader::read(text, &mut area).is_ok() {
         let mut out = [roundtrip::BEFORE; roundtrip::ROOM];
         roundtrip::print_trip(&area, text, &mut out);
     }
 }
 
-fn print_word(i: usize, w: u32) {
-    if w != 0 {
-        checks::print(b"word # #\n", &[i as u64, w as u64]);
-    }
-}
-
 // The words of an area from a place on that are not 0.
 fn print_words(area: &[u32], from: usize) {
-    let mut i = from;
-    while i < area.len() {
-        print_word(i, area[i]);
-        i += 1;
+    for (i, w) in area.iter().enumerate().skip(from) {
+        if *w != 0 {
+            checks::print(b"word # #\n", &[i as u64, u64::from(*w)]);
+        }
     }
 }
 
 // Reads a text into an area of 16,384 words, no more, and prints those from a place on.
 fn table(name: &[u8], text: &[u8], from: usize) {
     let mut area = [BEFORE; 16384];
-    let a = reader::read(text, &mut area);
-    print_answer(name, a);
+    print_answer(name, reader::read(text, &mut area));
     io::write_all(1, b"\n");
     print_words(&area, from);
     print_back(text);
 }
 
+// Texts stand in buffers of fixed size, since nothing of this repository allocates (rule of the project).
+//
 // Puts a piece so many times at the end of a text, and answers where it ends then. No text here has a byte `#`.
 fn repeat(text: &mut [u8], from: usize, piece: &[u8], times: usize) -> usize
     requires { from ≤ length text.old }
     ensures { IsPrefixLen result text.new }
 {
     let mut at = from;
-    let mut i = 0;
-    while i < times {
+    for _ in 0..times {
         at = checks::put(text, at, piece, &[]);
-        i += 1;
     }
     at
 }
@@ -116,15 +92,10 @@ fn joined(name: &[u8], first: &[u8], lines: &[u8]) {
 
 // A case for each row `NAME:LINES;`: the first lines and then its own.
 fn rows(first: &[u8], list: &[u8]) {
-    let mut at = 0;
-    while at < list.len() {
-        let c = checks::find(list, at, b':');
-        if c >= list.len() {
-            return;
+    for row in list.split(|b| *b == b';') {
+        if let Some(c) = row.iter().position(|b| *b == b':') {
+            joined(&row[..c], first, &row[c + 1..]);
         }
-        let e = checks::find(list, c + 1, b';');
-        joined(&list[at..c], first, &list[c + 1..e]);
-        at = e + 1;
     }
 }
 

@@ -22,7 +22,7 @@ use words::AREA_WORDS;
 // that are left are no trace.
 fn print_back(text: &[u8]) {
     let mut table = [0u32; AREA_WORDS];
-    reader::read_failure(text, &mut table);
+    let _ = reader::read_failure(text, &mut table);
     let mut out = [roundtrip::BEFORE; roundtrip::ROOM];
     roundtrip::print_trip(&table, text, &mut out);
 }
@@ -31,12 +31,14 @@ fn print_back(text: &[u8]) {
 fn print_report(text: &[u8]) {
     let mut out = [0u8; program::REPORT_BYTES];
     let r = report::report(text, &mut out);
-    io::write_all(1, &out[..checks::most(&out, r.length)]);
+    let n = r.length.min(out.len());
+    io::write_all(1, &out[..n]);
     print_back(text);
     io::write_all(1, b"-\n");
 }
 
-// A report on every text. The `-` and the LF after it belong to none, so that a text may lack its last LF.
+// A report on every text. The `-` and the LF after it belong to none, so that a text may lack its last LF. The
+// loop goes on by what was read, as no `for` does.
 fn print_reports(input: &[u8]) {
     let mut at: usize = 0;
     while at < input.len() {
@@ -51,9 +53,8 @@ fn print_zeros(count: usize) {
     let read = [0u8; program::READ_BYTES];
     let mut out = [0u8; program::REPORT_BYTES];
     let r = program::respond(&read, count, &mut out);
-    let n = r.length;
-    io::write_all(1, &out[..n]);
-    checks::print(b"status=#\n-\n", &[r.status as u64]);
+    io::write_all(1, &out[..r.length]);
+    checks::print(b"status=#\n-\n", &[u64::from(r.status)]);
 }
 
 // The program's own limit: of 65,537 bytes nothing is read, and of 65,536 the first line is. The library's report has

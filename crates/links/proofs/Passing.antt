@@ -11,12 +11,12 @@ use lib.Dec.{ltb, eqb}
 use borrow.Author.Tests.{lt-leb, le-leb, eq-eqb, ne_eqb}
 use Rattle.words.proofs.Cases.{by_bool, by_eq}
 use Rattle.words.specs.Area.{area_words}
-use Rattle.machine.specs.Inner.Words.{current_base, orphan_base, take_base, put_base, cur_w, orp_w, put_w, Bounded}
+use Rattle.machine.specs.Inner.Words.{current_base, orphan_base, put_base, cur_w, orp_w, put_w, noted_w, Bounded}
 use Rattle.machine.specs.Inner.Shapes.{Pointed}
 use Rattle.machine.proofs.Noted.{length_noted, noted_other}
 use Rattle.columns.specs.Inner.Full.{kind_w, peer_w, at_w, match_w, phase_w}
 use Rattle.classes.specs.Inner.Words.{class_w}
-use Rattle.links.specs.Inner.Linking.{mine_w, sent_class, goes_class, early_w, chain_a, record_a, sent_l, sent_a, link_l, link_a, head_words, kept_l, kept_h, linked_a, linked_h, linked_l}
+use Rattle.links.specs.Inner.Linking.{mine_w, sent_class, early_w, chain_a, record_a, sent_l, sent_a, link_l, link_a, head_words, kept_l, kept_h, linked_a, linked_h, linked_l}
 use Rattle.links.specs.Inner.Shapes.{Paired, PairedTo, PhasedTo}
 use Rattle.links.proofs.Linking.{far_a}
 
@@ -36,16 +36,6 @@ pub chain_no : (b : Bool) (a : List ℕ) (k v : ℕ) → b ≡ false → a ≡ c
 unfolding chain_a
 chain_no b a k v h = rw h
 
--- a kept message goes before those of its phase
-module _ (l h : List ℕ) (f v e class : ℕ) (ef : f ≡ v) where
-  pub list_yes : class ≡ 2 → (set l (4 * e + 3) (get_or h f 0) ≡ kept_l l h v e class) × (set h f e ≡ kept_h h v e class)
-  unfolding kept_l kept_h chain_a
-  list_yes c = rw (ef, c) (refl, refl)
-
-  pub list_no : class ≢ 2 → (l ≡ kept_l l h v e class) × (h ≡ kept_h h v e class)
-  unfolding kept_l kept_h chain_a
-  list_no c = rw (ne_eqb class 2 c) (refl, refl)
-
 -- the class of what event e sends, by its kind k
 module _ (t g : List ℕ) (cut e k : ℕ) (ek : k ≡ kind_w t e) where
   pub class_send : k ≡ 1 → (r : ℕ) → r ≡ class_w t g cut e → r ≡ sent_class t g cut e
@@ -55,28 +45,6 @@ module _ (t g : List ℕ) (cut e k : ℕ) (ek : k ≡ kind_w t e) where
   pub class_none : k ≢ 1 → 0 ≡ sent_class t g cut e
   unfolding sent_class
   class_none h = rw (ne_eqb (kind_w t e) 1 (λ i. h (ek ∙ i)))
-
-pub goes_kept : (c : ℕ) → c ≡ 2 → true ≡ goes_class c
-unfolding goes_class
-goes_kept c h = rw h
-
-pub goes_ahead : (c : ℕ) → c ≢ 2 → eqb c 4 ≡ goes_class c
-unfolding goes_class
-goes_ahead c h = rw (ne_eqb c 2 h)
-
--- the message that event e sends linked, over what the code has: the links and the area after its orphan, and the test
--- whether it goes
-module _ (l a : List ℕ) (z c e class : ℕ) (h : z < 64) (l₁ a₁ : List ℕ) (f : Bool) (el : l₁ ≡ chain_a (eqb class 1) l (4 * e + 2) (orp_w a z))
-    (ea : a₁ ≡ chain_a (eqb class 1) a (orphan_base + z) e) (ef : f ≡ goes_class class) where
-  pub sent_l_lem : (b : List ℕ) → b ≡ chain_a f l₁ (4 * e + 1) (put_w a₁ c) → b ≡ sent_l l a z c e class
-  unfolding sent_l
-  sent_l_lem b eb =
-      let i : put_w a₁ c ≡ put_w a c = rw ea (far_a (eqb class 1) a (orphan_base + z) e (put_base + c) (λ q. omega (arith, h))) in
-      eb ∙ rw (i, el, ef)
-
-  pub sent_a_lem : (a₂ b : List ℕ) → a₂ ≡ chain_a f a₁ (put_base + c) e → b ≡ chain_a f a₂ (take_base + c) e → b ≡ sent_a a z c e class
-  unfolding sent_a
-  sent_a_lem a₂ b e₂ eb = eb ∙ rw (e₂, ea, ef)
 
 -- event e linked: the process z, the peer q, its restart w, whether it is listed, the links and the area after its own
 -- chain, the class
@@ -101,7 +69,11 @@ module _ (t g : List ℕ) (cut : ℕ) (l a : List ℕ) (e z q w class : ℕ) (l�
   unfolding link_a sent_a
   linked_a_lem f b d ef ed eb = eb ∙ rw (is_mine, ed, ef, ea, ec, ez, eq)
 
--- nothing goes on record where a test does not hold
+-- on record where a test holds, nothing where it does not
+pub record_yes : (t a : List ℕ) (e m m' : ℕ) → m ≡ m' → noted_w t a e m ≡ record_a true t a e m'
+unfolding record_a
+record_yes t a e m m' h = rw h
+
 pub record_none : (t a : List ℕ) (e m : ℕ) → a ≡ record_a false t a e m
 unfolding record_a
 record_none t a e m = refl

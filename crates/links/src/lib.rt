@@ -3,13 +3,14 @@
 // does; proofs/Claims says that what it leaves stands for the theory's first state. Assumes nothing.
 #![tactic(auto)]
 
-ghost use Rattle.std.specs.Prelude.{◌≡◌, true, ◌+◌, ◌≤◌, ◌<◌, length, get_or, replicate};
+ghost use Rattle.std.specs.Prelude.{◌≡◌, true, ◌+◌, ◌≤◌, ◌<◌, length, get_or, set, replicate};
 ghost use Rattle.machine.specs.Inner.Shapes.{Pointed};
-ghost use Rattle.columns.specs.Inner.Full.{events_w, event_w, at_w, match_w, phase_w};
-ghost use Rattle.links.specs.Inner.Linking.{sent_class, goes_class, chain_a, record_a, sent_l, sent_a, link_l, link_a, head_words, kept_l, kept_h, linked_l, linked_h, linked_a, begin_a};
-ghost use Rattle.links.specs.Inner.Shapes.{SendReadable, SlotLinkable, Placed, Recordable, KeptListable, EventLinkable, AllLinkable, Linkable};
+ghost use Rattle.columns.specs.Inner.Full.{events_w, event_w, at_w, phase_w};
+ghost use Rattle.links.specs.Inner.Linking.{sent_class, sent_l, sent_a, link_l, link_a, head_words, kept_l, kept_h, linked_l, linked_h, linked_a, begin_a};
+ghost use Rattle.classes.specs.Inner.Words.{number_of_class};
+ghost use Rattle.links.specs.Inner.Shapes.{SendReadable, SlotLinkable, Placed, KeptListable, EventLinkable, AllLinkable, Linkable};
 
-use classes::{KEPT, NONE, ORPHAN, UPCOMING};
+use classes::Class;
 use columns::{PHASE_BASE, RESTART_BASE};
 use machine::{CURRENT_BASE, LOW_PLACE, ORPHAN_BASE, PUT_BASE, TAKE_BASE};
 use trace::{EVENT_BASE, RECEIVE, SEND};
@@ -24,78 +25,53 @@ pub const HEAD_WORDS: usize = 2056;
 
 // The class of the message that event e sends, with its word and the event that its process restarts after; none where
 // it is no send.
-fn class_sent(full: &[u32], gates: &[u32], cut: usize, e: usize, w: u32, restart: usize) -> u32
+fn class_sent(full: &[u32], gates: &[u32], cut: usize, e: usize, w: u32, restart: usize) -> Class
     requires { SendReadable full.now gates.now e × (w ≡ event_w full.now e) × (restart ≡ get_or gates.now (64 + at_w full.now e) 0) }
-    ensures { result ≡ sent_class full.now gates.now cut e }
+    ensures { number_of_class result ≡ sent_class full.now gates.now cut e }
 {
     if trace::kind(w) == SEND {
         return classes::class_at(full, gates, cut, e, w, restart);
     }
-    NONE
+    Class::None
 }
 
-// Does a message of this class go through its channel: it is kept, or still to be sent, again or for the first time.
-fn goes(class: u32) -> bool
-    ensures { result ≡ goes_class class }
-{
-    if class == KEPT {
-        return true;
-    }
-    class == UPCOMING
-}
-
-// Where the test holds, event e becomes the pointer at word k of the area, and what was there the link in its slot.
-fn chain(links: &mut [u16], area: &mut [u32], b: bool, slot: usize, k: usize, e: usize)
+// Event e becomes the pointer at word k of the area, and what was there the link in its slot.
+fn chain(links: &mut [u16], area: &mut [u32], slot: usize, k: usize, e: usize)
     requires { SlotLinkable links.old area.old slot k × (e < 2049) }
-    ensures links { links.new ≡ chain_a b links.old slot (get_or area.old k 0) }
-    ensures words { area.new ≡ chain_a b area.old k e }
+    ensures links { links.new ≡ set links.old slot (get_or area.old k 0) }
+    ensures words { area.new ≡ set area.old k e }
 {
-    if b {
-        links[slot] = machine::pointer(area, k) as u16;
-        area[k] = e as u32;
-    }
+    links[slot] = machine::pointer(area, k) as u16;
+    area[k] = e as u32;
 }
 
-// A word of the area is v, where the test holds.
-fn mark(area: &mut [u32], b: bool, k: usize, v: u32)
-    requires { k < length area.old }
-    ensures { area.new ≡ chain_a b area.old k v }
-{
-    if b {
-        area[k] = v;
-    }
-}
-
-// The links and the pointers of event e, of process z on channel c, by the class of the message that it sends.
-fn link_sent(links: &mut [u16], area: &mut [u32], z: usize, c: usize, e: usize, class: u32)
+// The links and the pointers of event e, of process z on channel c, by the class of the message that it sends: a kept
+// one goes through its channel, and so does one still to be sent, again or for the first time.
+#[tactic(auto, unfolding(crate::specs::Inner::Linking::sent_l, crate::specs::Inner::Linking::sent_a, crate::specs::Inner::Linking::goes_class, crate::specs::Inner::Linking::chain_a))]
+fn link_sent(links: &mut [u16], area: &mut [u32], z: usize, c: usize, e: usize, class: Class)
     requires { Placed z c e × (8197 ≤ length links.old) × Pointed area.old }
-    ensures links { links.new ≡ sent_l links.old area.old z c e class }
-    ensures words { area.new ≡ sent_a area.old z c e class }
+    ensures links { links.new ≡ sent_l links.old area.old z c e (number_of_class class) }
+    ensures words { area.new ≡ sent_a area.old z c e (number_of_class class) }
 {
-    chain(links, area, class == ORPHAN, 4 * e + 2, ORPHAN_BASE + z, e);
-    let through = goes(class);
-    chain(links, area, through, 4 * e + 1, PUT_BASE + c, e);
-    mark(area, through, TAKE_BASE + c, e as u32);
-}
-
-// The record of receive e, where it is before the restart: the message that it took in the trace.
-fn mark_record(full: &[u32], area: &mut [u32], e: usize, before: bool)
-    requires { Recordable full.now area.old e before }
-    ensures { area.new ≡ record_a before full.now area.old e (match_w full.now e) }
-{
-    if before {
-        machine::note_taken(full, area, e, columns::matched(full, e));
+    match class {
+        Class::Orphan => chain(links, area, 4 * e + 2, ORPHAN_BASE + z, e),
+        Class::Kept | Class::Upcoming => {
+            chain(links, area, 4 * e + 1, PUT_BASE + c, e);
+            area[TAKE_BASE + c] = e as u32;
+        }
+        Class::None | Class::Lost => {}
     }
 }
 
 // The message that event e sends, where it is of the class of kept ones: it goes before those of its phase.
-fn list_kept(full: &[u32], links: &mut [u16], heads: &mut [u16], e: usize, class: u32)
+#[tactic(auto, unfolding(crate::specs::Inner::Linking::kept_l, crate::specs::Inner::Linking::kept_h, crate::specs::Inner::Linking::chain_a))]
+fn list_kept(full: &[u32], links: &mut [u16], heads: &mut [u16], e: usize, class: Class)
     requires { KeptListable full.now links.old heads.old e }
-    ensures links { links.new ≡ kept_l links.old heads.old (phase_w full.now e) e class }
-    ensures heads { heads.new ≡ kept_h heads.old (phase_w full.now e) e class }
+    ensures links { links.new ≡ kept_l links.old heads.old (phase_w full.now e) e (number_of_class class) }
+    ensures heads { heads.new ≡ kept_h heads.old (phase_w full.now e) e (number_of_class class) }
 {
-    if class == KEPT {
-        let phase = words::wide(full[PHASE_BASE + e]);
+    if class == Class::Kept {
+        let phase = full[PHASE_BASE + e] as usize;
         links[4 * e + 3] = heads[phase];
         heads[phase] = e as u16;
     }
@@ -110,24 +86,26 @@ fn link_event(
     area: &mut [u32],
     cut: usize,
     e: usize,
-) -> u32
+) -> Class
     requires { EventLinkable full.now gates.now links.old area.old e }
     ensures links { links.new ≡ link_l full.now gates.now cut links.old area.old e }
     ensures words { area.new ≡ link_a full.now gates.now cut area.old e }
-    ensures class { result ≡ sent_class full.now gates.now cut e }
+    ensures class { number_of_class result ≡ sent_class full.now gates.now cut e }
 {
     let w = full[EVENT_BASE + e];
     let z = trace::process(w);
-    let restart = words::wide(gates[RESTART_BASE + z]);
+    let restart = gates[RESTART_BASE + z] as usize;
     if restart < e {
-        chain(links, area, true, 4 * e, CURRENT_BASE + z, e);
+        chain(links, area, 4 * e, CURRENT_BASE + z, e);
         let class = class_sent(full, gates, cut, e, w, restart);
         link_sent(links, area, z, 64 * z + trace::peer(w), e, class);
         return class;
     }
     let class = class_sent(full, gates, cut, e, w, restart);
     link_sent(links, area, z, 64 * z + trace::peer(w), e, class);
-    mark_record(full, area, e, trace::kind(w) == RECEIVE);
+    if trace::kind(w) == RECEIVE {
+        machine::note_taken(full, area, e, columns::matched(full, e));
+    }
     class
 }
 
@@ -147,11 +125,9 @@ fn link_all(
     ensures words { area.new ≡ linked_a full.now gates.now cut n n area.old }
     ensures bound { Pointed area.new }
 {
-    let mut x = n;
-    while x > 0 {
+    for x in (1..=n).rev() {
         let class = link_event(full, gates, links, area, cut, x);
         list_kept(full, links, heads, x, class);
-        x -= 1;
     }
 }
 
@@ -170,11 +146,8 @@ pub fn begin_listed(
     ensures heads { heads.new ≡ linked_h full.now gates.now cut (events_w full.now) (events_w full.now) }
     ensures words { area.new ≡ begin_a full.now (linked_a full.now gates.now cut (events_w full.now) (events_w full.now) area.old) }
 {
-    let n = words::wide(full[1]);
-    link_all(full, gates, links, heads, area, cut, n);
-    let procs = words::wide(full[0]);
-    let low = machine::lowest_phase(full, area, procs);
-    area[LOW_PLACE] = low;
+    link_all(full, gates, links, heads, area, cut, full[1] as usize);
+    area[LOW_PLACE] = machine::lowest_phase(full, area, full[0] as usize);
 }
 
 // The links and the first state, for a replay that asks for no lists.

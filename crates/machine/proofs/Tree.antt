@@ -3,7 +3,7 @@
 use mathlib.Core.Path.{◌≡◌, refl, ◌∙◌, ap}
 use mathlib.Core.Logic.{◌≢◌}
 use mathlib.Core.List.{List}
-use Prim.Native.Nat.{ℕ, zero, suc, ◌+◌, ◌-◌, ◌*◌, ◌/◌, ◌≤◌, ◌<◌}
+use Prim.Native.Nat.{ℕ, zero, suc, min, ◌+◌, ◌-◌, ◌*◌, ◌/◌, ◌≤◌, ◌<◌}
 use native.Mathlib.Omega.{arith}
 use native.Mathlib.Numerals.{add-one}
 use lib.ListN.{length, length-set, length-replicate, get_or, get_or-replicate, set, replicate}
@@ -59,6 +59,9 @@ module _ (t : List ℕ) where
       least_from (orp_w a n) k _ (low_from a k n h (λ z i. l z (omega arith))) (λ x. omega (arith, l n (omega arith), least_phase (orp_w a n) no_phase x))
 
 -- ---- The lesser of two, up the tree
+
+pub min_lesser : (x y : ℕ) → min x y ≡ lesser x y
+min_lesser x y = by_lt x y (λ l. rw (lt-ltb x y l) (omega arith)) (λ l. rw (le-ltb x y l) (omega arith))
 
 lesser_le : (x y : ℕ) → (lesser x y ≤ x) × (lesser x y ≤ y)
 lesser_le x y = by_lt x y (λ l. rw (lt-ltb x y l) (omega arith, omega arith)) (λ l. rw (le-ltb x y l) (l, omega arith))
@@ -158,14 +161,17 @@ module _ (tree : List ℕ) (z v : ℕ) (h : z < 64) (T : Tree tree) where
     }
 
 module _ (begun words : List ℕ) (i : ℕ) (J : Climbing begun words i) (p : 0 < i) (least : ℕ)
-    (el : least ≡ lesser (get_or words (2 * i) 0) (get_or words (2 * i + 1) 0)) where
+    (el : least ≡ min (get_or words (2 * i) 0) (get_or words (2 * i + 1) 0)) where
+  is_lesser : least ≡ lesser (get_or words (2 * i) 0) (get_or words (2 * i + 1) 0)
+  is_lesser = el ∙ min_lesser _ _
+
   -- word i is as it was, and so are those above it
   pub climb_stop : get_or words i 0 ≡ least → Climbing begun words 0
   unfolding Nodes
   climb_stop e = record {
     i_lt = omega arith;
     long = J.long;
-    nodes = λ k q b n. by_eq k i (λ s. rw s (e ∙ el)) (λ s. J.nodes k q b s);
+    nodes = λ k q b n. by_eq k i (λ s. rw s (e ∙ is_lesser)) (λ s. J.nodes k q b s);
     leaves = J.leaves;
   }
 
@@ -178,7 +184,7 @@ module _ (begun words : List ℕ) (i : ℕ) (J : Climbing begun words i) (p : 0 
     i_lt = omega (arith, J.i_lt);
     long = simp length-set J.long;
     nodes = λ k q b n. by_eq k i
-        (λ s. rw (s, get_or-set_same words i least 0 (omega (arith, J.i_lt, J.long)), other (2 * i) (λ x. omega arith), other (2 * i + 1) (λ x. omega arith)) el)
+        (λ s. rw (s, get_or-set_same words i least 0 (omega (arith, J.i_lt, J.long)), other (2 * i) (λ x. omega arith), other (2 * i + 1) (λ x. omega arith)) is_lesser)
         (λ s. rw (other k s, other (2 * k) (λ x. n (omega arith)), other (2 * k + 1) (λ x. n (omega arith))) (J.nodes k q b s));
     leaves = λ y. other (64 + y) (λ x. omega (arith, J.i_lt)) ∙ J.leaves y;
   }

@@ -9,7 +9,7 @@
 ghost use Rattle.std.specs.Prelude.{◌≡◌, ◌≤◌, ◌<◌, length, get_or, replicate};
 ghost use Rattle.words.specs.Area.{area_words};
 ghost use Rattle.columns.specs.Inner.Full.{procs_w};
-ghost use Rattle.machine.specs.Inner.Words.{current_base, low_place, no_phase, send_ok, event_ok, process_ok, hand_ok, hands_at, lesser, least_with, low_of, noted_w, none_runs, none_hands, none_allowed, kept_phase};
+ghost use Rattle.machine.specs.Inner.Words.{current_base, low_place, no_phase, send_ok, event_ok, process_ok, hand_ok, hands_at, least_with, low_of, noted_w, none_runs, none_hands, none_allowed, kept_phase};
 ghost use Rattle.machine.specs.Inner.Shapes.{FullLong, Pointed, Ranged, Readable, Aimed};
 ghost use Rattle.machine.specs.Inner.Tree.{Tree, Treed, Leafed};
 
@@ -136,16 +136,6 @@ pub fn hand_ok(full: &[u32], gates: &[u32], area: &[u32], p: usize, c: usize) ->
     kept_phase(full, gates, area, p, c) < area[LOW_PLACE]
 }
 
-// The lesser of two phases.
-pub fn lesser(a: u32, b: u32) -> u32
-    ensures { result ≡ lesser a b }
-{
-    if a < b {
-        return a;
-    }
-    b
-}
-
 // The lesser of a phase and that of the orphan sent by event o, if there is one.
 fn least_with(full: &[u32], o: usize, low: u32) -> u32
     requires { (o < 2049) × FullLong full.now }
@@ -154,7 +144,7 @@ fn least_with(full: &[u32], o: usize, low: u32) -> u32
     if o == 0 {
         return low;
     }
-    lesser(full[PHASE_BASE + o], low)
+    full[PHASE_BASE + o].min(low)
 }
 
 // The least phase of an orphan that is not sent again: of each process the next one is looked at, since its phases
@@ -164,10 +154,8 @@ pub fn lowest_phase(full: &[u32], area: &[u32], procs: usize) -> u32
     ensures { result ≡ low_of full.now area.now procs }
 {
     let mut low: u32 = NO_PHASE;
-    let mut z = 0;
-    while z < procs {
+    for z in 0..procs {
         low = least_with(full, pointer(area, ORPHAN_BASE + z), low);
-        z += 1;
     }
     low
 }
@@ -180,7 +168,7 @@ fn set_leaf(tree: &mut [u32], z: usize, v: u32)
     tree[LEAVES + z] = v;
     let mut i = (LEAVES + z) / 2;
     while i > 0 {
-        let least = lesser(tree[2 * i], tree[2 * i + 1]);
+        let least = tree[2 * i].min(tree[2 * i + 1]);
         if tree[i] == least {
             return;
         }
@@ -205,11 +193,8 @@ pub fn build_tree(full: &[u32], area: &[u32], tree: &mut [u32])
     requires { (procs_w full.now ≤ 64) × Ranged full.now area.now × (tree.old ≡ replicate 128 no_phase) }
     ensures { Treed full.now area.now tree.new }
 {
-    let procs = words::wide(full[0]);
-    let mut z: usize = 0;
-    while z < procs {
+    for z in 0..full[0] as usize {
         set_orphan(full, tree, z, pointer(area, ORPHAN_BASE + z));
-        z += 1;
     }
 }
 
@@ -218,12 +203,10 @@ fn none_runs(full: &[u32], gates: &[u32], area: &[u32], n: usize) -> bool
     requires { (n ≤ 64) × Readable full.now gates.now area.now }
     ensures { result ≡ none_runs full.now gates.now area.now n }
 {
-    let mut z: usize = 0;
-    while z < n {
+    for z in 0..n {
         if process_ok(full, gates, area, z) {
             return false;
         }
-        z += 1;
     }
     true
 }
@@ -250,12 +233,10 @@ fn none_hands(full: &[u32], gates: &[u32], area: &[u32], n: usize) -> bool
     requires { (n ≤ 2048) × Readable full.now gates.now area.now }
     ensures { result ≡ none_hands full.now gates.now area.now n }
 {
-    let mut e: usize = 0;
-    while e < n {
+    for e in 0..n {
         if hands(full, gates, area, e + 1) {
             return false;
         }
-        e += 1;
     }
     true
 }
@@ -265,8 +246,8 @@ pub fn complete(full: &[u32], gates: &[u32], area: &[u32]) -> bool
     requires { Aimed full.now area.now × Readable full.now gates.now area.now }
     ensures { result ≡ none_allowed full.now gates.now area.now }
 {
-    if none_runs(full, gates, area, words::wide(full[0])) {
-        return none_hands(full, gates, area, words::wide(full[1]));
+    if none_runs(full, gates, area, full[0] as usize) {
+        return none_hands(full, gates, area, full[1] as usize);
     }
     false
 }

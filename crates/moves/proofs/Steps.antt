@@ -2,15 +2,15 @@
 use mathlib.Core.Path.{◌≡◌, refl, sym, ◌∙◌, ap}
 use mathlib.Core.Bool.{Bool, true, false, not}
 use mathlib.Core.List.{List}
-use Prim.Native.Nat.{ℕ, ◌+◌, ◌-◌, ◌*◌, ◌%◌, ◌≤◌, ◌<◌}
+use Rattle.std.specs.Prelude.{Option, Some, None, IfSome, IfNone, is_some}
+use Prim.Native.Nat.{ℕ, ◌+◌, ◌-◌, ◌*◌, ◌≤◌, ◌<◌}
 use native.Mathlib.Omega.{arith}
 use lib.ListN.{get_or, set}
 use lib.Seq.{get_or-set_other}
 use borrow.Author.Tests.{lt-ltb, le-ltb, eq-eqb, ne_eqb}
 use lib.Dec.{eqb}
-use Rattle.words.proofs.Cases.{by_lt, by_eq, clash}
+use Rattle.words.proofs.Cases.{by_lt, clash}
 use Rattle.sets.specs.Inner.Sets.{with_in}
-use Rattle.sets.proofs.Sets.{none_in, with_members}
 use Rattle.machine.specs.Inner.Words.{current_base, orphan_base, take_base, put_base, low_place, cur_w, orp_w, take_w, put_w, send_ok, event_ok, moved_w, drop_w, put_in_w, take_out_w, event_step_w, process_w, apply_w, wakes_at, wakes}
 use Rattle.machine.specs.Inner.Shapes.{Aimed}
 use Rattle.machine.specs.Inner.Tree.{Treed}
@@ -39,26 +39,22 @@ module _ (t l a : List ℕ) (z e k p : ℕ) (ek : k ≡ kind_w t e) (ep : p ≡ 
 
 -- ---- An event tried
 
--- a set with someone is not empty
-with_some : (q : ℕ) → with_in 0 q ≡ 0 → ⊥
-with_some q e = clash {b = false} (rw (e, none_in (q % 64), eq-eqb (q % 64) (q % 64) refl) at (with_members 0 q (q % 64))) refl
-
 module _ (ok : Bool) (done : List ℕ) (whom : ℕ) (a tree : List ℕ) where
-  pub tried_no : ok ≡ false → Tried ok done whom a tree a tree 0
-  tried_no f = record { refused = λ e. (f, refl, refl); carried = λ n. absurd (n refl); woken = λ n. absurd (n refl) }
+  pub tried_no : ok ≡ false → Tried ok done whom a tree a tree None
+  tried_no f = record { refused = (f, refl, refl); carried = tt; woken = tt }
 
-  pub tried_yes : (b tree' : List ℕ) (r : ℕ) → ok ≡ true → b ≡ done → r ≡ with_in 0 whom → Tried ok done whom a tree b tree' r
-  tried_yes b tree' r y d w = record { refused = λ e. absurd (with_some whom (sym w ∙ e)); carried = λ n. (y, d); woken = λ n. w }
+  pub tried_yes : (b tree' : List ℕ) (r : ℕ) → ok ≡ true → b ≡ done → r ≡ with_in 0 whom → Tried ok done whom a tree b tree' (Some r)
+  tried_yes b tree' r y d w = record { refused = tt; carried = (y, d); woken = w }
 
 module _ (t l g a tree : List ℕ) (z e p : ℕ) (ep : p ≡ peer_w t e) where
-  abbrev TriedTo : List ℕ → List ℕ → ℕ → Type 0
+  abbrev TriedTo : List ℕ → List ℕ → Option ℕ → Type 0
   TriedTo b tree' r = Tried (event_ok t g a z e) (event_step_w t l a z e) (wakes_at t a z e) a tree b tree' r
 
   module _ (k : kind_w t e ≡ 1) (m : ℕ) (s : Bool) (em : m ≡ put_w a (64 * z + p)) (es : s ≡ send_ok (get_or g (64 + z) 0) m) where
     ok : s ≡ event_ok t g a z e
     ok = event_send t g a z e _ p refl ep m s k em es
 
-    pub send_no : s ≡ false → TriedTo a tree 0
+    pub send_no : s ≡ false → TriedTo a tree None
     send_no f = tried_no _ _ _ a tree (sym ok ∙ f)
 
     module _ (o : ℕ) (b tree' : List ℕ) (r : ℕ) (y : s ≡ true) (eo : o ≡ orp_w a z) where
@@ -70,10 +66,10 @@ module _ (t l g a tree : List ℕ) (z e p : ℕ) (ep : p ≡ peer_w t e) where
       unfolding wakes_at
       wakes_put h = rw (eq-eqb (kind_w t e) 1 k, ← eo, ne_eqb o e h) ep
 
-      pub send_drop : o ≡ e → b ≡ drop_w t l a z e → r ≡ with_in 0 z → TriedTo b tree' r
+      pub send_drop : o ≡ e → b ≡ drop_w t l a z e → r ≡ with_in 0 z → TriedTo b tree' (Some r)
       send_drop h eb er = tried_yes _ _ _ a tree b tree' r (sym ok ∙ y) (event_drop t l a z e _ p refl ep b k o eo h eb) (er ∙ ap (with_in 0) (wakes_drop h))
 
-      pub send_put : (o ≡ e → ⊥) → b ≡ put_in_w l a (64 * z + p) → r ≡ with_in 0 p → TriedTo b tree' r
+      pub send_put : (o ≡ e → ⊥) → b ≡ put_in_w l a (64 * z + p) → r ≡ with_in 0 p → TriedTo b tree' (Some r)
       send_put h eb er = tried_yes _ _ _ a tree b tree' r (sym ok ∙ y) (event_put t l a z e _ p refl ep b k o eo h eb) (er ∙ ap (with_in 0) (wakes_put h))
 
   -- no send
@@ -85,14 +81,14 @@ module _ (t l g a tree : List ℕ) (z e p : ℕ) (ep : p ≡ peer_w t e) where
     ready : not (eqb m n) ≡ event_ok t g a z e
     ready = rw (em, en) (event_recv t g a z e _ p refl ep (λ q. omega arith) k)
 
-    pub receive_no : m ≡ n → TriedTo a tree 0
+    pub receive_no : m ≡ n → TriedTo a tree None
     receive_no h = tried_no _ _ _ a tree (sym ready ∙ rw (eq-eqb m n h))
 
-    pub receive_yes : (b : List ℕ) (r : ℕ) → (m ≡ n → ⊥) → b ≡ take_out_w t l a (64 * p + z) e → r ≡ with_in 0 z → TriedTo b tree r
+    pub receive_yes : (b : List ℕ) (r : ℕ) → (m ≡ n → ⊥) → b ≡ take_out_w t l a (64 * p + z) e → r ≡ with_in 0 z → TriedTo b tree (Some r)
     receive_yes b r h eb er =
         tried_yes _ _ _ a tree b tree r (sym ready ∙ rw (ne_eqb m n h)) (event_take t l a z e _ p refl ep b (λ q. omega arith) k eb) (er ∙ ap (with_in 0) (wakes_self (λ q. omega arith)))
 
-  pub other_yes : (r : ℕ) → (kind_w t e ≡ 1 → ⊥) → (kind_w t e ≡ 2 → ⊥) → r ≡ with_in 0 z → TriedTo a tree r
+  pub other_yes : (r : ℕ) → (kind_w t e ≡ 1 → ⊥) → (kind_w t e ≡ 2 → ⊥) → r ≡ with_in 0 z → TriedTo a tree (Some r)
   other_yes r n h er =
       tried_yes _ _ _ a tree a tree r (sym (event_other t g a z e _ p refl ep n h)) (event_move t l a z e _ p refl ep n h) (er ∙ ap (with_in 0) (wakes_self n))
 
@@ -145,11 +141,15 @@ pub is_process : (t a : List ℕ) (z e : ℕ) → Aimed t a → z < 64 → e ≡
 is_process t a z e A h ee n = by_lt z (procs_w t) (λ l. l) (λ l. absurd (n (ee ∙ A.no_event z h l)))
 
 -- a process's answer tells whether it was allowed
-pub told_some : (r : ℕ) → not (eqb r 0) ≡ true → r ≡ 0 → ⊥
-told_some r h e = clash {b = false} (rw (eq-eqb r 0 e) at h) refl
+module _ (ok : Bool) (a b tree tree' : List ℕ) where
+  pub choice_told : (done : List ℕ) (r : Option ℕ) → IfNone r ((ok ≡ false) × (b ≡ a) × (tree' ≡ tree)) → IfSome r (λ w. (ok ≡ true) × (b ≡ done)) → is_some r ≡ ok
+  choice_told done None f g = sym f.0
+  choice_told done (Some w) f g = sym g.0
 
-pub told_none : (r : ℕ) → not (eqb r 0) ≡ false → r ≡ 0
-told_none r h = by_eq r 0 (λ e. e) (λ n. clash {b = true} refl (rw (ne_eqb r 0 n) at h))
+  pub choice_refused : (r : Option ℕ) → IfNone r ((ok ≡ false) × (b ≡ a) × (tree' ≡ tree)) → is_some r ≡ false → (b ≡ a) × (tree' ≡ tree)
+  choice_refused None f e = (f.1, f.2)
+  choice_refused (Some w) f e = clash {b = true} refl e
 
-pub choice_told : (ok : Bool) (r : ℕ) → (r ≡ 0 → ok ≡ false) → ((r ≡ 0 → ⊥) → ok ≡ true) → not (eqb r 0) ≡ ok
-choice_told ok r f g = by_eq r 0 (λ e. rw (eq-eqb r 0 e, f e)) (λ n. rw (ne_eqb r 0 n, g n))
+pub choice_done : (allowed : Bool) (b done : List ℕ) (r : Option ℕ) → IfSome r (λ w. (allowed ≡ true) × (b ≡ done)) → is_some r ≡ true → b ≡ done
+choice_done allowed b done None g e = clash {b = false} e refl
+choice_done allowed b done (Some w) g e = g.1

@@ -1,5 +1,7 @@
 -- No refusal has the number 0.
-use Rattle.std.proofs.Common.{◌≡◌, false, eqb, refl, arith}
+use Rattle.std.proofs.Common.{◌≡◌, arith, ap, Result, Ok, Err}
+use Rattle.std.specs.Result.{IsErrAnd}
+use Rattle.refusal.specs.declared.Refused.{Refused}
 use Rattle.refusal.specs.declared.Refusal.{Refusal}
 use Rattle.refusal.specs.declared.Refusal.TheVariants.{
   Malformed,
@@ -18,7 +20,7 @@ use Rattle.refusal.specs.declared.Refusal.TheVariants.{
   ShortBuffer,
   NothingToFinish,
 }
-use Rattle.refusal.specs.Refusals.{number_of}
+use Rattle.refusal.specs.Refusals.{number_of, number_or_zero, at_no_place}
 
 pub no_number_0 : (r : Refusal) → number_of r ≡ 0 → ⊥
 no_number_0 Malformed h = omega arith
@@ -36,3 +38,13 @@ no_number_0 ShortArea h = omega arith
 no_number_0 NoTrace h = omega arith
 no_number_0 ShortBuffer h = omega arith
 no_number_0 NothingToFinish h = omega arith
+
+-- what the exit of a `?` gives: a refusal is handed on, or gets no place
+module _ {A : Type 0} where
+  pub handed_on : (r : Result A Refusal) (e : Refusal) → IsErrAnd r (λ x. x ≡ e) → number_or_zero r ≡ number_of e
+  handed_on (Ok v) e h = absurd h
+  handed_on (Err x) e h = ap number_of h
+
+  pub placeless : (r : Result A Refused) (e : Refusal) → IsErrAnd r (λ x. x ≡ at_no_place e) → r ≡ Err (at_no_place e)
+  placeless (Ok v) e h = absurd h
+  placeless (Err x) e h = ap Err h

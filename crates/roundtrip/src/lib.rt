@@ -3,9 +3,10 @@
 #![tactic(auto)]
 
 ghost use Rattle.std.specs.Prelude.{◌≡◌, length};
-ghost use Rattle.rendering.specs.Write.{write_answer, write_buffer};
+ghost use Rattle.rendering.specs.Write.{answer_of, write_answer, write_buffer};
 ghost use Rattle.roundtrip.specs.Trip.{comes_back};
 
+use refusal::Refused;
 use words::AREA_WORDS;
 
 // What every byte and every word holds before a call: those that the call leaves as they were are seen.
@@ -16,24 +17,24 @@ pub const ROOM: usize = rendering::TEXT_BYTES;
 
 // How many of the first n bytes of a buffer are not those of a text.
 fn differing(out: &[u8], n: usize, text: &[u8]) -> u64 {
-    let mut count: u64 = 0;
-    let mut i: usize = 0;
-    while i < n {
-        count += checks::flag(text::byte(out, i) != text::byte(text, i));
-        i += 1;
-    }
-    count
+    (0..n)
+        .filter(|i| text::byte(out, *i) != text::byte(text, *i))
+        .count() as u64
 }
 
 // How many bytes of a buffer, from a place on, are not as they were.
 fn changed(out: &[u8], from: usize) -> u64 {
-    let mut count: u64 = 0;
-    let mut i = from;
-    while i < out.len() {
-        count += checks::flag(out[i] != BEFORE);
-        i += 1;
+    out.iter().skip(from).filter(|b| **b != BEFORE).count() as u64
+}
+
+// How many bytes of a text were written: none where writing is refused.
+fn length_of(answer: Result<usize, Refused>) -> usize
+    ensures { result ≡ (answer_of answer).length }
+{
+    match answer {
+        Ok(length) => length,
+        Err(_) => 0,
     }
-    count
 }
 
 // Writes into a buffer and prints how many bytes it has, the answer, how many of the bytes written are not the text's,
@@ -42,36 +43,35 @@ fn print_write(table: &[u32; AREA_WORDS], text: &[u8], out: &mut [u8]) -> usize
     ensures answer { result ≡ (write_answer table.now (length out.old)).length }
     ensures buffer { out.new ≡ write_buffer table.now out.old }
 {
-    let w = rendering::write(table, out);
+    let answer = rendering::write(table, out);
+    let length = length_of(answer);
+    let (number, place) = checks::number_and_place(answer.err());
     checks::print(
         b" room=# number=# place=# length=# differ=# changed=#",
         &[
             out.len() as u64,
-            w.number as u64,
-            w.place as u64,
-            w.length as u64,
-            differing(out, w.length, text),
-            changed(out, w.length),
+            number,
+            place,
+            length as u64,
+            differing(out, length, text),
+            changed(out, length),
         ],
     );
-    w.length
+    length
 }
 
 // Writes into a buffer of so many bytes.
 fn print_room(table: &[u32; AREA_WORDS], text: &[u8], room: usize) {
     let mut out = [BEFORE; ROOM];
-    let n = checks::most(&out, room);
+    let n = room.min(out.len());
     print_write(table, text, &mut out[..n]);
 }
 
-// Reads the first n bytes of a buffer and tells whether they are accepted and leave the area given: 1 if so.
-fn again(table: &[u32; AREA_WORDS], out: &[u8], n: usize) -> u64 {
-    let mut area = [BEFORE as u32; AREA_WORDS];
-    let a = reader::read(&out[..checks::most(out, n)], &mut area);
-    if a.number != 0 {
-        return 0;
-    }
-    checks::flag(checks::same_words(table, &area))
+// Reads the first n bytes of a buffer and tells whether they are accepted and leave the area given.
+fn again(table: &[u32; AREA_WORDS], out: &[u8], n: usize) -> bool {
+    let mut area = [u32::from(BEFORE); AREA_WORDS];
+    let answer = reader::read(&out[..n.min(out.len())], &mut area);
+    answer.is_ok() && *table == area
 }
 
 // The trace of an area written back into a lent buffer, and read again; and written into buffers of just its length, of
@@ -82,7 +82,7 @@ pub fn print_trip(table: &[u32; AREA_WORDS], text: &[u8], out: &mut [u8]) -> usi
 {
     io::write_all(1, b"back");
     let n = print_write(table, text, out);
-    checks::print(b" again=#", &[again(table, out, n)]);
+    checks::print(b" again=#", &[u64::from(again(table, out, n))]);
     print_room(table, text, n);
     if n > 0 {
         print_room(table, text, n - 1);
@@ -99,9 +99,6 @@ pub fn comes_back(table: &[u32; AREA_WORDS], text: &[u8], out: &mut [u8]) -> boo
     ensures answer { result ≡ comes_back table.now text.now out.old }
     ensures buffer { out.new ≡ write_buffer table.now out.old }
 {
-    let w = rendering::write(table, out);
-    if w.length != text.len() {
-        return false;
-    }
-    text::key(out, 0, text)
+    let length = length_of(rendering::write(table, out));
+    length == text.len() && text::key(out, 0, text)
 }

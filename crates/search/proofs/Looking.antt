@@ -5,7 +5,7 @@ use mathlib.Core.Bool.{true, false}
 use mathlib.Core.List.{List}
 use Prim.Native.Nat.{ℕ, ◌+◌, ◌/◌, ◌%◌, ◌^◌, ◌≤◌, ◌<◌}
 use native.Mathlib.Omega.{arith}
-use lib.ListN.{length, get_or}
+use lib.ListN.{length}
 use Rattle.words.proofs.Cases.{by_bool}
 use Rattle.theory.specs.Line.{Run, in_set}
 use Rattle.theory.specs.Replay.{process, State}
@@ -18,11 +18,12 @@ use Rattle.machine.specs.Inner.Shapes.{Readable, Tryable, Begun}
 use Rattle.machine.specs.Inner.Tree.{Treed}
 use Rattle.moves.proofs.Steps.{treed_put}
 use Rattle.orders.proofs.Ordering.{readable, tryable}
-use Rattle.sets.specs.Inner.Sets.{everyone, first_in, with_in, Outside}
+use Rattle.sets.specs.Inner.Sets.{everyone, first_in, with_in}
 use Rattle.sets.proofs.Sets.{none_in, everyone_in, first_lt, first_in_lem, with_lt}
 use Rattle.search.specs.Inner.Lowest.{Idle, Unready, Waiting, NoneTo, ToHand, Ran, LowestDone}
-use Rattle.search.specs.Inner.Opened.{Searchable, Shut, GatesOpened, PhasesJoined}
-use Rattle.search.proofs.Lowering.{Next, is_allowed, Going, going_start, going_bound, going_end, going_next}
+use Rattle.search.specs.Inner.Opened.{Searchable, GatesOpened, PhasesJoined}
+use Rattle.search.specs.Inner.Looking.{Going, Looking}
+use Rattle.search.proofs.Lowering.{Next, is_allowed, going_start, going_bound, going_end, going_next}
 use Rattle.search.proofs.Opening.{rise_unready, rise_waiting}
 use Rattle.search.proofs.Searching.{process_shut, hand_low, hand_idle, hand_unready, hand_waiting, run_idle, run_unready, run_waiting, run_low, run_none, run_allowed, run_applied, hand_none, hand_allowed, hand_applied}
 
@@ -46,7 +47,7 @@ begins t l h g a Q = record {
 
 -- ---- For every run that the words stand for
 
-module _ (R : Run) (t l g a₀ : List ℕ) (S : Started R t l g a₀) (most : ℕ) (a : List ℕ) (i : ℕ) (v : Going R t l g a₀ S most a i) where
+module _ (R : Run) (t l g a₀ : List ℕ) (S : Started R t l g a₀) (most : ℕ) (a : List ℕ) (i : ℕ) (v : Going R most a i) where
   -- no process may run, no kept message be handed over
   pub search_end : Idle t g a 0 → NoneTo t g a 4096 → LowestDone R a most i
   search_end h k = going_end R t l g a₀ S most a i v (hand_none t l g a 4096 (omega arith) h k)
@@ -56,7 +57,7 @@ module _ (R : Run) (t l g a₀ : List ℕ) (S : Started R t l g a₀) (most : �
       z_allowed : allowed_w t g a (first_in m) ≡ true
       z_allowed = run_allowed t l g a (first_in m) z_lt ok
 
-      run_going : Going R t l g a₀ S most b (i + 1)
+      run_going : Going R most b (i + 1)
       run_going =
           going_next R t l g a₀ S most a b i (first_in m) v lt (run_none t l g a m (omega (arith, z_lt)) idle) z_allowed (eb ∙ sym (run_applied t l g a (first_in m) z_lt))
 
@@ -73,24 +74,10 @@ module _ (R : Run) (t l g a₀ : List ℕ) (S : Started R t l g a₀) (most : �
           )
 
     module _ (c : ℕ) (hc : c < 4096) (idle : Idle t g a 0) (none : NoneTo t g a c) (ok : hand_ok t g a (c / 64) c ≡ true) (eb : b ≡ put_in_w l a c) where
-      hand_going : Going R t l g a₀ S most b (i + 1)
+      hand_going : Going R most b (i + 1)
       hand_going = going_next R t l g a₀ S most a b i (64 + c) v lt (hand_none t l g a c (omega arith) idle none) (hand_allowed t l g a c hc ok) (eb ∙ sym (hand_applied t l g a c))
 
 module _ (t l h g a₀ : List ℕ) (most : ℕ) where
-  -- what holds before each choice, i of them done: no process outside of one set may run, no kept message outside of
-  -- others is ready, and gates outside of a set are open, those of its members not
-  pub record Looking (a tree rs : List ℕ) (may senders shut gate i : ℕ) : Type 0 where
-    pub same_long : length a ≡ length a₀
-    pub treed : Treed t a tree
-    pub may_lt : may < 2 ^ 64
-    pub idle : Idle t g a may
-    pub passed : Outside (λ z. get_or g z 0 < low_w a) shut
-    pub closed : Shut g (low_w a) shut gate
-    pub ready_long : length rs ≡ 64
-    pub unready : Unready t g a (low_w a) rs
-    pub waiting : Waiting t g a (low_w a) senders
-    pub going : (R : Run) (S : Started R t l g a₀) → Going R t l g a₀ S most a i
-
   module _ (Q : Searchable t l h g a₀) where
     abbrev R : Run
     R = Q.run
@@ -103,12 +90,13 @@ module _ (t l h g a₀ : List ℕ) (most : ℕ) where
 
     -- at the start every gate is shut, and no phase has been passed
     pub looking_start : (tree rs₀ rs : List ℕ) (may senders shut gate : ℕ) → Treed t a₀ tree → low_w a₀ ≤ no_phase → may < 2 ^ 64 → length rs ≡ 64
-        → GatesOpened g (low_w a₀) 0 everyone 0 may shut gate → PhasesJoined t l h 0 (low_w a₀) rs₀ 0 rs senders → Looking a₀ tree rs may senders shut gate 0
+        → GatesOpened g (low_w a₀) 0 everyone 0 may shut gate → PhasesJoined t l h 0 (low_w a₀) rs₀ 0 rs senders → Looking t l h g a₀ most a₀ tree rs may senders shut gate 0
     unfolding Idle
     looking_start tree rs₀ rs may senders shut gate T low lm n G P =
         let s = going_start R t l g a₀ S most in record {
           same_long = refl;
           treed = T;
+          low_most = low;
           may_lt = lm;
           idle = λ z hz o. process_shut t g a₀ z (G.closed z hz (none_in z) (everyone_in z hz) o);
           passed = λ z hz o. G.opened z hz (none_in z) (everyone_in z hz) o;
@@ -119,8 +107,8 @@ module _ (t l h g a₀ : List ℕ) (most : ℕ) where
           going = λ R S. going_start R t l g a₀ S most;
         }
 
-    module _ (a tree rs : List ℕ) (may senders shut gate i : ℕ) (L : Looking a tree rs may senders shut gate i) where
-      v : Going Q.run t l g a₀ Q.started most a i
+    module _ (a tree rs : List ℕ) (may senders shut gate i : ℕ) (L : Looking t l h g a₀ most a tree rs may senders shut gate i) where
+      v : Going Q.run most a i
       v = L.going Q.run Q.started
 
       -- what the tests and the steps ask of the words
@@ -136,13 +124,14 @@ module _ (t l h g a₀ : List ℕ) (most : ℕ) where
       module _ (lt : i < most) (b : List ℕ) (lb : length b ≡ length a) where
         -- the oldest kept message of channel c handed over, after what was learned of the senders on the way
         pub looking_hand : (tree' rs' : List ℕ) (may' senders' c : ℕ) → Treed t a tree' → length rs' ≡ 64 → Unready t g a (low_w a) rs' → Waiting t g a (low_w a) senders' → Idle t g a 0 → NoneTo t g a c
-            → ToHand t g a rs' senders' c → b ≡ put_in_w l a c → may' ≡ with_in (with_in 0 (c / 64)) (c % 64) → Looking b tree' rs' may' senders' shut gate (i + 1)
+            → ToHand t g a rs' senders' c → b ≡ put_in_w l a c → may' ≡ with_in (with_in 0 (c / 64)) (c % 64) → Looking t l h g a₀ most b tree' rs' may' senders' shut gate (i + 1)
         looking_hand tree' rs' may' senders' c T n u w idle none found eb em =
             let hc = found.channel in
             let low : low_w (put_in_w l a c) ≡ low_w a = hand_low t l g a bound c hc in
             rw (em, eb) (record {
               same_long = rw (← eb) (lb ∙ L.same_long);
               treed = treed_put t l a tree' T (put_in_w l a c) c refl;
+              low_most = omega (arith, low, L.low_most);
               may_lt = with_lt (with_in 0 (c / 64)) (c % 64) (with_lt 0 (c / 64) (omega arith));
               idle = hand_idle t l g a bound c hc idle;
               passed = rw low L.passed;
@@ -154,7 +143,10 @@ module _ (t l h g a₀ : List ℕ) (most : ℕ) where
             })
 
         -- the next event of the first process that may run done, and what the least phase after it opens
-        module _ (may' : ℕ) (ran : Ran t g a l b may may') (low_a : low_w a ≤ no_phase) (low_b : low_w b ≤ no_phase) where
+        module _ (may' : ℕ) (ran : Ran t g a l b may may') (low_b : low_w b ≤ no_phase) where
+          low_a : low_w a ≤ no_phase
+          low_a = L.low_most
+
           abbrev m : ℕ
           m = ran.from
 
@@ -186,12 +178,13 @@ module _ (t l h g a₀ : List ℕ) (most : ℕ) where
               rw ran.words (run_idle t l g a bound m z z_lt (first_in_lem m ran.some lm) ran.idle y hy w.0 w.1 (L.passed y hy x))
 
           pub looking_run : (tree'' rs'' : List ℕ) (may'' senders'' shut'' gate'' : ℕ) → Treed t b tree'' → may'' < 2 ^ 64 → length rs'' ≡ 64 → GatesOpened g (low_w b) may' shut 0 may'' shut'' gate''
-              → PhasesJoined t l h (low_w a) (low_w b) rs senders rs'' senders'' → Looking b tree'' rs'' may'' senders'' shut'' gate'' (i + 1)
+              → PhasesJoined t l h (low_w a) (low_w b) rs senders rs'' senders'' → Looking t l h g a₀ most b tree'' rs'' may'' senders'' shut'' gate'' (i + 1)
           unfolding Idle
           looking_run tree'' rs'' may'' senders'' shut'' gate'' T lm'' n G P =
               let r = subst (λ x. Rel R x next.0) (sym ran.words) next.1 in record {
                 same_long = lb ∙ L.same_long;
                 treed = T;
+                low_most = low_b;
                 may_lt = lm'';
                 idle = λ y hy o. by_bool (in_set shut y)
                     (λ x. process_shut t g b y (G.closed y hy (none_in y) x o))

@@ -6,6 +6,7 @@ use mathlib.Core.List.{List, [], ◌∷◌}
 use mathlib.Core.Option.{Option, none, some, some-injective, none-ne-some}
 use Prim.Native.Nat.{ℕ, zero, suc, ◌+◌, ◌-◌, ◌≤◌, ◌<◌}
 use native.Mathlib.Omega.{arith}
+use Rattle.std.specs.Prelude.{Ok}
 use lib.ListN.{length, get_or}
 use Rattle.words.specs.Area.{area_words}
 use Rattle.theory.specs.Events.{size}
@@ -22,7 +23,8 @@ use Rattle.machine.specs.Inner.Related.{Rel, Started}
 use Rattle.machine.proofs.Choices.{Agrees, refuses, allows, choice_agrees}
 use Rattle.orders.proofs.Orders.{rel_bounded, record_left}
 use Rattle.orders.specs.declared.Replayed.{Replayed}
-use Rattle.orders.specs.Answer.{answer_of, words_of}
+use Rattle.orders.specs.Answer.{answered, answer_of, words_of}
+use Rattle.search.specs.Inner.Looking.{Going}
 use Rattle.search.specs.Inner.Lowest.{no_choice, NoneBefore, LowestDone}
 
 -- ---- The lowest choice
@@ -78,14 +80,7 @@ module _ (R : Run) (t l g a₀ : List ℕ) (S : Started R t l g a₀) where
     abbrev order : List ℕ
     order = lowest_from R most (start R)
 
-    pub record Going (a : List ℕ) (i : ℕ) : Type 0 where
-      pub state : State
-      pub rel : Rel R a state
-      pub inv : Inv R state
-      pub rest : carry R state (suc i) (lowest_from R (most - i) state) ≡ run R order
-      pub steps : i + length (lowest_from R (most - i) state) ≡ length order
-
-    pub going_start : Going a₀ 0
+    pub going_start : Going R most a₀ 0
     unfolding run
     going_start =
         let e : most - 0 ≡ most = omega arith in
@@ -113,7 +108,7 @@ module _ (R : Run) (t l g a₀ : List ℕ) (S : Started R t l g a₀) where
     unfolding carry
     carry_some s u i c cs e = rw e
 
-    ended : (a : List ℕ) (i : ℕ) (v : Going a i) → lowest_from R (most - i) v.state ≡ [] → LowestDone R a most i
+    ended : (a : List ℕ) (i : ℕ) (v : Going R most a i) → lowest_from R (most - i) v.state ≡ [] → LowestDone R a most i
     ended a i v e =
         let q : length (lowest_from R (most - i) v.state) ≡ 0 = ap length e in record {
           state = v.state;
@@ -123,18 +118,18 @@ module _ (R : Run) (t l g a₀ : List ℕ) (S : Started R t l g a₀) where
           steps = omega (arith, v.steps, q);
         }
 
-    pub going_bound : (a : List ℕ) (i : ℕ) → Going a i → Bounded a
+    pub going_bound : (a : List ℕ) (i : ℕ) → Going R most a i → Bounded a
     going_bound a i v = rel_bounded R S.laws t l g S.cols a v.state v.rel v.inv
 
     -- no choice is left
-    pub going_end : (a : List ℕ) (i : ℕ) → Going a i → NoneBefore t g a no_choice → LowestDone R a most i
+    pub going_end : (a : List ℕ) (i : ℕ) → Going R most a i → NoneBefore t g a no_choice → LowestDone R a most i
     going_end a i v h = ended a i v (from_none (most - i) v.state (none_lowest a v.state v.rel v.inv h))
 
     -- as many as there may be are done
-    pub going_out : (a : List ℕ) (i : ℕ) → Going a i → most ≤ i → LowestDone R a most i
+    pub going_out : (a : List ℕ) (i : ℕ) → Going R most a i → most ≤ i → LowestDone R a most i
     going_out a i v h = ended a i v (let e : most - i ≡ 0 = omega arith in rw e (from_zero v.state))
 
-    pub going_next : (a b : List ℕ) (i c : ℕ) → Going a i → i < most → NoneBefore t g a c → allowed_w t g a c ≡ true → b ≡ apply_w t l a c → Going b (i + 1)
+    pub going_next : (a b : List ℕ) (i c : ℕ) → Going R most a i → i < most → NoneBefore t g a c → allowed_w t g a c ≡ true → b ≡ apply_w t l a c → Going R most b (i + 1)
     going_next a b i c v l n h eb =
         let w = some_lowest a v.state v.rel v.inv c n h in
         let d : most - i ≡ suc (most - (i + 1)) = omega arith in
@@ -155,12 +150,12 @@ module _ (R : Run) (t l g a₀ : List ℕ) (S : Started R t l g a₀) where
       whole : order ≡ lowest_order R
       whole = ap (λ m. lowest_from R m (start R)) all
 
-      pub lowered_answer : (a : List ℕ) (n : ℕ) (x : Replayed) → LowestDone R a most n → x ≡ (record { number = 0; place = 0; steps = n; complete = true })
-          → x ≡ answer_of R (run R (lowest_order R)) (length (lowest_order R))
+      pub lowered_answer : (a : List ℕ) (n : ℕ) (x : Replayed) → LowestDone R a most n → x ≡ (record { steps = n; complete = true })
+          → answered (Ok x) ≡ answer_of R (run R (lowest_order R)) (length (lowest_order R))
       unfolding answer_of
       lowered_answer a n x v e =
           let o = lowest_order_lem R S.laws in
-          e ∙ rw (o.1, (complete_iff R o.0).1 o.2, v.steps ∙ ap length whole)
+          ap (λ (r : Replayed). answered (Ok r)) e ∙ rw (o.1, (complete_iff R o.0).1 o.2, v.steps ∙ ap length whole)
 
       pub lowered_words : (a b : List ℕ) (n : ℕ) → LowestDone R a most n → length b ≡ area_words
           → ((k : ℕ) → (current_base ≤ k → low_place < k) → get_or b k 0 ≡ get_or a k 0) → ((k : ℕ) → current_base ≤ k → k ≤ low_place → get_or b k 0 ≡ 0) → b ≡ words_of R (run R (lowest_order R))

@@ -31,7 +31,7 @@ use Rattle.search.specs.Inner.Lowest.{Idle, Unready, Waiting, NoneTo, NoneBefore
 use Rattle.machine.proofs.Noted.{noted_other}
 use Rattle.machine.proofs.Steps.{allowed_process, allowed_hand}
 use Rattle.moves.proofs.Steps.{apply_process, apply_hand}
-use Rattle.sets.proofs.Sets.{none_in, lower_out, rest_out, with_out, or_out, first_in_lem, first_lt, rest_outside}
+use Rattle.sets.proofs.Sets.{none_in, lower_out, rest_out, with_out, or_out, first_lt, rest_outside}
 
 -- ---- Words that a step leaves alone
 
@@ -322,9 +322,6 @@ module _ (R : Run) (t l g a₀ : List ℕ) (S : Started R t l g a₀) where
 pub rest_idle : (t g a : List ℕ) (m : ℕ) → 0 < m → m < 2 ^ 64 → Idle t g a m → process_ok t g a (first_in m) ≡ false → Idle t g a (rest_of m)
 unfolding Idle
 rest_idle t g a m p lm h f z hz o = by_eq z (first_in m) (λ e. rw e f) (λ n. h z hz (rest_out m p lm z o n))
-
-pub or_some : (m x : ℕ) → 0 < m → m < 2 ^ 64 → bit_or m x ≡ 0 → ⊥
-or_some m x p l e = clash (first_in_lem m p l) (or_out m x (first_in m) (rw e (none_in (first_in m)))).0
 
 -- the first of those left may run, and does
 pub ran_found : (t l g a₀ a b : List ℕ) (may left z next r : ℕ) → a ≡ a₀ → 0 < left → left < 2 ^ 64 → left ≤ may → z ≡ first_in left → Idle t g a₀ left

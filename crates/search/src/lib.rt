@@ -14,9 +14,9 @@
 // events times processes.
 #![tactic(auto)]
 
-ghost use Rattle.std.specs.Prelude.{◌≡◌, true, ℕ, ◌+◌, ◌*◌, ◌/◌, ◌%◌, ◌≤◌, ◌<◌, length, get_or};
+ghost use Rattle.std.specs.Prelude.{◌≡◌, true, ℕ, ◌+◌, ◌*◌, ◌/◌, ◌%◌, ◌≤◌, ◌<◌, length, get_or, Ok, IfSome, IfNone};
 ghost use Rattle.words.specs.Area.{area_words};
-ghost use Rattle.machine.specs.Inner.Words.{low_w, hand_ok, put_in_w, kept_phase, Small};
+ghost use Rattle.machine.specs.Inner.Words.{low_w, put_in_w, kept_phase, Small};
 ghost use Rattle.machine.specs.Inner.Tree.{Treed};
 ghost use Rattle.theory.specs.Events.{size};
 ghost use Rattle.theory.specs.Line.{Run, in_set};
@@ -26,9 +26,10 @@ ghost use Rattle.machine.specs.Inner.Shapes.{FullLong, Pointed, Readable, Tryabl
 ghost use Rattle.columns.specs.Inner.Given.{Given};
 ghost use Rattle.sets.specs.Inner.Sets.{with_in};
 ghost use Rattle.links.specs.Inner.Listed.{ListsRising, ListsWalkable};
-ghost use Rattle.search.specs.Inner.Lowest.{Idle, Unready, Waiting, NoneTo, ToHand, Ran, LowestDone};
+ghost use Rattle.search.specs.Inner.Lowest.{Idle, Unready, Waiting, NoneTo, ToHand, Receiver, Ran, LowestDone};
+ghost use Rattle.search.specs.Inner.Looking.{Goes, Ends, GoesOn};
 ghost use Rattle.search.specs.Inner.Opened.{Searchable, Shut, GatesOpened, ListJoined, PhasesJoined};
-ghost use Rattle.orders.specs.Answer.{answer_of, words_of};
+ghost use Rattle.orders.specs.Answer.{answered, answer_of, words_of};
 
 use links::{HEAD_WORDS, LINK_WORDS};
 use machine::{LOW_PLACE, NO_PHASE, TREE_WORDS};
@@ -36,12 +37,9 @@ use orders::Replayed;
 use sets::EVERYONE;
 use trace::EVENT_BASE;
 
-// How many there are; CHANNELS also stands for no channel, PROCESSES for no receiver.
-const CHANNELS: usize = 4096;
-
 const PROCESSES: usize = 64;
 
-// The first member of the set that may run does its next event: the set from it on, with whom that may let run; 0
+// The first member of the set that may run does its next event: the set from it on, with whom that may let run; none
 // where none may.
 fn run_lowest(
     full: &[u32],
@@ -50,29 +48,34 @@ fn run_lowest(
     tree: &mut [u32],
     area: &mut [u32],
     may: u64,
-) -> u64
+) -> Option<u64>
     requires { Tryable full.now links.now gates.now tree.old area.old × Idle full.now gates.now area.old may }
-    ensures none { result ≡ 0 → Idle full.now gates.now area.old 0 × (area.new ≡ area.old) }
-    ensures ran { (result ≡ 0 → ⊥) → Ran full.now gates.now area.old links.now area.new may result }
+    ensures none { IfNone result (Idle full.now gates.now area.old 0 × (area.new ≡ area.old)) }
+    ensures ran { IfSome result (λ m. Ran full.now gates.now area.old links.now area.new may m) }
     ensures leaves { Treed full.now area.new tree.new }
 {
     let mut left = may;
     while left != 0 {
-        let next = moves::try_process(full, links, gates, tree, area, sets::first(left));
-        if next != 0 {
-            return left | next;
+        if let Some(next) = moves::try_process(full, links, gates, tree, area, sets::first(left)) {
+            return Some(left | next);
         }
         left = sets::rest(left);
     }
-    0
+    None
 }
 
-// The first receiver to whom the oldest kept message of sender p may be handed over, PROCESSES for none. Those before
-// it leave the sender's set.
-fn next_receiver(full: &[u32], gates: &[u32], area: &[u32], p: usize, ready: &mut [u64]) -> usize
+// The first receiver to whom the oldest kept message of sender p may be handed over. Those before it leave the sender's
+// set.
+fn next_receiver(
+    full: &[u32],
+    gates: &[u32],
+    area: &[u32],
+    p: usize,
+    ready: &mut [u64],
+) -> Option<usize>
     requires { (p < 64) × Readable full.now gates.now area.now × (length ready.old ≡ 64) × Unready full.now gates.now area.now (low_w area.now) ready.old }
-    ensures none { (q : ℕ) → q < result → q < 64 → low_w area.now ≤ kept_phase full.now gates.now area.now p (64 * p + q) }
-    ensures found { (result ≤ 64) × (result < 64 → (hand_ok full.now gates.now area.now p (64 * p + result) ≡ true) × (in_set (get_or ready.new p 0) result ≡ true)) }
+    ensures none { IfNone result ((q : ℕ) → q < 64 → low_w area.now ≤ kept_phase full.now gates.now area.now p (64 * p + q)) }
+    ensures found { IfSome result (λ q. Receiver full.now gates.now area.now ready.new p q) }
     ensures unready { Unready full.now gates.now area.now (low_w area.now) ready.new }
 {
     let low = area[LOW_PLACE];
@@ -81,46 +84,48 @@ fn next_receiver(full: &[u32], gates: &[u32], area: &[u32], p: usize, ready: &mu
         let q = sets::first(left);
         if machine::kept_phase(full, gates, area, p, 64 * p + q) < low {
             ready[p] = left;
-            return q;
+            return Some(q);
         }
         left = sets::rest(left);
     }
     ready[p] = 0;
-    PROCESSES
+    None
 }
 
-// A channel whose oldest kept message may be handed over, CHANNELS for none, and the set of senders from that of the
-// channel on.
-#[derive(Clone, Copy)]
+// A channel whose oldest kept message may be handed over, and the set of senders from that of the channel on.
+#[derive(Clone, Copy, Debug, PartialEq, Eq)]
 struct Hand {
     channel: usize,
     senders: u64,
 }
 
 // The first channel of a sender of the set whose oldest kept message may be handed over.
-fn next_hand(full: &[u32], gates: &[u32], area: &[u32], senders: u64, ready: &mut [u64]) -> Hand
+fn next_hand(
+    full: &[u32],
+    gates: &[u32],
+    area: &[u32],
+    senders: u64,
+    ready: &mut [u64],
+) -> Option<Hand>
     requires { Readable full.now gates.now area.now × (length ready.old ≡ 64) × Unready full.now gates.now area.now (low_w area.now) ready.old × Waiting full.now gates.now area.now (low_w area.now) senders }
-    ensures none { NoneTo full.now gates.now area.now result.channel }
-    ensures found { (result.channel ≡ 4096 → ⊥) → ToHand full.now gates.now area.now ready.new result.senders result.channel }
-    ensures waiting { Waiting full.now gates.now area.now (low_w area.now) result.senders }
+    ensures none { IfNone result (NoneTo full.now gates.now area.now 4096) }
+    ensures before { IfSome result (λ h. NoneTo full.now gates.now area.now h.channel) }
+    ensures found { IfSome result (λ h. ToHand full.now gates.now area.now ready.new h.senders h.channel) }
+    ensures waiting { IfSome result (λ h. Waiting full.now gates.now area.now (low_w area.now) h.senders) }
     ensures unready { Unready full.now gates.now area.now (low_w area.now) ready.new }
 {
     let mut left = senders;
     while left != 0 {
         let p = sets::first(left);
-        let q = next_receiver(full, gates, area, p, ready);
-        if q < PROCESSES {
-            return Hand {
+        if let Some(q) = next_receiver(full, gates, area, p, ready) {
+            return Some(Hand {
                 channel: 64 * p + q,
                 senders: left,
-            };
+            });
         }
         left = sets::rest(left);
     }
-    Hand {
-        channel: CHANNELS,
-        senders: 0,
-    }
+    None
 }
 
 // The oldest kept message of channel c is handed over: the set of those whom that may let run.
@@ -136,7 +141,7 @@ fn hand_over(links: &[u16], area: &mut [u32], c: usize) -> u64
 // What the search knows: a set of processes outside of which none may run, one of senders outside of which none has a
 // kept message that is ready, one of processes outside of which no gate is shut, and a phase that the gates of its
 // members are not below.
-#[derive(Clone, Copy)]
+#[derive(Clone, Copy, Debug, PartialEq, Eq)]
 struct Open {
     may: u64,
     senders: u64,
@@ -164,23 +169,16 @@ fn open_gates(gates: &[u32], low: u32, o: Open) -> Open
             may = sets::with(may, z);
         } else {
             shut = sets::with(shut, z);
-            gate = machine::lesser(phase, gate);
+            gate = phase.min(gate);
         }
         left = sets::rest(left);
     }
     Open {
-        may: may,
+        may,
         senders: o.senders,
-        shut: shut,
-        gate: gate,
+        shut,
+        gate,
     }
-}
-
-// The event that a link or a head is.
-fn event_of(link: u16) -> usize
-    ensures { result ≡ link }
-{
-    link as usize
 }
 
 // The kept messages of a list: their receivers join the sets of their senders, and these the set that is the answer.
@@ -195,7 +193,7 @@ fn join_list(full: &[u32], links: &[u16], ready: &mut [u64], first: usize, set: 
         let p = trace::process(w);
         ready[p] = sets::with(ready[p], trace::peer(w));
         senders = sets::with(senders, p);
-        m = event_of(links[4 * m + 3]);
+        m = usize::from(links[4 * m + 3]);
     }
     senders
 }
@@ -214,10 +212,8 @@ fn join_phases(
     ensures { PhasesJoined full.now links.now heads.now from to ready.old set ready.new result }
 {
     let mut senders = set;
-    let mut f = from;
-    while f < to {
-        senders = join_list(full, links, ready, event_of(heads[f]), senders);
-        f += 1;
+    for f in from..to {
+        senders = join_list(full, links, ready, usize::from(heads[f]), senders);
     }
     senders
 }
@@ -242,22 +238,47 @@ fn opened(
         return o;
     }
     let by = open_gates(gates, is, o);
-    let top = machine::lesser(is, full[1] + 2);
-    let senders = join_phases(
-        full,
-        links,
-        heads,
-        ready,
-        words::wide(was),
-        words::wide(top),
-        by.senders,
-    );
-    Open {
-        may: by.may,
-        senders: senders,
-        shut: by.shut,
-        gate: by.gate,
+    let top = is.min(full[1] + 2) as usize;
+    let senders = join_phases(full, links, heads, ready, was as usize, top, by.senders);
+    Open { senders, ..by }
+}
+
+// Carries out the lowest choice: what the search knows after it; none where no choice is allowed.
+fn carry_next(
+    full: &[u32],
+    links: &[u16],
+    gates: &[u32],
+    heads: &[u16],
+    tree: &mut [u32],
+    area: &mut [u32],
+    ready: &mut [u64],
+    o: Open,
+) -> Option<Open>
+    requires { Goes full.now links.now heads.now gates.now area.old tree.old ready.old o.may o.senders o.shut o.gate }
+    ensures none { IfNone result (Ends full.now links.now heads.now gates.now area.old tree.old ready.old o.may o.senders o.shut o.gate area.new) }
+    ensures next { IfSome result (λ p. GoesOn full.now links.now heads.now gates.now area.old tree.old ready.old o.may o.senders o.shut o.gate area.new tree.new ready.new p.may p.senders p.shut p.gate) }
+{
+    let low = area[LOW_PLACE];
+    if let Some(may) = run_lowest(full, links, gates, tree, area, o.may) {
+        let now = area[LOW_PLACE];
+        return Some(opened(
+            full,
+            links,
+            gates,
+            heads,
+            ready,
+            low,
+            now,
+            Open { may, ..o },
+        ));
     }
+    let hand = next_hand(full, gates, area, o.senders, ready)?;
+    let may = hand_over(links, area, hand.channel);
+    Some(Open {
+        may,
+        senders: hand.senders,
+        ..o
+    })
 }
 
 // Carries out the lowest choices, one after another, at most so many: how many there were.
@@ -280,43 +301,16 @@ fn carry_lowest(
         shut: EVERYONE,
         gate: 0,
     };
-    let mut o = opened(
-        full,
-        links,
-        gates,
-        heads,
-        &mut ready,
-        0,
-        area[LOW_PLACE],
-        none,
-    );
-    let mut i: usize = 0;
-    while i < most {
-        let low = area[LOW_PLACE];
-        let may = run_lowest(full, links, gates, tree, area, o.may);
-        if may == 0 {
-            let hand = next_hand(full, gates, area, o.senders, &mut ready);
-            if hand.channel == CHANNELS {
-                return i;
-            }
-            o.senders = hand.senders;
-            o.may = hand_over(links, area, hand.channel);
-        } else {
-            o.may = may;
-            o = opened(
-                full,
-                links,
-                gates,
-                heads,
-                &mut ready,
-                low,
-                area[LOW_PLACE],
-                o,
-            );
-        }
-        i += 1;
+    let low = area[LOW_PLACE];
+    let mut o = opened(full, links, gates, heads, &mut ready, 0, low, none);
+    for i in 0..most {
+        let next = carry_next(full, links, gates, heads, tree, area, &mut ready, o);
+        let Some(next) = next else {
+            return i;
+        };
+        o = next;
     }
-    i
+    most
 }
 
 // Replays the order of the lowest choices from the first state. It is complete after twice as many steps as there are
@@ -330,7 +324,7 @@ fn lowest_in(
     most: usize,
 ) -> Replayed
     requires { Searchable full.now links.now heads.now gates.now area.old }
-    ensures answer { (R : Run) → Started R full.now links.now gates.now area.old → most ≡ size R.trace + size R.trace → result ≡ answer_of R (run R (lowest_order R)) (length (lowest_order R)) }
+    ensures answer { (R : Run) → Started R full.now links.now gates.now area.old → most ≡ size R.trace + size R.trace → answered (Ok result) ≡ answer_of R (run R (lowest_order R)) (length (lowest_order R)) }
     ensures words { (R : Run) → Started R full.now links.now gates.now area.old → most ≡ size R.trace + size R.trace → area.new ≡ words_of R (run R (lowest_order R)) }
 {
     let mut tree = [NO_PHASE; TREE_WORDS];
@@ -343,13 +337,13 @@ fn lowest_in(
 // an area of exactly 16,384 words. No order is longer than twice the number of events.
 pub fn lowest(full: &[u32], gates: &[u32], area: &mut [u32], cut: usize) -> Replayed
     requires { (length area.old ≡ area_words) × ((R : Run) × Given R cut full.now gates.now) }
-    ensures answer { (R : Run) → Given R cut full.now gates.now → result ≡ answer_of R (run R (lowest_order R)) (length (lowest_order R)) }
+    ensures answer { (R : Run) → Given R cut full.now gates.now → answered (Ok result) ≡ answer_of R (run R (lowest_order R)) (length (lowest_order R)) }
     ensures words { (R : Run) → Given R cut full.now gates.now → area.new ≡ words_of R (run R (lowest_order R)) }
 {
     let mut links = [0u16; LINK_WORDS];
     let mut heads = [0u16; HEAD_WORDS];
-    words::zero(area);
+    area.fill(0);
     links::begin_listed(full, gates, &mut links, &mut heads, area, cut);
-    let n = words::wide(full[1]);
+    let n = full[1] as usize;
     lowest_in(full, &links, gates, &heads, area, n + n)
 }

@@ -3,5 +3,5 @@ use Rattle.std.proofs.Common.{◌≡◌}
 use Rattle.checks.specs.Inner.Rows.{field_place}
 use Rattle.checks.proofs.field.Given as goal
 
-abbrev pub invariant-loop-for : goal.invariant-loop-for
-invariant-loop-for l = ?
+abbrev pub invariant-loop : goal.invariant-loop
+invariant-loop l = l.at ≡ field_place l.row l.counter

@@ -4,6 +4,3 @@ use Rattle.links.proofs.link_all.Given as goal
 
 abbrev pub invariant-loop-x : goal.invariant-loop-x
 invariant-loop-x l = LinkedTo l.full l.gates l.cut l.n l.initial.links l.initial.area l.links l.heads l.area l.x
-
-abbrev pub decreases-loop-x : goal.decreases-loop-x
-decreases-loop-x l = l.x

@@ -1,7 +1,6 @@
 -- Sizes and ranges of the words that the pass over the events reads and writes, which index safety needs: the
 -- preconditions of its functions.
-use Rattle.std.specs.Prelude.{ℕ, ◌≤◌, ◌<◌, ◌≡◌, Bool, true, List, length, get_or}
-use Rattle.words.specs.Area.{area_words}
+use Rattle.std.specs.Prelude.{ℕ, ◌≤◌, ◌<◌, ◌≡◌, List, length, get_or}
 use Rattle.columns.specs.Inner.Full.{events_w, kind_w, match_w, phase_w}
 use Rattle.machine.specs.Inner.Words.{current_base, low_place}
 use Rattle.machine.specs.Inner.Shapes.{FullLong, Pointed}
@@ -38,14 +37,7 @@ pub record Placed (z c e : ℕ) : Type 0 where
   pub channel_lt : c < 4096
   pub event_lt : e < 2049
 
--- the record of event e has its place, and its message is there where it is asked
-pub record Recordable (full area : List ℕ) (e : ℕ) (before : Bool) : Type 0 where
-  pub event_lt : e < 2049
-  pub full_long : FullLong full
-  pub area_long : length area ≡ area_words
-  pub matched : before ≡ true → match_w full e < 2049
-
--- so do the link and the head of a kept message
+-- the link and the head of a kept message have their places
 pub record KeptListable (full links heads : List ℕ) (e : ℕ) : Type 0 where
   pub event_lt : e < 2049
   pub full_long : FullLong full

@@ -1,11 +1,7 @@
 -- `machine::lowest_phase` meets its contract: after z processes the phase is the least of theirs.
 use mathlib.Core.Path.{◌≡◌}
-use Prim.Native.Nat.{◌-◌, ◌≤◌}
 use Rattle.machine.specs.Inner.Words.{low_of}
 use Rattle.machine.proofs.lowest_phase.Given as goal
 
 abbrev pub invariant-loop-z : goal.invariant-loop-z
-invariant-loop-z l = (l.z ≤ l.procs) × (l.low ≡ low_of l.full l.area l.z)
-
-abbrev pub decreases-loop-z : goal.decreases-loop-z
-decreases-loop-z l = l.procs - l.z
+invariant-loop-z l = l.low ≡ low_of l.full l.area l.z

@@ -1,12 +1,8 @@
 -- `machine::none_hands` meets its contract: no message of the first e events may be handed over.
 use mathlib.Core.Path.{◌≡◌}
 use mathlib.Core.Bool.{true}
-use Prim.Native.Nat.{◌-◌, ◌≤◌}
 use Rattle.machine.specs.Inner.Words.{none_hands}
 use Rattle.machine.proofs.none_hands.Given as goal
 
 abbrev pub invariant-loop-e : goal.invariant-loop-e
-invariant-loop-e l = (l.e ≤ l.n) × (true ≡ none_hands l.full l.gates l.area l.e)
-
-abbrev pub decreases-loop-e : goal.decreases-loop-e
-decreases-loop-e l = l.n - l.e
+invariant-loop-e l = true ≡ none_hands l.full l.gates l.area l.e

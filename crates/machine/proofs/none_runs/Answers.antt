@@ -2,12 +2,11 @@ use mathlib.Core.Path.{refl}
 use Rattle.theory.specs.Lists.{all_below}
 use Rattle.machine.specs.Inner.Words.{none_runs}
 use Rattle.machine.proofs.Remaining.{runs_next, runs_one}
-use native.Mathlib.Omega.{arith}
 use Rattle.machine.proofs.none_runs.Goals as goal
 
 pub loop-z-init : goal.loop-z-init
 unfolding none_runs all_below
-loop-z-init c = (omega arith, refl)
+loop-z-init c = refl
 
 pub returns-then-process_ok : goal.returns-then-process_ok
 returns-then-process_ok c =
@@ -15,4 +14,4 @@ returns-then-process_ok c =
 
 pub loop-z-preserved : goal.loop-z-preserved
 loop-z-preserved c =
-    (omega arith, runs_next _ _ _ _ _ c.process_ok.ensures c.loop-z.invariant.1 c.if-process_ok.false)
+    runs_next _ _ _ _ _ c.process_ok.ensures c.loop-z.invariant c.if-process_ok.false

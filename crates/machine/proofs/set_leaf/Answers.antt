@@ -9,8 +9,8 @@ loop-i-init c =
 
 pub returns-then-tree-i : goal.returns-then-tree-i
 returns-then-tree-i c =
-    climb_top _ _ _ c.requires.0 c.requires.1 _ _ (climb_stop _ _ _ c.loop-i.invariant (omega arith) _ c.lesser-least.ensures c.if-tree-i.true) refl
+    climb_top _ _ _ c.requires.0 c.requires.1 _ _ (climb_stop _ _ _ c.loop-i.invariant (omega arith) _ c.min-least.ensures c.if-tree-i.true) refl
 
 pub loop-i-preserved : goal.loop-i-preserved
 loop-i-preserved c =
-    climb_next _ _ _ c.loop-i.invariant (omega arith) _ c.lesser-least.ensures
+    climb_next _ _ _ c.loop-i.invariant (omega arith) _ c.min-least.ensures

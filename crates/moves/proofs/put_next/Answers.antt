@@ -5,4 +5,4 @@ use Rattle.moves.proofs.put_next.Goals as goal
 pub returns : goal.returns
 unfolding put_in_w
 returns c =
-    rw (c.linked.ensures, c.requires.2)
+    rw (c.from.ensures, c.requires.2)

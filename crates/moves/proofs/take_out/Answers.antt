@@ -6,4 +6,4 @@ use Rattle.moves.proofs.take_out.Goals as goal
 pub returns : goal.returns
 unfolding take_out_w
 returns c =
-    c.note_taken.ensures ∙ rw (c.linked.ensures, c.requires.3)
+    c.note_taken.ensures ∙ rw (c.from.ensures, c.requires.3)

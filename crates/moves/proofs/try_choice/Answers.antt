@@ -3,15 +3,15 @@ use mathlib.Core.Path.{refl, sym, ◌∙◌}
 use mathlib.Core.Bool.{true, false}
 use Rattle.words.proofs.Cases.{clash}
 use Rattle.machine.proofs.Steps.{allowed_process, allowed_hand, allowed_none}
-use Rattle.moves.proofs.Steps.{apply_process, apply_hand, choice_told, told_some, told_none, treed_put}
+use Rattle.moves.proofs.Steps.{apply_process, apply_hand, choice_told, choice_refused, choice_done, treed_put}
 use Rattle.moves.proofs.try_choice.Goals as goal
 
 pub returns-then-c-lt-HANDS : goal.returns-then-c-lt-HANDS
 returns-then-c-lt-HANDS c =
     record {
-      allowed = allowed_process _ _ _ _ c.if-c-lt-HANDS.true _ (choice_told _ _ (λ e. (c.try_process.ensures.refused e).0) (λ n. (c.try_process.ensures.done n).0));
-      refused = λ y. ((c.try_process.ensures.refused (told_none _ y)).1, (c.try_process.ensures.refused (told_none _ y)).2);
-      done = λ y. apply_process _ _ _ _ _ c.if-c-lt-HANDS.true (c.try_process.ensures.done (told_some _ y)).1;
+      allowed = allowed_process _ _ _ _ c.if-c-lt-HANDS.true _ (c.is_some.ensures ∙ choice_told _ _ _ _ _ _ c.try_process.result c.try_process.ensures.refused c.try_process.ensures.done);
+      refused = λ y. choice_refused _ _ _ _ _ c.try_process.result c.try_process.ensures.refused (sym c.is_some.ensures ∙ y);
+      done = λ y. apply_process _ _ _ _ _ c.if-c-lt-HANDS.true (choice_done _ _ _ c.try_process.result c.try_process.ensures.done (sym c.is_some.ensures ∙ y));
       leaves = c.try_process.ensures.leaves;
     }
 

@@ -3,6 +3,9 @@ use mathlib.Core.Path.{◌∙◌}
 use Rattle.moves.proofs.Steps.{other_yes}
 use Rattle.moves.proofs.try_event.Goals as goal
 
+pub returns-then-kind-eq-RECEIVE-clause-tried : goal.returns-then-kind-eq-RECEIVE-clause-tried
+returns-then-kind-eq-RECEIVE-clause-tried c = c.try_receive.ensures.tried c.args.gates.now c.args.tree.now
+
 pub returns : goal.returns
 returns c =
     record {

@@ -1,12 +1,8 @@
 -- `search::join_phases` meets its contract: the lists of the phases so far have joined.
 use mathlib.Core.Path.{◌≡◌}
-use Prim.Native.Nat.{◌-◌}
 use lib.ListN.{length}
 use Rattle.search.specs.Inner.Opened.{PhasesJoined}
 use Rattle.search.proofs.join_phases.Given as goal
 
 abbrev pub invariant-loop-f : goal.invariant-loop-f
 invariant-loop-f l = (length l.ready ≡ 64) × PhasesJoined l.full l.links l.heads l.from l.f l.initial.ready l.set l.ready l.senders
-
-abbrev pub decreases-loop-f : goal.decreases-loop-f
-decreases-loop-f l = l.to - l.f

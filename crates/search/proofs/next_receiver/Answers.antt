@@ -15,29 +15,39 @@ loop-left-init c =
 
 pub kept_phase-requires : goal.kept_phase-requires
 kept_phase-requires c =
-    (c.requires.0, omega (arith, c.requires.0, c.first-q.ensures.number, first_lt c.loop-left.left (omega (arith, c.loop-left-test.true)) c.loop-left.invariant.0), c.requires.1)
+    let p : 0 < c.loop-left.left = omega (arith, c.loop-left-test.true) in
+    (c.requires.0, omega (arith, c.requires.0, c.first-q.ensures.number, first_lt c.loop-left.left p c.loop-left.invariant.0), c.requires.1)
 
-pub returns-then-kept_phase-low : goal.returns-then-kept_phase-low
-returns-then-kept_phase-low c =
-    let lt = first_lt c.loop-left.left (omega (arith, c.loop-left-test.true)) c.loop-left.invariant.0 in
+pub returns-then-kept_phase-low-clause-found : goal.returns-then-kept_phase-low-clause-found
+returns-then-kept_phase-low-clause-found c =
+    let v = c.loop-left.invariant in
+    let first = c.first-q.ensures.number in
+    let p : 0 < c.loop-left.left = omega (arith, c.loop-left-test.true) in
+    let l : c.args.p < length c.loop-left.ready = omega (arith, c.requires.0, v.1) in
     let low = c.type_inv.area 14467 in
-    let l : c.args.p < length c.loop-left.ready = omega (arith, c.requires.0, c.loop-left.invariant.1) in
-    record {
-      none = (λ q j h. c.loop-left.invariant.3 q h (lower_out c.loop-left.left q (omega (arith, j, c.first-q.ensures.number))));
-      found = (omega (arith, c.first-q.ensures.number, lt), λ h. (sym (hand_kept _ _ _ _ _ c.kept_phase.result (omega (arith, low)) c.kept_phase.ensures) ∙ lt-ltb _ _ c.if-kept_phase-low.true, rw (get_or-set_same c.loop-left.ready c.args.p c.loop-left.left 0 l, c.first-q.ensures.number) (first_in_lem c.loop-left.left (omega (arith, c.loop-left-test.true)) c.loop-left.invariant.0)));
-      unready = unready_set _ _ _ _ c.loop-left.ready c.args.p c.loop-left.left l c.loop-left.invariant.2 c.loop-left.invariant.3;
+    let lt = first_lt c.loop-left.left p v.0 in record {
+      within = omega (arith, first, lt);
+      before = λ r j. v.3 r (omega (arith, j, first, lt)) (lower_out c.loop-left.left r (omega (arith, j, first)));
+      ready = sym (hand_kept _ _ _ _ _ c.kept_phase.result (omega (arith, low)) c.kept_phase.ensures) ∙ lt-ltb _ _ c.if-kept_phase-low.true;
+      member = rw (get_or-set_same c.loop-left.ready c.args.p c.loop-left.left 0 l, first) (first_in_lem c.loop-left.left p v.0);
     }
+
+pub returns-then-kept_phase-low-clause-unready : goal.returns-then-kept_phase-low-clause-unready
+returns-then-kept_phase-low-clause-unready c =
+    let v = c.loop-left.invariant in
+    unready_set _ _ _ _ c.loop-left.ready c.args.p c.loop-left.left (omega (arith, c.requires.0, v.1)) v.2 v.3
 
 pub loop-left-smaller : goal.loop-left-smaller
 loop-left-smaller c =
     omega (arith, c.rest-left.ensures.number, rest_less c.loop-left.left (omega (arith, c.loop-left-test.true)))
 
-pub returns : goal.returns
-returns c =
+pub returns-clause-none : goal.returns-clause-none
+returns-clause-none c =
     let e : c.loop-left.left ≡ 0 = omega (arith, c.loop-left-test.false) in
-    let l : c.args.p < length c.loop-left.ready = omega (arith, c.requires.0, c.loop-left.invariant.1) in
-    record {
-      none = (λ q j h. c.loop-left.invariant.3 q h (rw e (none_in q)));
-      found = (omega arith, λ h. absurd (omega (arith, h)));
-      unready = unready_set _ _ _ _ c.loop-left.ready c.args.p 0 l c.loop-left.invariant.2 (λ q h o. c.loop-left.invariant.3 q h (rw e o));
-    }
+    λ q h. c.loop-left.invariant.3 q h (rw e (none_in q))
+
+pub returns-clause-unready : goal.returns-clause-unready
+returns-clause-unready c =
+    let v = c.loop-left.invariant in
+    let e : c.loop-left.left ≡ 0 = omega (arith, c.loop-left-test.false) in
+    unready_set _ _ _ _ c.loop-left.ready c.args.p 0 (omega (arith, c.requires.0, v.1)) v.2 (λ q h o. v.3 q h (rw e o))

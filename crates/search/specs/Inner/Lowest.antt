@@ -6,7 +6,7 @@ use Rattle.theory.specs.Line.{Run, in_set}
 use Rattle.theory.specs.Replay.{State, start}
 use Rattle.theory.specs.Order.{carried_out, run, lowest_from}
 use Rattle.theory.specs.Inner.Flow.{Inv}
-use Rattle.machine.specs.Inner.Words.{process_ok, hand_ok, process_w, allowed_w, wakes, kept_phase}
+use Rattle.machine.specs.Inner.Words.{low_w, process_ok, hand_ok, process_w, allowed_w, wakes, kept_phase}
 use Rattle.machine.specs.Inner.Related.{Rel}
 
 -- the choices are the numbers before this
@@ -40,6 +40,13 @@ module _ (t g a : List ℕ) where
     pub ready : hand_ok t g a (c / 64) c ≡ true
     pub sender : in_set senders (c / 64) ≡ true
     pub receiver : in_set (get_or rs (c / 64) 0) (c % 64) ≡ true
+
+  -- the first receiver to whom p may hand over its oldest kept message; it is in its sender's set
+  pub record Receiver (rs : List ℕ) (p q : ℕ) : Type 0 where
+    pub within : q < 64
+    pub before : (r : ℕ) → r < q → low_w a ≤ kept_phase t g a p (64 * p + r)
+    pub ready : hand_ok t g a p (64 * p + q) ≡ true
+    pub member : in_set (get_or rs p 0) q ≡ true
 
   -- the first process of the set that may run did its next event: the set from it on, with whom that may let run
   pub record Ran (l b : List ℕ) (may may' : ℕ) : Type 0 where
