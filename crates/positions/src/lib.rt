@@ -116,6 +116,8 @@ pub fn restart_phases(
 
 // Of a process that goes back: its newest event before its restart, and its first event after that one; 0 where there
 // is none.
+// (No `Option`: the links that are read and the words that `gates` makes of these have 0 for none, so that it would
+// be made and unmade.)
 #[derive(Clone, Copy, Debug, PartialEq, Eq)]
 pub struct Back {
     pub before: usize,
