@@ -76,7 +76,8 @@ fn look(
 // Lowers the line until it loses no message, where the events up to the cut are linked and `finished` has the latest
 // finished epoch of each process. An undone event is looked at once: then its message is logged, or its sender restarts
 // no later than the send, and since numbers only fall that stays so. An event that is not undone receives no lost
-// message. `latest` is left with the newest event of each process before its restart.
+// message. `latest` is left with the newest event of each process before its restart. The loop takes one process after
+// another from a set that grows: it counts no index.
 pub fn lower(
     full: &[u32],
     finished: &[u32],
