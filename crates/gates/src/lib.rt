@@ -14,7 +14,7 @@ use columns::RESTART_BASE;
 use recovery_line::{Line, STAYS};
 
 // "A zone that goes back may run when its phase at restart, less 1, is ready. A zone that stays may run when its phase
-// at the cut is ready."
+// at the cut is ready." A line's number stays a number, 32 for a process that stays: C reads it so.
 fn gate(number: u32, phase: u32) -> u32
     ensures { result ≡ gate_by number phase }
 {
@@ -37,7 +37,8 @@ fn restart_event(number: u32, cut: usize, first: usize) -> u32
     }
 }
 
-// Of each process its gate and the event that it restarts after, where the events up to the cut are linked.
+// Of each process its gate and the event that it restarts after, where the events up to the cut are linked. A link of
+// 16 bits becomes an event by `as`: `usize::from` is a call, whose result four answers had to take back (no plainer).
 pub fn gates(
     full: &[u32],
     earlier: &[u16],

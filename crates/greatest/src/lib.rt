@@ -15,6 +15,7 @@ ghost use Rattle.greatest.specs.Inner.Line.{line_by, Sought};
 
 use positions::LINKS;
 use recovery_line::{Line, STAYS};
+use trace::PROCESSES;
 
 // A process's number in the first line: a failed one may not stay.
 fn first_number(set: u64, z: u32, finished: u32) -> u32
@@ -25,7 +26,7 @@ fn first_number(set: u64, z: u32, finished: u32) -> u32
 }
 
 // The first line, from the latest finished epochs at the cut.
-fn first_line(finished: &[u32], count: usize, set: u64, numbers: &mut [u32; 64])
+fn first_line(finished: &[u32], count: usize, set: u64, numbers: &mut [u32; PROCESSES])
     requires { (length finished.now ≡ 64) × (length numbers.old ≡ 64) × (count ≤ 64) }
     ensures below { (z : ℕ) → z < count → get_or numbers.new z 0 ≡ cond (in_set set z) (get_or finished.now z 0) 32 }
     ensures others { (z : ℕ) → count ≤ z → get_or numbers.new z 0 ≡ get_or numbers.old z 0 }
@@ -48,13 +49,13 @@ pub fn greatest(full: &[u32], cut: usize, set: u64, epochs: &mut [u32], phases: 
 {
     let count = columns::processes(full);
     let mut earlier = [0; LINKS];
-    let mut latest = [0; 64];
+    let mut latest = [0; PROCESSES];
     positions::link(full, cut, &mut earlier, &mut latest);
     positions::epochs_at(full, &latest, count, epochs);
-    let mut finished = [1; 64];
+    let mut finished = [1; PROCESSES];
     positions::finished_at(full, cut, &mut finished);
     let mut line = Line {
-        epochs: [0; 64],
+        epochs: [0; PROCESSES],
         count,
     };
     first_line(&finished, count, set, &mut line.epochs);

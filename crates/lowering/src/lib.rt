@@ -9,7 +9,8 @@ ghost use Rattle.lowering.specs.Inner.Lowering.{lost_w, lower_at, Lowered, joine
 
 use columns::{EPOCH_BASE, LOGGED_BASE};
 use sets::EVERYONE;
-use trace::{EVENT_BASE, RECEIVE};
+use trace::EVENT_BASE;
+use trace::kinds::Kind;
 
 // Where event e receives a message that the line loses, its sender is lowered to the epoch of the send, or to its
 // latest finished epoch where that is smaller; whether that is so.
@@ -20,7 +21,7 @@ fn lower_at(full: &[u32], finished: &[u32], epochs: &mut [u32], e: usize) -> boo
     ensures lost { result ≡ lost_w full.now epochs.old e }
 {
     let w = full[EVENT_BASE + e];
-    if trace::kind(w) != RECEIVE {
+    if Kind::of(w) != Kind::Receive {
         return false;
     }
     if full[LOGGED_BASE + e] == 1 {
@@ -44,7 +45,7 @@ fn undoes(full: &[u32], epochs: &[u32], latest: &[u16], z: usize) -> bool
     requires { NewestRanged full.now epochs.now latest.now × (z < 64) }
     ensures { result ≡ undone_w full.now epochs.now latest.now z }
 {
-    let e = latest[z] as usize;
+    let e = usize::from(latest[z]);
     e != 0 && epochs[z] <= full[EPOCH_BASE + e]
 }
 
@@ -64,7 +65,7 @@ fn look(
     ensures rest { latest.new ≡ set latest.old z (get_or earlier.now (get_or latest.old z 0) 0) }
     ensures pending { result ≡ joined_by full.now epochs.old (get_or latest.old z 0) pending }
 {
-    let e = latest[z] as usize;
+    let e = usize::from(latest[z]);
     latest[z] = earlier[e];
     if lower_at(full, finished, epochs, e) {
         return sets::with(pending, trace::peer(full[EVENT_BASE + e]));
@@ -75,7 +76,8 @@ fn look(
 // Lowers the line until it loses no message, where the events up to the cut are linked and `finished` has the latest
 // finished epoch of each process. An undone event is looked at once: then its message is logged, or its sender restarts
 // no later than the send, and since numbers only fall that stays so. An event that is not undone receives no lost
-// message. `latest` is left with the newest event of each process before its restart.
+// message. `latest` is left with the newest event of each process before its restart. The loop takes one process after
+// another from a set that grows: it counts no index.
 pub fn lower(
     full: &[u32],
     finished: &[u32],
