@@ -5,7 +5,7 @@
 ghost use Rattle.std.specs.Prelude.{◌≡◌, ◌+◌, ◌≤◌, ◌<◌};
 ghost use Rattle.bruteforce.specs.Counts.{SmallRun, spare};
 
-use bruteforce::{DONE, Failure, SAVE, STAYS, epoch_by, loses, phases_at};
+use bruteforce::{Failure, Kind, STAYS, epoch_by, loses, phases_at};
 
 // The best line of a failure: the largest number of each process in the lines that lose nothing; the epochs at the cut,
 // and the phases that the processes go on from; how many lines were judged for it; and whether the best is itself one
@@ -21,15 +21,13 @@ pub struct Best {
 
 // The epochs of the processes at the cut, counted by their saves, or by their dones: the latest that are finished. No
 // process has place 3 of a line, which stays as it is here and below.
-fn epochs_at(f: Failure, kind: u32, epochs: &mut [u32; 4])
+#[tactic(auto, using(bruteforce::proofs::Counts::spare_kept))]
+fn epochs_at(f: Failure, kind: Kind, epochs: &mut [u32; 4])
     requires { SmallRun f }
     ensures { spare epochs.new ≡ spare epochs.old }
 {
-    let events = f.events;
-    let mut z: u32 = 0;
-    while z < f.count {
-        epochs[z as usize] = epoch_by(kind, &events, f.cut, z);
-        z += 1;
+    for z in 0..f.count {
+        epochs[z as usize] = epoch_by(kind as u32, &f.events, f.cut, z);
     }
 }
 
@@ -42,40 +40,37 @@ fn failed(set: u64, z: u32) -> bool
 
 // The line with number x: the digit 0 is STAYS, any other an epoch. A finished epoch after the first takes two events,
 // so that no trace here has one above 4.
+#[tactic(auto, using(bruteforce::proofs::Counts::spare_kept))]
 fn spell(count: u32, x: u32, line: &mut [u32; 4])
     requires { count ≤ 3 }
     ensures { spare line.new ≡ spare line.old }
 {
     let mut rest = x;
-    let mut z: u32 = 0;
-    while z < count {
-        let d = rest % 5;
-        line[z as usize] = if d == 0 { STAYS } else { d };
-        rest = rest / 5;
-        z += 1;
+    for z in 0..count as usize {
+        line[z] = match rest % 5 {
+            0 => STAYS,
+            epoch => epoch,
+        };
+        rest /= 5;
     }
 }
 
 // "Restart lines may name finished epochs only, epoch 1 being always finished, or 32." "Failed zones may not stay."
 fn may_hold(finished: u32, failed: bool, n: u32) -> bool {
     if n == STAYS {
-        return !failed;
+        !failed
+    } else {
+        0 < n && n <= finished
     }
-    if n == 0 {
-        return false;
-    }
-    n <= finished
 }
 
 fn permitted(f: Failure, finished: &[u32; 4], line: &[u32; 4]) -> bool
     requires { f.count ≤ 3 }
 {
-    let mut z: u32 = 0;
-    while z < f.count {
+    for z in 0..f.count {
         if !may_hold(finished[z as usize], failed(f.set, z), line[z as usize]) {
             return false;
         }
-        z += 1;
     }
     true
 }
@@ -89,27 +84,21 @@ pub fn codes(count: u32) -> u32
 
 // The larger of two lines, process by process.
 fn raise(best: &mut [u32; 4], line: &[u32; 4]) {
-    let mut z = 0;
-    while z < 4 {
-        if best[z] < line[z] {
-            best[z] = line[z];
-        }
-        z += 1;
+    for (b, n) in best.iter_mut().zip(line) {
+        *b = (*b).max(*n);
     }
 }
 
-// One line: where it is permitted it is judged, and where it loses nothing the best is raised to it.
-fn try_line(f: Failure, finished: &[u32; 4], line: &[u32; 4], best: &mut [u32; 4]) -> u32
+// One line: where it is permitted it is judged, and where it loses nothing the best is raised to it. Answers whether it
+// was judged.
+fn try_line(f: Failure, finished: &[u32; 4], line: &[u32; 4], best: &mut [u32; 4]) -> bool
     requires { SmallRun f }
-    ensures { result ≤ 1 }
 {
-    if !permitted(f, finished, line) {
-        return 0;
-    }
-    if !loses(f, line) {
+    let judged = permitted(f, finished, line);
+    if judged && !loses(f, line) {
         raise(best, line);
     }
-    1
+    judged
 }
 
 // Every line of so many processes, and how many were judged.
@@ -117,14 +106,13 @@ fn try_lines(f: Failure, finished: &[u32; 4], best: &mut [u32; 4]) -> u32
     requires { SmallRun f }
     ensures { result ≤ 125 }
 {
-    let mut line = [0u32; 4];
-    let end = codes(f.count);
-    let mut judged: u32 = 0;
-    let mut x: u32 = 0;
-    while x < end {
+    let mut line = [0; 4];
+    let mut judged = 0;
+    for x in 0..codes(f.count) {
         spell(f.count, x, &mut line);
-        judged += try_line(f, finished, &line, best);
-        x += 1;
+        if try_line(f, finished, &line, best) {
+            judged += 1;
+        }
     }
     judged
 }
@@ -133,22 +121,16 @@ fn try_lines(f: Failure, finished: &[u32; 4], best: &mut [u32; 4]) -> u32
 fn holds(f: Failure, finished: &[u32; 4], line: &[u32; 4]) -> bool
     requires { SmallRun f }
 {
-    if !permitted(f, finished, line) {
-        return false;
-    }
-    !loses(f, line)
+    permitted(f, finished, line) && !loses(f, line)
 }
 
 // What a process has to do with the floor: its latest finished epoch, if it failed or has an unfinished save.
 fn bound(epoch: u32, finished: u32, failed: bool) -> u32 {
-    if failed {
-        return finished;
+    if failed || finished < epoch {
+        finished
+    } else {
+        STAYS
     }
-    if finished < epoch { finished } else { STAYS }
-}
-
-fn smaller(a: u32, b: u32) -> u32 {
-    if a < b { a } else { b }
 }
 
 // "The floor becomes the smallest, over the failed zones and those with an unfinished save, of the latest finished
@@ -157,11 +139,9 @@ fn floor(f: Failure, epochs: &[u32; 4], finished: &[u32; 4]) -> u32
     requires { f.count ≤ 3 }
 {
     let mut least = STAYS;
-    let mut z: u32 = 0;
-    while z < f.count {
+    for z in 0..f.count {
         let own = bound(epochs[z as usize], finished[z as usize], failed(f.set, z));
-        least = smaller(least, own);
-        z += 1;
+        least = least.min(own);
     }
     least
 }
@@ -170,35 +150,30 @@ fn floor(f: Failure, epochs: &[u32; 4], finished: &[u32; 4]) -> u32
 fn lowest(count: u32, line: &[u32; 4]) -> u32
     requires { count ≤ 3 }
 {
-    let mut least = STAYS;
-    let mut z: u32 = 0;
-    while z < count {
-        least = smaller(least, line[z as usize]);
-        z += 1;
-    }
-    least
+    line[..count as usize]
+        .iter()
+        .fold(STAYS, |least, n| least.min(*n))
 }
 
 pub fn best_line(f: Failure) -> Best
     requires { SmallRun f }
     ensures { result.judged ≤ 125 }
 {
-    let mut epochs = [0u32; 4];
-    epochs_at(f, SAVE, &mut epochs);
-    let mut finished = [0u32; 4];
-    epochs_at(f, DONE, &mut finished);
-    let mut line = [0u32; 4];
+    let mut epochs = [0; 4];
+    epochs_at(f, Kind::Save, &mut epochs);
+    let mut finished = [0; 4];
+    epochs_at(f, Kind::Done, &mut finished);
+    let mut line = [0; 4];
     let judged = try_lines(f, &finished, &mut line);
-    let mut phases = [0u32; 4];
+    let mut phases = [0; 4];
     phases_at(f, &line, &mut phases);
     let above = lowest(f.count, &line) >= floor(f, &epochs, &finished);
-    let reached = holds(f, &finished, &line);
     Best {
-        line: line,
-        epochs: epochs,
-        phases: phases,
-        judged: judged,
-        reached: reached && above,
+        line,
+        epochs,
+        phases,
+        judged,
+        reached: above && holds(f, &finished, &line),
     }
 }
 
@@ -207,26 +182,22 @@ pub fn may_replay(f: Failure, x: u32, line: &mut [u32; 4]) -> bool
     requires { SmallRun f }
     ensures { spare line.new ≡ spare line.old }
 {
-    let mut finished = [0u32; 4];
-    epochs_at(f, DONE, &mut finished);
+    let mut finished = [0; 4];
+    epochs_at(f, Kind::Done, &mut finished);
     spell(f.count, x, line);
     permitted(f, &finished, line)
 }
 
-// The highest number of a process whose latest finished epoch this is.
-fn highest_of(failed: bool, finished: u32) -> u32 {
-    if failed { finished } else { STAYS }
-}
-
 // The highest line that is permitted: failed processes go back as little as they can, the others stay.
+#[tactic(auto, using(bruteforce::proofs::Counts::spare_kept))]
 pub fn highest(f: Failure, line: &mut [u32; 4])
     requires { SmallRun f }
     ensures { spare line.new ≡ spare line.old }
 {
-    epochs_at(f, DONE, line);
-    let mut z: u32 = 0;
-    while z < f.count {
-        line[z as usize] = highest_of(failed(f.set, z), line[z as usize]);
-        z += 1;
+    epochs_at(f, Kind::Done, line);
+    for z in 0..f.count {
+        if !failed(f.set, z) {
+            line[z as usize] = STAYS;
+        }
     }
 }

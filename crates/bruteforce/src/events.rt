@@ -1,15 +1,7 @@
-// Events as numbers, and how often they come.
-ghost use Rattle.std.specs.Prelude.{◌≡◌, ◌+◌, ◌*◌, ◌/◌, ◌%◌, ◌<◌, ◌≤◌, if◌then◌else◌};
+// Events, alone and as the words that an array of them has, and how often they come.
+ghost use Rattle.std.specs.Prelude.{◌≡◌, ◌+◌, ◌*◌, ◌/◌, ◌%◌, ◌<◌, ◌≤◌, IfSome};
 ghost use Rattle.bruteforce.specs.Counts.{times_of, after_of};
-
-// Kinds of an event.
-pub const SAVE: u32 = 0;
-
-pub const SEND: u32 = 1;
-
-pub const RECEIVE: u32 = 2;
-
-pub const DONE: u32 = 3;
+ghost use Rattle.bruteforce.specs.Events.{word_of, event_of, Small};
 
 // In a line: the process stays as it was at the cut.
 pub const STAYS: u32 = 32;
@@ -24,36 +16,67 @@ pub struct Failure {
     pub set: u64,
 }
 
-// An event as one number, from its kind, its process and its peer.
-pub fn event(kind: u32, at: u32, peer: u32) -> u32
+// Kinds of an event: the sixteens of its word.
+#[derive(Clone, Copy, Debug, PartialEq, Eq)]
+pub enum Kind {
+    Save = 0,
+    Send = 1,
+    Receive = 2,
+    Done = 3,
+}
+
+// An event: what a process does, and to or from which other.
+#[derive(Clone, Copy, Debug, PartialEq, Eq)]
+pub enum Event {
+    Save { at: u32 },
+    Send { at: u32, to: u32 },
+    Receive { at: u32, from: u32 },
+    Done { at: u32 },
+}
+
+impl Event {
+    // The event of a word, if there is one: a word has more kinds than there are.
+    pub fn of(w: u32) -> Option<Event>
+        ensures value { result ≡ event_of w }
+        ensures small { IfSome result Small }
+    {
+        let at = process(w);
+        let peer = w % 4;
+        match w / 16 {
+            0 => Some(Event::Save { at }),
+            1 => Some(Event::Send { at, to: peer }),
+            2 => Some(Event::Receive { at, from: peer }),
+            3 => Some(Event::Done { at }),
+            _ => None,
+        }
+    }
+
+    // Its word.
+    pub fn word(self) -> u32
+        ensures { result ≡ word_of self }
+    {
+        match self {
+            Event::Save { at } => packed(Kind::Save as u32, at, 0),
+            Event::Send { at, to } => packed(Kind::Send as u32, at, to),
+            Event::Receive { at, from } => packed(Kind::Receive as u32, at, from),
+            Event::Done { at } => packed(Kind::Done as u32, at, 0),
+        }
+    }
+}
+
+// A word, from its kind, its process and its peer.
+pub(crate) fn packed(kind: u32, at: u32, peer: u32) -> u32
     ensures { result ≡ kind % 4 * 16 + at % 4 * 4 + peer % 4 }
 {
     kind % 4 * 16 + at % 4 * 4 + peer % 4
 }
 
-pub fn kind(w: u32) -> u32
-    ensures { result ≡ w / 16 }
-{
-    w / 16
-}
-
-pub fn process(w: u32) -> u32
-    ensures { (result ≡ w / 4 % 4) × (result < 4) }
+// The process of a word, whatever its kind.
+pub(crate) fn process(w: u32) -> u32
+    ensures value { result ≡ w / 4 % 4 }
+    ensures upper_bound { result < 4 }
 {
     w / 4 % 4
-}
-
-pub fn peer(w: u32) -> u32
-    ensures { (result ≡ w % 4) × (result < 4) }
-{
-    w % 4
-}
-
-pub fn one_if(yes: bool) -> u32
-    ensures value { result ≡ (if yes then 1 else 0) }
-    ensures upper_bound { result ≤ 1 }
-{
-    if yes { 1 } else { 0 }
 }
 
 // How many of the first `upto` events are this one.
@@ -62,11 +85,9 @@ pub(crate) fn times(events: &[u32; 7], upto: u32, w: u32) -> u32
     ensures value { result ≡ times_of events.now w upto }
     ensures upper_bound { result ≤ upto }
 {
-    let mut n: u32 = 0;
-    let mut i: u32 = 0;
-    while i < upto {
-        n += one_if(events[i as usize] == w);
-        i += 1;
+    let mut n = 0;
+    for i in 0..upto {
+        n += u32::from(events[i as usize] == w);
     }
     n
 }
@@ -77,12 +98,10 @@ pub(crate) fn after(events: &[u32; 7], upto: u32, w: u32, number: u32) -> u32
     ensures value { result ≡ after_of events.now w number upto }
     ensures upper_bound { result ≤ upto }
 {
-    let mut i: u32 = 0;
-    while i < upto {
+    for i in 0..upto {
         if times(events, i, w) >= number {
             return i;
         }
-        i += 1;
     }
-    i
+    upto
 }

@@ -7,5 +7,5 @@
 mod events;
 mod rules;
 
-pub use events::{DONE, Failure, RECEIVE, SAVE, SEND, STAYS, event, kind, one_if, peer, process};
-pub use rules::{Refusal, epoch_by, loses, phases_at, record, steps, verdict};
+pub use events::{Event, Failure, Kind, STAYS};
+pub use rules::{Fault, Refusal, epoch_by, loses, phases_at, record, steps, verdict};

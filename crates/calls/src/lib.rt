@@ -42,22 +42,17 @@ fn faultless(table: &[u32; AREA_WORDS], c: Call, run: &[u32; AREA_WORDS]) -> boo
     };
     let mut whole = [0u32; AREA_WORDS];
     recovery::lowest(table, c.step, c.set, all, &mut whole);
-    checks::same_words(run, &whole)
-}
-
-fn print_received(e: usize, number: u32, value: u64) {
-    if number != 0 {
-        checks::print(b" ev=# no=# val=#", &[e as u64, number as u64, value]);
-    }
+    *run == whole
 }
 
 // The record in a run area: of each receive that took a message its event, the message's number and its value.
 fn print_record(run: &[u32; AREA_WORDS]) {
-    let mut e: usize = 1;
-    while e <= 2048 {
-        let value = words::from_halves(run[LOW_VALUES + e], run[HIGH_VALUES + e]);
-        print_received(e, run[e], value);
-        e += 1;
+    for e in 1..=2048 {
+        let number = run[e];
+        if number != 0 {
+            let value = words::from_halves(run[LOW_VALUES + e], run[HIGH_VALUES + e]);
+            checks::print(b" ev=# no=# val=#", &[e as u64, u64::from(number), value]);
+        }
     }
 }
 
@@ -66,11 +61,11 @@ fn print_replayed(r: Replayed, same: bool, run: &[u32; AREA_WORDS]) {
     checks::print(
         b" number=# place=# steps=# complete=# same=#",
         &[
-            r.number as u64,
+            u64::from(r.number),
             r.place as u64,
             r.steps as u64,
-            checks::flag(r.complete),
-            checks::flag(same),
+            u64::from(r.complete),
+            u64::from(same),
         ],
     );
     print_record(run);
@@ -81,16 +76,13 @@ fn read_order(row: &[u8], from: usize, order: &mut [u16]) -> usize
     requires { from ≤ 68 }
     ensures { IsPrefixLen result order.new }
 {
-    let mut i = 0;
-    while i < order.len() {
-        let v = checks::number(row, from + i);
-        if v == checks::NONE {
+    for (i, choice) in order.iter_mut().enumerate() {
+        let Some(v) = checks::number(row, from + i) else {
             return i;
-        }
-        order[i] = (v % 65536) as u16;
-        i += 1;
+        };
+        *choice = (v % 65536) as u16;
     }
-    i
+    order.len()
 }
 
 // An order of choices.
@@ -109,31 +101,21 @@ fn replay_lowest(table: &[u32; AREA_WORDS], c: Call) {
     print_replayed(r, faultless(table, c, &run), &run);
 }
 
-fn print_message(channel: u32, number: u32, phase: u32) {
-    checks::print(
-        b" from=# to=# no=# phase=#",
-        &[
-            (channel % 64) as u64,
-            (channel / 64 % 64) as u64,
-            number as u64,
-            phase as u64,
-        ],
-    );
-}
-
 // The messages of a list after the first `before` of them, `count` in number.
 fn print_messages(run: &[u32; AREA_WORDS], before: usize, count: usize)
     requires { before + count ≤ 2048 }
 {
-    let mut i: usize = 0;
-    while i < count {
-        let row = before + i + 1;
-        print_message(
-            run[ROW_BASE + row],
-            run[ROW_NUMBER_BASE + row],
-            run[ROW_PHASE_BASE + row],
+    for row in before + 1..before + count + 1 {
+        let channel = run[ROW_BASE + row];
+        checks::print(
+            b" from=# to=# no=# phase=#",
+            &[
+                u64::from(channel % 64),
+                u64::from(channel / 64 % 64),
+                u64::from(run[ROW_NUMBER_BASE + row]),
+                u64::from(run[ROW_PHASE_BASE + row]),
+            ],
         );
-        i += 1;
     }
 }
 
@@ -144,50 +126,44 @@ fn list_messages(table: &[u32; AREA_WORDS], c: Call) {
     checks::print(
         b" number=# place=# orphans=# kept=# lost=#",
         &[
-            m.number as u64,
+            u64::from(m.number),
             m.place as u64,
-            m.orphans as u64,
-            m.kept as u64,
-            m.lost as u64,
+            u64::from(m.orphans),
+            u64::from(m.kept),
+            u64::from(m.lost),
         ],
     );
     print_messages(&run, m.orphans as usize + m.kept as usize, m.lost as usize);
 }
 
-fn print_restart(r: restart::Restarted, a: u32, b: u32, c: u32) {
+// The engine's line, of three processes.
+fn find_line(table: &[u32; AREA_WORDS], c: Call) {
+    let r = restart::restart(table, c.step, c.set);
     checks::print(
         b" number=# place=# restart=# restart=# restart=#",
         &[
-            r.number as u64,
+            u64::from(r.number),
             r.place as u64,
-            a as u64,
-            b as u64,
-            c as u64,
+            u64::from(r.line.epochs[0]),
+            u64::from(r.line.epochs[1]),
+            u64::from(r.line.epochs[2]),
         ],
     );
 }
 
-// The engine's line, of three processes.
-fn find_line(table: &[u32; AREA_WORDS], c: Call) {
-    let r = restart::restart(table, c.step, c.set);
-    let numbers = r.line.epochs;
-    print_restart(r, numbers[0], numbers[1], numbers[2]);
+// The number of a row's field, all ones where there is none.
+fn number(row: &[u8], k: usize) -> u64 {
+    checks::number(row, k).unwrap_or(u64::MAX)
 }
 
 // The line of a row, of so many processes.
 fn read_line(row: &[u8], count: u32) -> Line {
-    let mut epochs = [0u32; 64];
-    let mut z: usize = 0;
-    while z < 64 {
-        if z < count as usize {
-            epochs[z] = (checks::number(row, 4 + z) % 4294967296) as u32;
-        }
-        z += 1;
+    let count = count as usize;
+    let mut epochs = [0; 64];
+    for (z, epoch) in epochs.iter_mut().enumerate().take(count) {
+        *epoch = (number(row, 4 + z) % 4294967296) as u32;
     }
-    Line {
-        epochs: epochs,
-        count: count as usize,
-    }
+    Line { epochs, count }
 }
 
 fn run_call(table: &[u32; AREA_WORDS], kind: u8, c: Call, row: &[u8]) {
@@ -207,8 +183,8 @@ fn run_row(table: &[u32; AREA_WORDS], row: &[u8]) {
         return;
     }
     let c = Call {
-        step: checks::number(row, 2),
-        set: checks::number(row, 3),
+        step: number(row, 2),
+        set: number(row, 3),
         line: read_line(row, table[0]),
     };
     io::write_all(1, &row[..end]);
@@ -218,11 +194,8 @@ fn run_row(table: &[u32; AREA_WORDS], row: &[u8]) {
 
 // The rows of a trace.
 fn run_rows(table: &[u32; AREA_WORDS], rows: &[u8]) {
-    let mut at: usize = 0;
-    while at < rows.len() {
-        let end = checks::find(rows, at, b'\n');
-        run_row(table, &rows[at..end]);
-        at = end + 1;
+    for row in rows.split(|b| *b == b'\n') {
+        run_row(table, row);
     }
 }
 

@@ -2,12 +2,12 @@
 use mathlib.Core.Path.{◌≡◌, refl, sym, ◌∙◌, ap, ap₂}
 use mathlib.Core.Bool.{Bool, true, false, ◌&&◌, not}
 use mathlib.Core.List.{List}
-use Prim.Native.Nat.{ℕ, ◌+◌, ◌/◌, ◌%◌, ◌^◌, ◌≤◌, ◌<◌}
+use Prim.Native.Nat.{ℕ, ◌+◌, ◌/◌, ◌^◌, ◌≤◌, ◌<◌}
 use native.Mathlib.Omega.{arith}
 use native.Mathlib.Numerals.{add-one}
 use lib.ListN.{get_or}
 use lib.Dec.{leb, ltb, eqb}
-use borrow.Author.Tests.{lt-ltb, le-ltb, le-leb, lt-leb, eq-eqb, ne_eqb}
+use borrow.Author.Tests.{lt-ltb, le-ltb, eq-eqb, ne_eqb}
 use Rattle.trace.specs.Trace.{Trace}
 use Rattle.theory.specs.Lists.{all_below}
 use Rattle.theory.specs.Events.{size}
@@ -18,35 +18,13 @@ use Rattle.theory.proofs.Refusals.{set_shifted}
 use Rattle.columns.specs.Inner.Columns.{Tabled}
 use Rattle.columns.specs.Inner.Full.{procs_w, events_w}
 use Rattle.positions.specs.Inner.Positions.{FinishedEpochs}
-use Rattle.faults.specs.Inner.Permitted.{usable_w, may_stay_w, may_w}
+use Rattle.faults.specs.Inner.Permitted.{may_w}
 use Rattle.columns.proofs.Full.{fit, procs_is, size_is}
 
--- ---- `names_beyond`, `can_restart`, `may_stay`, `may_hold`
-
-pub beyond_none : (set count : ℕ) → count ≡ 64 → set < 18446744073709551616 → false ≡ leb (2 ^ count) set
-beyond_none set count e h = rw e (sym (lt-leb (2 ^ 64) set h))
+-- ---- `names_beyond`
 
 pub beyond_some : (set count : ℕ) → not (eqb (set / 2 ^ count) 0) ≡ leb (2 ^ count) set
 beyond_some set count = sym (set_shifted count set)
-
-pub restart_none : (finished n : ℕ) → n < 1 → false ≡ usable_w finished n
-restart_none finished n h = rw (lt-leb 1 n h)
-
-pub restart_some : (finished n : ℕ) → 1 ≤ n → leb n finished ≡ usable_w finished n
-restart_some finished n h = rw (le-leb 1 n h)
-
-pub stay_not : (failed z n : ℕ) → (n ≡ 32 → ⊥) → false ≡ may_stay_w failed z n
-stay_not failed z n h = rw (ne_eqb n 32 h)
-
-pub stay_may : (failed z n : ℕ) → n ≡ 32 → not (eqb (failed / 2 ^ z % 2) 1) ≡ may_stay_w failed z n
-stay_may failed z n h = rw (eq-eqb n 32 h)
-
-module _ (failed : ℕ) (finished numbers : List ℕ) (z : ℕ) (r : Bool) (er : r ≡ usable_w (get_or finished z 0) (get_or numbers z 0)) where
-  pub holds_usable : r ≡ true → true ≡ may_w failed finished numbers z
-  holds_usable h = let a : usable_w (get_or finished z 0) (get_or numbers z 0) ≡ true = sym er ∙ h in rw a
-
-  pub holds_stay : (s : Bool) → r ≡ false → s ≡ may_stay_w failed z (get_or numbers z 0) → s ≡ may_w failed finished numbers z
-  holds_stay s h e = let a : usable_w (get_or finished z 0) (get_or numbers z 0) ≡ false = sym er ∙ h in rw a e
 
 -- ---- `permitted`
 
@@ -54,9 +32,15 @@ pub all_none : (f : ℕ → Bool) → true ≡ all_below 0 f
 unfolding all_below
 all_none f = refl
 
-pub all_next : (f : ℕ → Bool) (z : ℕ) (one all r : Bool) → one ≡ f z → all ≡ all_below z f → r ≡ (one && all) → r ≡ all_below (z + 1) f
+pub all_next : (f : ℕ → Bool) (z : ℕ) (one all : Bool) → one ≡ f z → all ≡ all_below z f → (all && one) ≡ all_below (z + 1) f
 unfolding all_below
-all_next f z one all r a b e = e ∙ ap₂ (λ (x y : Bool). x && y) a b ∙ rw (add-one z)
+all_next f z one all a b = swapped one all ∙ ap₂ (λ (x y : Bool). x && y) a b ∙ rw (add-one z)
+  where
+    swapped : (one all : Bool) → (all && one) ≡ (one && all)
+    swapped true true = refl
+    swapped true false = refl
+    swapped false true = refl
+    swapped false false = refl
 
 -- ---- `failure_fault`
 

@@ -2,7 +2,8 @@
 // theory's definitions, for every trace that the table is of. Assumes nothing.
 #![tactic(auto)]
 
-ghost use Rattle.std.specs.Prelude.{◌≡◌, ◌&&◌, leb, ◌^◌, ◌≤◌, ◌<◌, length};
+ghost use Rattle.std.specs.Prelude.{◌≡◌, leb, ◌^◌, ◌≤◌, ◌<◌, length, get_or, OnOk};
+ghost use Rattle.refusal.specs.Refusals.{number_or_zero};
 ghost use Rattle.trace.specs.Trace.{Trace};
 ghost use Rattle.theory.specs.Lists.{all_below};
 ghost use Rattle.theory.specs.Events.{size};
@@ -10,76 +11,40 @@ ghost use Rattle.theory.specs.Refusals.{failure_fault, numbers_fault};
 ghost use Rattle.columns.specs.Inner.Columns.{Tabled};
 ghost use Rattle.columns.specs.Inner.Full.{events_w};
 ghost use Rattle.recovery_line.specs.Given.{line_in};
-ghost use Rattle.faults.specs.Inner.Permitted.{usable_w, may_stay_w, may_w};
+ghost use Rattle.faults.specs.Inner.Permitted.{may_hold_w, may_w};
 
 use recovery_line::{Line, STAYS};
+use refusal::Refusal;
 
 // Does a set name a process that is none of the first `count`.
 fn names_beyond(set: u64, count: usize) -> bool
     requires { count ≤ 64 }
     ensures { result ≡ leb (2 ^ count) set }
 {
-    if count == 64 {
-        return false;
-    }
-    (set >> (count as u32)) != 0
+    count != 64 && set >> count != 0
 }
 
-// What is wrong with a failure: 8, 9, or 0.
-pub fn failure_fault(full: &[u32], step: u64, set: u64) -> u32
+// What is wrong with a failure: the step (8), or the set (9).
+pub fn failure_fault(full: &[u32], step: u64, set: u64) -> Result<(), Refusal>
     requires { (t : Trace) × Tabled t full.now }
-    ensures number { (t : Trace) → Tabled t full.now → result ≡ failure_fault t step set }
-    ensures within { result ≡ 0 → step ≤ events_w full.now }
+    ensures number { (t : Trace) → Tabled t full.now → number_or_zero result ≡ failure_fault t step set }
+    ensures within { OnOk result (step ≤ events_w full.now) }
 {
-    let size = full[1];
-    if step > size as u64 {
-        return 8;
+    if step > u64::from(full[1]) {
+        return Err(Refusal::Step);
     }
-    if set == 0 {
-        return 9;
+    if set == 0 || names_beyond(set, columns::processes(full)) {
+        return Err(Refusal::Set);
     }
-    if names_beyond(set, columns::processes(full)) {
-        return 9;
-    }
-    0
+    Ok(())
 }
 
-// Can a process with this latest finished epoch restart in epoch n.
-fn can_restart(finished: u32, n: u32) -> bool
-    ensures { result ≡ usable_w finished n }
-{
-    if n < 1 {
-        return false;
-    }
-    n <= finished
-}
-
-// May a line hold n for process z, to stay.
-fn may_stay(set: u64, z: u32, n: u32) -> bool
+// May a line hold n for process z, whose latest finished epoch is `finished`: to restart in epoch n, or to stay.
+fn may_hold(finished: u32, n: u32, set: u64, z: usize) -> bool
     requires { z < 64 }
-    ensures { result ≡ may_stay_w set z n }
+    ensures { result ≡ may_hold_w set finished z n }
 {
-    if n != STAYS {
-        return false;
-    }
-    (set >> z) % 2 != 1
-}
-
-// May a line hold this number for process z.
-fn may_hold(finished: &[u32], numbers: &[u32], set: u64, z: usize) -> bool
-    requires { (length finished.now ≡ 64) × (length numbers.now ≡ 64) × (z < 64) }
-    ensures { result ≡ may_w set finished.now numbers.now z }
-{
-    if can_restart(finished[z], numbers[z]) {
-        return true;
-    }
-    may_stay(set, z as u32, numbers[z])
-}
-
-fn both(a: bool, b: bool) -> bool
-    ensures { result ≡ (a && b) }
-{
-    a && b
+    (1 <= n && n <= finished) || (n == STAYS && (set >> z) % 2 != 1)
 }
 
 // Does a line hold for each process what it may.
@@ -88,29 +53,26 @@ fn permitted(finished: &[u32], numbers: &[u32], count: usize, set: u64) -> bool
     ensures { result ≡ all_below count (may_w set finished.now numbers.now) }
 {
     let mut all = true;
-    let mut z: usize = 0;
-    while z < count {
-        all = both(may_hold(finished, numbers, set, z), all);
-        z += 1;
+    for z in 0..count {
+        all &= may_hold(finished[z], numbers[z], set, z);
     }
     all
 }
 
-// What is wrong with a line, where nothing is with the failure: 10, or 0.
-pub fn line_fault(full: &[u32], cut: usize, set: u64, line: Line) -> u32
+// What is wrong with a line, where nothing is with the failure (10).
+pub fn line_fault(full: &[u32], cut: usize, set: u64, line: Line) -> Result<(), Refusal>
     requires { (t : Trace) × Tabled t full.now × (cut ≤ size t) }
-    ensures { (t : Trace) → Tabled t full.now → cut ≤ size t → result ≡ numbers_fault t cut set line.count (line_in line) }
+    ensures { (t : Trace) → Tabled t full.now → cut ≤ size t → number_or_zero result ≡ numbers_fault t cut set line.count (line_in line) }
 {
     let count = columns::processes(full);
     if line.count != count {
-        return 10;
+        return Err(Refusal::Line);
     }
     let mut finished = [1u32; 64];
     positions::finished_at(full, cut, &mut finished);
-    let numbers = line.epochs;
-    if permitted(&finished, &numbers, count, set) {
-        0
+    if permitted(&finished, &line.epochs, count, set) {
+        Ok(())
     } else {
-        10
+        Err(Refusal::Line)
     }
 }

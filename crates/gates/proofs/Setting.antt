@@ -34,9 +34,6 @@ module _ (t : Trace) (full earlier latest : List ℕ) (line : Line) (cut : ℕ) 
     pub gates : (z : ℕ) → z < n → get_or g z 0 ≡ gate (run_at t cut (line_in line)) z
     pub places : (z : ℕ) → z < n → get_or g (64 + z) 0 ≡ (run_at t cut (line_in line)).restart z
 
-  pub none_set : (g : List ℕ) → Set 0 g
-  none_set g = record { gates = λ z h. absurd (let y : ⊥ = omega arith in y); places = λ z h. absurd (let y : ⊥ = omega arith in y) }
-
   pub all_set : (n : ℕ) (g : List ℕ) → length g ≡ 128 → line.count ≤ n → Set n g → Gated (run_at t cut (line_in line)) g
   all_set n g l h P = record {
     long = omega arith;
@@ -53,9 +50,6 @@ module _ (t : Trace) (full earlier latest : List ℕ) (line : Line) (cut : ℕ) 
 
     newest : Newest full z cut (get_or latest z 0)
     newest = S.linked.last z in_range
-
-    pub newest_few : get_or latest z 0 ≤ 2048
-    newest_few = omega (arith, newest.within, cut_few)
 
     pub walkable : Walkable full earlier (get_or latest z 0)
     walkable = record { cut = cut; process = z; latest = latest; sized = sized t full S.tabled cut S.within; linked = S.linked; here = newest }

@@ -46,27 +46,3 @@ module _ (t m : List ℕ) (e k : ℕ) (ek : k ≡ kind_w t e) where
           let a : leb (get_or m (at_w t e) 0) (epoch_w t e) ≡ true = rw (← eq) (le-leb (get_or m q 0) (epoch_w t e) g) in
           let b : ltb (epoch_w t (match_w t e)) (get_or m (peer_w t e) 0) ≡ true = rw (← ed, ← ep) (lt-ltb (epoch_w t d) (get_or m p 0) h) in
           rw (is_two, a, b, ne_eqb (logged_w t e) 1 l)
-
-      pub is_lowered : (f : List ℕ) (v : ℕ) → v ≡ min (epoch_w t d) (get_or f p 0) → lost_w t m e ≡ true → set m p v ≡ lower_at t f m e
-      unfolding lower_at
-      is_lowered f v ev h = rw (h, ev, ed, ep)
-
-pub not_lowered : (t f m : List ℕ) (e : ℕ) → lost_w t m e ≡ false → m ≡ lower_at t f m e
-unfolding lower_at
-not_lowered t f m e h = rw h
-
--- ---- `undoes`
-
-pub undoes_none : (t m latest : List ℕ) (z : ℕ) → get_or latest z 0 ≡ 0 → false ≡ undone_w t m latest z
-undoes_none t m latest z h = rw h
-
-pub undoes_some : (t m latest : List ℕ) (z : ℕ) → (get_or latest z 0 ≡ 0 → ⊥) → leb (get_or m z 0) (epoch_w t (get_or latest z 0)) ≡ undone_w t m latest z
-undoes_some t m latest z n = rw (lt-ltb 0 (get_or latest z 0) (let h : 0 < get_or latest z 0 = omega arith in h))
-
--- ---- `look`
-
-pub joined_lost : (t m : List ℕ) (e pending p : ℕ) → lost_w t m e ≡ true → p ≡ peer_w t e → with_in pending p ≡ joined_by t m e pending
-joined_lost t m e pending p h ep = rw (h, ep)
-
-pub joined_kept : (t m : List ℕ) (e pending : ℕ) → lost_w t m e ≡ false → pending ≡ joined_by t m e pending
-joined_kept t m e pending h = rw h

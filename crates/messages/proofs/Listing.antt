@@ -1,10 +1,12 @@
 -- The list of the messages, from a full table and gates to the run area.
 use Prim.Native.Nat.{ℕ, ◌+◌, ◌<◌, ◌≤◌}
-use mathlib.Core.Path.{◌≡◌, refl, sym, ap, ◌∙◌}
+use mathlib.Core.Path.{◌≡◌, refl, ap, ◌∙◌}
 use mathlib.Core.List.{List, ◌++◌}
 use native.Mathlib.Omega.{arith}
-use lib.ListN.{length, get_or, take, drop, replicate, length-replicate, length-append, get_or-append}
-use lib.Seq.{length-take-le, take_at, drop_at}
+use mathlib.Core.Bool.{false}
+use lib.Dec.{eqb}
+use lib.ListN.{length, get_or, take, drop, replicate, get_or-append}
+use lib.Seq.{length-take-le}
 use borrow.Author.Tests.{ne_eqb}
 use Rattle.words.specs.Area.{area_words, words_from}
 use Rattle.words.proofs.Area.{length_words, words_at_lem}
@@ -15,30 +17,19 @@ use Rattle.listing.specs.Listing.{list_word}
 use Rattle.listing.proofs.Whole.{rows_few}
 use Rattle.recovery_line.specs.declared.Line.{Line}
 use Rattle.columns.specs.Inner.Given.{Given}
-use Rattle.messages.specs.declared.Counted.{Counted}
+use Rattle.refusal.specs.declared.Refusal.{Refusal}
+use Rattle.refusal.specs.Refusals.{number_of}
+use Rattle.refusal.proofs.Refusals.{no_number_0}
 use Rattle.preparing.specs.Faults.{run_of, line_fault_of}
-use Rattle.messages.specs.Messages.{counts_of, messages_refusal, messages_answer, messages_area}
+use Rattle.messages.specs.Messages.{counts_of, MessagesAnswer, messages_refusal, messages_answer, messages_area}
 use Rattle.messages.specs.Meaning.{Lists}
 use Rattle.messages.proofs.Meaning.{lists_mean}
 
 -- ---- Words that are cleared
 
-pub clear_length : (area : List ℕ) → area ≡ replicate area_words 0 → length area ≡ area_words
-clear_length area e = ap length e ∙ length-replicate {A = ℕ} 16384 0
-
 -- an area whose first 16,384 words were cleared
-module _ (area z : List ℕ) (n : area_words ≤ length area) (q : z ≡ replicate (length (take area_words area)) 0) where
-  front : z ≡ replicate area_words 0
-  front = q ∙ ap (λ (k : ℕ). replicate k 0) (length-take-le area_words area n)
-
-  pub front_long : area_words ≤ length (z ++ drop area_words area)
-  front_long = rw (length-append z (drop 16384 area)) (omega (arith, clear_length z front))
-
-  pub front_clear : take area_words (z ++ drop area_words area) ≡ replicate area_words 0
-  front_clear = take_at z (drop 16384 area) 16384 (clear_length z front) ∙ front
-
-  pub back_kept : drop area_words (z ++ drop area_words area) ≡ drop area_words area
-  back_kept = drop_at z (drop 16384 area) 16384 (clear_length z front)
+pub front : (area z : List ℕ) → area_words ≤ length area → z ≡ replicate (length (take area_words area)) 0 → z ≡ replicate area_words 0
+front area z n q = q ∙ ap (λ (k : ℕ). replicate k 0) (length-take-le area_words area n)
 
 -- ---- The list
 
@@ -56,16 +47,13 @@ module _ (R : Run) (cut : ℕ) (full gates : List ℕ) (G : Given R cut full gat
   few_counted = rw (word_is 0 (omega arith), word_is 1 (omega arith), word_is 2 (omega arith)) (rows_few R cut full gates G)
 
 module _ (a area : List ℕ) (step set : ℕ) (l : Line) where
-  abbrev pub Listed : Counted → List ℕ → Type 0
-  Listed r w =
-      (r ≡ messages_answer a area step set l)
-      × ((w ≡ messages_area a area step set l)
-      × ((r.orphans + (r.kept + r.lost) ≤ 2048) × (r.number ≡ 0 → Lists (run_of a step l) r.orphans r.kept r.lost w)))
-
-  pub refuses_messages : (n : ℕ) (r : Counted) → n ≡ line_fault_of a (length area) step set l → (n ≡ 0 → ⊥) → r ≡ messages_refusal n → Listed r area
+  -- a refusal leaves the area as it was
+  pub refuses_messages : (e : Refusal) → number_of e ≡ line_fault_of a (length area) step set l
+      → (messages_refusal (number_of e) ≡ messages_answer a area step set l) × (area ≡ messages_area a area step set l)
   unfolding messages_answer messages_area
-  refuses_messages n r f z e =
-      (e ∙ rw (← f, ne_eqb n 0 z), (rw (← f, ne_eqb n 0 z), (rw e (omega arith), λ h. absurd (z (sym (ap (λ (x : Counted). x.number) e) ∙ h)))))
+  refuses_messages e f =
+      let z : eqb (number_of e) 0 ≡ false = ne_eqb (number_of e) 0 (no_number_0 e) in
+      (rw (← f, z), rw (← f, z))
 
   -- the words of the list, in the area
   listed_front : (w : List ℕ) → w ≡ words_from (list_word (run_of a step l)) 0 area_words
@@ -75,17 +63,19 @@ module _ (a area : List ℕ) (step set : ℕ) (l : Line) where
       ap (λ (x : List ℕ). get_or (x ++ drop 16384 area) k 0) e ∙ get_or-append (words_from g 0 16384) (drop 16384 area) 0 k (rw (length_words g 0 16384) h)
       ∙ words_at_lem g 16384 k h
 
-  pub lists : Laws (run_of a step l) → (n : ℕ) (r : Counted) (w : List ℕ) → n ≡ line_fault_of a (length area) step set l → n ≡ 0 → r ≡ counts_of (run_of a step l)
-      → w ≡ words_from (list_word (run_of a step l)) 0 area_words → r.orphans + (r.kept + r.lost) ≤ 2048 → Listed r (w ++ drop area_words area)
+  pub lists : Laws (run_of a step l) → (r : MessagesAnswer) (w : List ℕ) → 0 ≡ line_fault_of a (length area) step set l → r ≡ counts_of (run_of a step l)
+      → w ≡ words_from (list_word (run_of a step l)) 0 area_words → r.orphans + (r.kept + r.lost) ≤ 2048
+      → (r ≡ messages_answer a area step set l)
+      × ((w ++ drop area_words area ≡ messages_area a area step set l) × Lists (run_of a step l) r.orphans r.kept r.lost (w ++ drop area_words area))
   unfolding messages_answer messages_area
-  lists L n r w f z e q few =
+  lists L r w f e q few =
       let R = run_of a step l in
       let room : length (orphans R) + (length (kept_ones R) + length (lost_ones R)) ≤ 2048 = rw e at few in
-      (e ∙ rw (← f, z), (ap (λ (x : List ℕ). x ++ drop 16384 area) q ∙ rw (← f, z), (few, λ h. rw e (lists_mean R L (w ++ drop 16384 area) (listed_front w q) room))))
+      (e ∙ rw (← f), (ap (λ (x : List ℕ). x ++ drop 16384 area) q ∙ rw (← f), rw e (lists_mean R L (w ++ drop 16384 area) (listed_front w q) room)))
 
   -- what `messages` answers and leaves where nothing is wrong
   module _ (ok : line_fault_of a (length area) step set l ≡ 0) where
-    pub counts_are : (c : Counted) → c ≡ messages_answer a area step set l → c ≡ counts_of (run_of a step l)
+    pub counts_are : (c : MessagesAnswer) → c ≡ messages_answer a area step set l → c ≡ counts_of (run_of a step l)
     unfolding messages_answer
     counts_are c e = e ∙ rw ok
 

@@ -3,53 +3,38 @@
 // `list_from` is the step of it that `recovery::recover` takes too. Assumes nothing.
 #![tactic(auto)]
 
-ghost use Rattle.std.specs.Prelude.{◌≡◌, ◌+◌, ◌≤◌, replicate};
+ghost use Rattle.std.specs.Prelude.{◌≡◌, ◌+◌, ◌≤◌, replicate, IfOk};
 ghost use Rattle.words.specs.Area.{area_words, words_from};
 ghost use Rattle.theory.specs.Line.{Run};
 ghost use Rattle.listing.specs.Listing.{list_word};
 ghost use Rattle.columns.specs.Inner.Given.{Given};
 ghost use Rattle.preparing.specs.Faults.{run_of};
-ghost use Rattle.messages.specs.Messages.{counts_of, messages_refusal, messages_answer, messages_area};
+ghost use Rattle.messages.specs.Messages.{counts_of, messages_answer, messages_area, messages_found, messages_answered};
 ghost use Rattle.messages.specs.Meaning.{Lists};
 
 use columns::{FULL_WORDS, GATE_WORDS};
 use recovery_line::Line;
+use refusal::Refused;
 use words::AREA_WORDS;
 
 // How many messages of each class a line leaves.
-#[derive(Clone, Copy)]
+#[derive(Clone, Copy, Debug, PartialEq, Eq)]
 pub struct Counted {
-    pub number: u32,
-    pub place: usize,
     pub orphans: u32,
     pub kept: u32,
     pub lost: u32,
-}
-
-pub fn no_messages(number: u32) -> Counted
-    ensures { result ≡ messages_refusal number }
-{
-    Counted {
-        number: number,
-        place: 0,
-        orphans: 0,
-        kept: 0,
-        lost: 0,
-    }
 }
 
 // The orphans, kept and lost messages listed in a run area of zeros, from the full table and the gates of a line: how
 // many there are.
 pub fn list_from(full: &[u32], gates: &[u32], cut: usize, area: &mut [u32]) -> Counted
     requires { (area.old ≡ replicate area_words 0) × ((R : Run) × Given R cut full.now gates.now) }
-    ensures answer { (R : Run) → Given R cut full.now gates.now → result ≡ counts_of R }
+    ensures answer { (R : Run) → Given R cut full.now gates.now → messages_found result ≡ counts_of R }
     ensures words { (R : Run) → Given R cut full.now gates.now → area.new ≡ words_from (list_word R) 0 area_words }
     ensures few { result.orphans + (result.kept + result.lost) ≤ 2048 }
 {
     listing::list(full, gates, cut, area);
     Counted {
-        number: 0,
-        place: 0,
         orphans: area[0],
         kept: area[1],
         lost: area[2],
@@ -57,18 +42,22 @@ pub fn list_from(full: &[u32], gates: &[u32], cut: usize, area: &mut [u32]) -> C
 }
 
 // The orphans, kept and lost messages of a line: how many there are, and their list in the run area.
-pub fn messages(table: &[u32], step: u64, set: u64, line: Line, area: &mut [u32]) -> Counted
-    ensures answer { result ≡ messages_answer table.now area.old step set line }
+pub fn messages(
+    table: &[u32],
+    step: u64,
+    set: u64,
+    line: Line,
+    area: &mut [u32],
+) -> Result<Counted, Refused>
+    ensures answer { messages_answered result ≡ messages_answer table.now area.old step set line }
     ensures words { area.new ≡ messages_area table.now area.old step set line }
-    ensures few { result.orphans + (result.kept + result.lost) ≤ 2048 }
-    ensures means { result.number ≡ 0 → Lists (run_of table.now step line) result.orphans result.kept result.lost area.new }
+    ensures few { IfOk result (λ c. c.orphans + (c.kept + c.lost) ≤ 2048) }
+    ensures means { IfOk result (λ c. Lists (run_of table.now step line) c.orphans c.kept c.lost area.new) }
 {
     let mut full = [0u32; FULL_WORDS];
     let mut gates = [0u32; GATE_WORDS];
-    let fault = preparing::prepare(table, area.len(), step, set, line, &mut full, &mut gates);
-    if fault != 0 {
-        return no_messages(fault);
-    }
-    words::zero(&mut area[..AREA_WORDS]);
-    list_from(&full, &gates, step as usize, &mut area[..AREA_WORDS])
+    preparing::prepare(table, area.len(), step, set, line, &mut full, &mut gates)?;
+    let list = &mut area[..AREA_WORDS];
+    list.fill(0);
+    Ok(list_from(&full, &gates, step as usize, list))
 }

@@ -104,9 +104,9 @@ module _ (a : List ℕ) (room step set : ℕ) (l : Line) where
     unfolding line_fault_of
     line_number n e = opened_number a room (line_fault (held a) step set l.count (line_in l)) n full T.opened (e ∙ fit_rest T.fit)
 
-    pub takeable : (n : ℕ) → n ≡ numbers_fault (held a) step set l.count (line_in l) → n ≡ 0 → Takeable (held a) full l step
-    takeable n e z =
-        let q : FitLine (held a) step set l.count (line_in l) = (line_fit (held a) step set l.count (line_in l)).0 (sym (fit_rest T.fit) ∙ sym e ∙ z) in
+    pub takeable : 0 ≡ numbers_fault (held a) step set l.count (line_in l) → Takeable (held a) full l step
+    takeable e =
+        let q : FitLine (held a) step set l.count (line_in l) = (line_fit (held a) step set l.count (line_in l)).0 (sym (fit_rest T.fit) ∙ sym e) in
         record { marked = T.opened.marked; within = step_within a room step set full T; count_is = q.count_is; failed = set; permitted = q.permitted }
 
 -- ---- `gates_of`

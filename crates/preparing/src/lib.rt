@@ -3,7 +3,8 @@
 // numbers for every input. Assumes nothing.
 #![tactic(auto)]
 
-ghost use Rattle.std.specs.Prelude.{◌≡◌, length};
+ghost use Rattle.std.specs.Prelude.{◌≡◌, length, OnOk};
+ghost use Rattle.refusal.specs.Refusals.{number_or_zero};
 ghost use Rattle.trace.specs.Trace.{Trace};
 ghost use Rattle.theory.specs.Line.{run_at};
 ghost use Rattle.columns.specs.Inner.Columns.{full_words};
@@ -14,37 +15,41 @@ ghost use Rattle.preparing.specs.Faults.{areas_or, line_fault_of};
 
 use positions::LINKS;
 use recovery_line::Line;
+use refusal::Refusal;
 use words::AREA_WORDS;
 
-// Checks the areas that a call is given: 12, 13, or 0. Where nothing is wrong, fills the full table of the trace.
-fn open_table(table: &[u32], room: usize, full: &mut [u32]) -> u32
+// Checks the areas that a call is given (12, 13). Where nothing is wrong, fills the full table of the trace.
+fn open_table(table: &[u32], room: usize, full: &mut [u32]) -> Result<(), Refusal>
     requires { length full.old ≡ full_words }
-    ensures fault { result ≡ areas_or table.now room 0 }
-    ensures given { result ≡ 0 → TableOpened table.now room full.new }
+    ensures fault { number_or_zero result ≡ areas_or table.now room 0 }
+    ensures given { OnOk result (TableOpened table.now room full.new) }
 {
     if table.len() < AREA_WORDS {
-        return 12;
+        return Err(Refusal::ShortArea);
     }
     if room < AREA_WORDS {
-        return 12;
+        return Err(Refusal::ShortArea);
     }
     if protocol::tabulate(table, full) {
-        0
+        Ok(())
     } else {
-        13
+        Err(Refusal::NoTrace)
     }
 }
 
-// Checks the areas and a failure: 12, 13, 8, 9, or 0. Where nothing is wrong, fills the full table of the trace.
-pub fn open_failure(table: &[u32], room: usize, step: u64, set: u64, full: &mut [u32]) -> u32
+// Checks the areas and a failure (12, 13, 8, 9). Where nothing is wrong, fills the full table of the trace.
+pub fn open_failure(
+    table: &[u32],
+    room: usize,
+    step: u64,
+    set: u64,
+    full: &mut [u32],
+) -> Result<(), Refusal>
     requires { length full.old ≡ full_words }
-    ensures fault { result ≡ failure_fault_in table.now room step set }
-    ensures given { result ≡ 0 → Tabulated table.now room step set full.new }
+    ensures fault { number_or_zero result ≡ failure_fault_in table.now room step set }
+    ensures given { OnOk result (Tabulated table.now room step set full.new) }
 {
-    let areas = open_table(table, room, full);
-    if areas != 0 {
-        return areas;
-    }
+    open_table(table, room, full)?;
     faults::failure_fault(full, step, set)
 }
 
@@ -59,8 +64,8 @@ pub fn gates_of(full: &[u32], line: Line, cut: usize, gates: &mut [u32])
     gates::gates(full, &earlier, &latest, line, cut, gates);
 }
 
-// Checks the areas, a failure and a line: 12, 13, 8, 9, 10, or 0. Where nothing is wrong, fills the full table of the
-// trace and the gates of the line.
+// Checks the areas, a failure and a line (12, 13, 8, 9, 10). Where nothing is wrong, fills the full table of the trace
+// and the gates of the line.
 pub fn prepare(
     table: &[u32],
     room: usize,
@@ -69,18 +74,13 @@ pub fn prepare(
     line: Line,
     full: &mut [u32],
     gates: &mut [u32],
-) -> u32
+) -> Result<(), Refusal>
     requires { (length full.old ≡ full_words) × (length gates.old ≡ 128) }
-    ensures fault { result ≡ line_fault_of table.now room step set line }
-    ensures given { result ≡ 0 → Prepared table.now room step line full.new gates.new }
+    ensures fault { number_or_zero result ≡ line_fault_of table.now room step set line }
+    ensures given { OnOk result (Prepared table.now room step line full.new gates.new) }
 {
-    let failure = open_failure(table, room, step, set, full);
-    if failure != 0 {
-        return failure;
-    }
-    let fault = faults::line_fault(full, step as usize, set, line);
-    if fault == 0 {
-        gates_of(full, line, step as usize, gates);
-    }
-    fault
+    open_failure(table, room, step, set, full)?;
+    faults::line_fault(full, step as usize, set, line)?;
+    gates_of(full, line, step as usize, gates);
+    Ok(())
 }

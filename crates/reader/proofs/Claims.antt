@@ -15,10 +15,8 @@ use Rattle.trace.specs.Fit.{well_formed}
 use Rattle.lines.specs.Line.{most, most_set}
 use Rattle.reader.specs.Render.{render}
 use Rattle.lines.specs.Render.{render_failure}
-use Rattle.reader.specs.Answer.{verdict_answer, read_answer}
-use Rattle.reader.specs.Failure.{Failing, refused, failing, last_failure, failure_answer_of, failure_answer}
-use Rattle.reader.specs.declared.Answer.{Answer}
-use Rattle.reader.specs.declared.FailureAnswer.{FailureAnswer}
+use Rattle.reader.specs.Answer.{Answer, verdict_answer, read_answer}
+use Rattle.reader.specs.Failure.{FailureAnswer, Failing, refused, failing, last_failure, failure_answer_of, failure_answer}
 use Rattle.reader.specs.Verdict.{Verdict, accepted, verdict}
 use Rattle.reader.specs.Meaning.{ReadAccepts, FailureAccepts, FailureTold, ReadAs, FailureReadAs, TextNumber, Numbered, ReadRefuses, FailureRefuses}
 use Rattle.reader.proofs.Judging.{text_number}

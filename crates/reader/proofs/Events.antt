@@ -14,12 +14,10 @@ use Rattle.trace.specs.declared.Event.TheVariants.{Send, Recv, Save, Done}
 use Rattle.trace.specs.Trace.{Trace, with_events, extended}
 use Rattle.trace.specs.Fit.{event_fault, value_fits, all_fit}
 use Rattle.lines.specs.declared.Line.{Line}
-use Rattle.reader.specs.declared.Judged.{Judged}
-use Rattle.reader.specs.declared.Judged.TheVariants.{Fit, Fails, Unfit}
 use Rattle.lines.specs.Line.{line_said, most, most_value, most_set}
 use Rattle.lines.specs.Render.{render_event, render_failure, KeysHold}
 use Rattle.reader.specs.Render.{render_events}
-use Rattle.reader.specs.Verdict.{pieces, fault_here, judge_event, judge, Scan, after_line, lines_from}
+use Rattle.reader.specs.Verdict.{Judged, Fit, Fails, Unfit, pieces, fault_here, judge_event, judge, Scan, after_line, lines_from}
 use Rattle.trace.proofs.Faults.{send_fit, recv_fit, save_fit, done_fit}
 use Rattle.reader.proofs.Judging.{fit_few}
 use Rattle.reader.proofs.Turns.{with_lf}

@@ -14,10 +14,7 @@ use Rattle.trace.specs.Trace.{Trace, sends_in, recvs_in, saves_in, dones_in}
 use Rattle.trace.specs.Fit.{event_fault}
 use Rattle.words.proofs.Cases.{by_eq}
 use Rattle.lines.specs.declared.Line.{Line}
-use Rattle.reader.specs.declared.Judged.{Judged}
-use Rattle.reader.specs.declared.Judged.TheVariants.{Fit, Unfit}
-use Rattle.reader.specs.Inner.Reading.{judged_number}
-use Rattle.reader.specs.Verdict.{fault_here, judge_event, judge}
+use Rattle.reader.specs.Verdict.{Judged, Fit, Fails, Unfit, fault_here, judge_event, judge}
 use Rattle.reader.specs.Meaning.{TextNumber}
 use Rattle.trace.proofs.Faults.{or_zero}
 use Rattle.lines.specs.declared.Line as line
@@ -108,6 +105,13 @@ event_range n es (Done a) = or_range (leb n a) 3 _ (omega arith) (omega arith) (
 pub fault_range : (t : Trace) (e : Event) → Ranged (fault_here t e)
 unfolding fault_here
 fault_range t e = or_range (leb 2048 (length t.events)) 7 _ (omega arith) (omega arith) (event_range t.procs t.events e)
+
+-- the number of a judged line: 0 of a fit event; 1 of a failure line where none is due ("The library's reader takes the
+-- text without a failure line"); else what is wrong
+abbrev pub judged_number : Judged → ℕ
+judged_number (Fit e) = 0
+judged_number (Fails step set) = 1
+judged_number (Unfit n) = n
 
 -- the number of an event's line is what is wrong with the event
 pub event_number : (t : Trace) (e : Event) → judged_number (judge_event t e) ≡ fault_here t e

@@ -18,11 +18,10 @@ use Rattle.lines.specs.Line.{k_procs, line_said, most, most_set}
 use Rattle.lines.specs.Render.{render_event, render_failure, KeysHold}
 use Rattle.lines.proofs.OneLine.{Says, failure_text, failure_text_lem, line_says, procs_line, event_line, failure_line}
 use Rattle.reader.specs.Render.{render}
-use Rattle.reader.specs.Inner.Reading.{judged_number}
 use Rattle.reader.specs.Verdict.{pieces, fault_here, judge, Scan, after_line, lines_from, first_line, scan_pieces, scan, Verdict, verdict_of, verdict}
 use Rattle.reader.specs.Failure.{Failing, failing_of, last_failure}
 use Rattle.reader.specs.Meaning.{CountFault, EventFault, AtFault, FirstFault, LaterFault, PastFailure}
-use Rattle.reader.proofs.Judging.{text_number, fault_range, event_number, unfit_number}
+use Rattle.reader.proofs.Judging.{judged_number, text_number, fault_range, event_number, unfit_number}
 use Rattle.reader.proofs.Turns.{with_lf, first_lf}
 use Rattle.lines.proofs.Plain.{plain, plain_failure}
 use Rattle.reader.proofs.Pieces.{joined, line_piece, plain_piece, plains}

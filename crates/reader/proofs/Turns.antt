@@ -5,27 +5,22 @@ use mathlib.Core.List.{List, [], ◌∷◌}
 use native.Mathlib.Omega.{arith}
 use lib.ListN.{length, take, drop, drop_of_length-le, length-drop}
 use borrow.Author.Tests.{lt-ltb, le-ltb}
-use types.Run.{OneOf, miss}
-use denote.Enum.Declared.{tag_of}
 use Rattle.text.specs.declared.LineEnd.TheVariants.{At, Missing}
 use Rattle.text.specs.Inner.Line.{line_end}
 use Rattle.trace.specs.declared.Event.{Event}
 use Rattle.trace.specs.Trace.{Trace, started, extended}
 use Rattle.lines.specs.declared.Line.{Line}
-use Rattle.reader.specs.declared.Judged.{Judged}
-use Rattle.reader.specs.declared.Judged.TheVariants.{Fit, Fails, Unfit}
-use Rattle.reader.specs.declared.Scanned.{Scanned}
-use Rattle.reader.specs.declared.Scanned.TheVariants.{Refused, Ended, Stopped}
 use Rattle.lines.specs.Line.{line_said}
-use Rattle.reader.specs.Verdict.{Scan, refused, ended, pieces, judge, after_line, at_end, lines_from, first_line, scan_pieces, scan}
-use Rattle.reader.specs.Inner.Reading.{judged_number, count_only, Holds, ScanOutcome}
+use Rattle.refusal.specs.declared.Refusal.{Refusal}
+use Rattle.refusal.specs.declared.Refused.{Refused}
+use Rattle.refusal.specs.Refusals.{number_of}
+use Rattle.reader.specs.Verdict.{Judged, Fit, Fails, Unfit, Scan, refused, ended, pieces, judge, after_line, at_end, lines_from, first_line, scan_pieces, scan}
+use Rattle.reader.specs.Inner.Reading.{count_only, Holds, Scanned, Unread, Ended, Stopped, ScanOutcome}
 use Rattle.reader.proofs.Pieces.{first_piece}
 use Rattle.reader.proofs.Cutting.{cut_none, line_cut, line_none, first_cut}
 use Rattle.lines.specs.Inner.Placing.{next_line}
 use Rattle.lines.specs.declared.Placed as placed
 use Rattle.lines.specs.declared.Line as line
-use Rattle.reader.specs.contracts.Judged as judged
-use Rattle.lines.specs.contracts.Line as line_type
 
 -- a last piece that is something lacks its LF
 lacks : (l : List ℕ) (t : Trace) (k : ℕ) → 0 < length l → at_end l t k ≡ refused 1 k
@@ -62,19 +57,17 @@ module _ (text : List ℕ) (t : Trace) (k at : ℕ) where
     turn_fails step set q table b w = rw (turn_line, q) (record { next = next; outcome = refl; follows = refl; holds = w; few = b })
 
     -- a line that is neither a fit event nor a failure line
-    pub turn_unfit : OneOf (1 ∷ 2 ∷ []) (tag_of judged.the_type j) → OneOf (0 ∷ 2 ∷ []) (tag_of judged.the_type j)
-        → lines_from t k (pieces (drop at text)) ≡ refused (judged_number j) k
-    turn_unfit o p = turn_line ∙ by_case j o p
-      where
-        by_case : (x : Judged) → OneOf (1 ∷ 2 ∷ []) (tag_of judged.the_type x) → OneOf (0 ∷ 2 ∷ []) (tag_of judged.the_type x)
-            → after_line x t k (pieces (drop next text)) (λ d. lines_from (extended t d) (k + 1) (pieces (drop next text))) ≡ refused (judged_number x) k
-        by_case (Fit d) o' p' = absurd (miss (1 ∷ 2 ∷ []) 0 tt o')
-        by_case (Fails step set) o' p' = absurd (miss (0 ∷ 2 ∷ []) 1 tt p')
-        by_case (Unfit n) o' p' = refl
+    pub turn_unfit : (n : ℕ) → j ≡ Unfit n → lines_from t k (pieces (drop at text)) ≡ refused n k
+    turn_unfit n q = turn_line ∙ rw q
+
+-- a refusal that is at a line
+pub at_line : (x : Scan) (why : Refusal) (k : ℕ) (r : Refused) → r ≡ record { refusal = why; place = k } → x ≡ refused (number_of why) k
+    → x ≡ refused (number_of r.refusal) r.place
+at_line x why k r e h = rw e h
 
 -- an outcome that is known
 module _ (text : List ℕ) (s : Scan) (table : List ℕ) where
-  pub out_refused : (n k : ℕ) → s ≡ refused n k → length table ≡ 16384 → ScanOutcome text s (Refused n k) table
+  pub out_refused : (n k : ℕ) → s ≡ refused n k → length table ≡ 16384 → ScanOutcome text s (Unread n k) table
   unfolding ScanOutcome
   out_refused n k e l = rw e (refl, l)
 
@@ -119,17 +112,17 @@ module _ (text : List ℕ) where
         ∙ first_count (line_said (take i text)) rest
         ∙ ap (λ (x : Line). first_line x rest) (sym h)
 
-    pub scan_other : OneOf (1 ∷ 2 ∷ 3 ∷ 4 ∷ 5 ∷ 6 ∷ []) (tag_of line_type.the_type l) → scan text ≡ refused 1 1
-    scan_other o = scan_line ∙ by_case l o
+    pub scan_other : ((n : ℕ) → l ≡ line.TheVariants.Procs n → ⊥) → scan text ≡ refused 1 1
+    scan_other none = scan_line ∙ by_case l refl
       where
-        by_case : (x : Line) → OneOf (1 ∷ 2 ∷ 3 ∷ 4 ∷ 5 ∷ 6 ∷ []) (tag_of line_type.the_type x) → first_line x rest ≡ refused 1 1
-        by_case (line.TheVariants.Procs n) o' = absurd (miss (1 ∷ 2 ∷ 3 ∷ 4 ∷ 5 ∷ 6 ∷ []) 0 tt o')
-        by_case (line.TheVariants.Send a b v) o' = refl
-        by_case (line.TheVariants.Recv a b) o' = refl
-        by_case (line.TheVariants.Save a) o' = refl
-        by_case (line.TheVariants.Done a) o' = refl
-        by_case (line.TheVariants.Failure k m) o' = refl
-        by_case line.TheVariants.Malformed o' = refl
+        by_case : (x : Line) → l ≡ x → first_line x rest ≡ refused 1 1
+        by_case (line.TheVariants.Procs n) q = absurd (none n q)
+        by_case (line.TheVariants.Send a b v) q = refl
+        by_case (line.TheVariants.Recv a b) q = refl
+        by_case (line.TheVariants.Save a) q = refl
+        by_case (line.TheVariants.Done a) q = refl
+        by_case (line.TheVariants.Failure k m) q = refl
+        by_case line.TheVariants.Malformed q = refl
 
     module _ (n : ℕ) (q : l ≡ line.TheVariants.Procs n) where
       pub scan_low : n < 2 → scan text ≡ refused 2 1

@@ -6,23 +6,16 @@ use lib.Dec.{eqb}
 use native.Mathlib.Omega.{arith}
 use lib.ListN.{length, get_or, drop, replicate, length-replicate, get_or-replicate, length-drop, drop_of_length-le}
 use borrow.Author.Tests.{lt-ltb, le-ltb}
-use types.Run.{OneOf, miss}
-use denote.Enum.Declared.{tag_of}
 use Rattle.words.specs.Area.{area_words, words_from, ruled}
 use Rattle.words.proofs.Area.{words_ext}
 use Rattle.trace.specs.Trace.{Trace}
 use Rattle.trace.specs.Table.{table_word}
-use Rattle.reader.specs.declared.Answer.{Answer}
-use Rattle.reader.specs.declared.Scanned.{Scanned}
-use Rattle.reader.specs.declared.Scanned.TheVariants.{Refused, Ended, Stopped}
 use Rattle.words.proofs.Cases.{by_bool}
-use Rattle.reader.specs.declared.FailureAnswer.{FailureAnswer}
 use Rattle.reader.specs.Verdict.{Scan, scan, pieces, verdict, verdict_of, Verdict, accepted}
-use Rattle.reader.specs.Failure.{Failing, last_line, failing_of, last_failure, trace_of, failure_answer_of, failure_answer, failure_area}
+use Rattle.reader.specs.Failure.{FailureAnswer, Failing, last_line, failing_of, last_failure, trace_of, failure_answer_of, failure_answer, failure_area}
 use Rattle.reader.proofs.Pieces.{first_piece}
-use Rattle.reader.specs.Answer.{verdict_answer, verdict_word, read_answer, read_area}
-use Rattle.reader.specs.Inner.Reading.{Holds, ScanOutcome, refusal_of, failure_refusal}
-use Rattle.reader.specs.contracts.Scanned as scanned
+use Rattle.reader.specs.Answer.{Answer, verdict_answer, verdict_word, read_answer, read_area}
+use Rattle.reader.specs.Inner.Reading.{Holds, Scanned, Unread, Ended, Stopped, ScanOutcome}
 
 -- no outcome is two
 apart {ℓ} : {A : Type ℓ} (r x y : Scanned) → r ≡ x → r ≡ y → ((x ≡ y) → ◌≡◌ {A = ℕ} 0 1) → A
@@ -31,21 +24,21 @@ apart r x y p q f = absurd (let e : x ≡ y = cc in let z : ◌≡◌ {A = ℕ} 
 -- ---- What an outcome tells of the scan
 
 module _ (text : List ℕ) (r : Scanned) (table : List ℕ) (o : ScanOutcome text (scan text) r table) where
-  told_refused : (n k : ℕ) → r ≡ Refused n k → (scan text ≡ Scan.refused n k) × (length table ≡ area_words)
+  pub told_refused : (n k : ℕ) → r ≡ Unread n k → (scan text ≡ Scan.refused n k) × (length table ≡ area_words)
   unfolding ScanOutcome
   told_refused n k e = go (scan text) refl o
     where
       go : (s : Scan) → scan text ≡ s → ScanOutcome text s r table → (scan text ≡ Scan.refused n k) × (length table ≡ area_words)
       go (Scan.refused m j) q p = let a : m ≡ n = cc in let b : j ≡ k = cc in (q ∙ rw (a, b), p.1)
-      go (Scan.ended t j) q p = apart r (Refused n k) (Ended j) e p.0 (λ f. cc)
-      go (Scan.stopped t step set j rest) q p = apart r (Refused n k) (Stopped step set j p.next) e p.outcome (λ f. cc)
+      go (Scan.ended t j) q p = apart r (Unread n k) (Ended j) e p.0 (λ f. cc)
+      go (Scan.stopped t step set j rest) q p = apart r (Unread n k) (Stopped step set j p.next) e p.outcome (λ f. cc)
 
   told_ended : (k : ℕ) → r ≡ Ended k → (t : Trace) × (scan text ≡ Scan.ended t k) × Holds table t
   unfolding ScanOutcome
   told_ended k e = go (scan text) refl o
     where
       go : (s : Scan) → scan text ≡ s → ScanOutcome text s r table → (t : Trace) × (scan text ≡ Scan.ended t k) × Holds table t
-      go (Scan.refused m j) q p = apart r (Ended k) (Refused m j) e p.0 (λ f. cc)
+      go (Scan.refused m j) q p = apart r (Ended k) (Unread m j) e p.0 (λ f. cc)
       go (Scan.ended t j) q p = let a : j ≡ k = cc in (t, q ∙ rw a, p.1)
       go (Scan.stopped t step set j rest) q p = apart r (Ended k) (Stopped step set j p.next) e p.outcome (λ f. cc)
 
@@ -54,7 +47,7 @@ module _ (text : List ℕ) (r : Scanned) (table : List ℕ) (o : ScanOutcome tex
   told_stopped a b k at e = go (scan text) refl o
     where
       go : (s : Scan) → scan text ≡ s → ScanOutcome text s r table → (t : Trace) × (scan text ≡ Scan.stopped t a b k (pieces (drop at text))) × Holds table t × (k ≤ 2050)
-      go (Scan.refused m j) q p = apart r (Stopped a b k at) (Refused m j) e p.0 (λ f. cc)
+      go (Scan.refused m j) q p = apart r (Stopped a b k at) (Unread m j) e p.0 (λ f. cc)
       go (Scan.ended t j) q p = apart r (Stopped a b k at) (Ended j) e p.0 (λ f. cc)
       go (Scan.stopped t step set j rest) q p =
           let w : step ≡ a = cc p.outcome in
@@ -80,7 +73,7 @@ abbrev pub Left : List ℕ → Answer → List ℕ → Type 0
 Left text r table = (r ≡ verdict_answer (verdict text)) × (table ≡ words_from (verdict_word (verdict text)) 0 area_words)
 
 module _ (text : List ℕ) (r : Scanned) (table : List ℕ) (o : ScanOutcome text (scan text) r table) where
-  left_refused : (n k : ℕ) (a : Answer) (after : List ℕ) → r ≡ Refused n k → a ≡ (record { number = n; place = k })
+  pub left_refused : (n k : ℕ) (a : Answer) (after : List ℕ) → r ≡ Unread n k → a ≡ (record { number = n; place = k })
       → after ≡ replicate (length table) 0 → Left text a after
   unfolding verdict
   left_refused n k a after e h z =
@@ -88,7 +81,11 @@ module _ (text : List ℕ) (r : Scanned) (table : List ℕ) (o : ScanOutcome tex
       let v : verdict text ≡ Verdict.refused n k = ap verdict_of q.0 in
       (h ∙ sym (ap verdict_answer v), zeros (verdict text) n k table after v q.1 z)
 
-  left_stopped : (x y k at : ℕ) (a : Answer) (after : List ℕ) → r ≡ Stopped x y k at → a ≡ (record { number = 1; place = k })
+  -- the same where the table is zero already
+  pub left_unread : (n k : ℕ) → r ≡ Unread n k → table ≡ replicate area_words 0 → Left text (record { number = n; place = k }) table
+  left_unread n k e z = left_refused n k (record { number = n; place = k }) table e refl (z ∙ ap (λ (i : ℕ). replicate i 0) (sym (ap length z ∙ length-replicate {A = ℕ} area_words 0)))
+
+  pub left_stopped : (x y k at : ℕ) (a : Answer) (after : List ℕ) → r ≡ Stopped x y k at → a ≡ (record { number = 1; place = k })
       → after ≡ replicate (length table) 0 → Left text a after
   unfolding verdict
   left_stopped x y k at a after e h z =
@@ -102,16 +99,6 @@ module _ (text : List ℕ) (r : Scanned) (table : List ℕ) (o : ScanOutcome tex
       let q = told_ended text r table o k e in
       let v : verdict text ≡ accepted q.0 = ap verdict_of q.1 in
       (sym (ap verdict_answer v), held (verdict text) q.0 table v q.2)
-
-  -- another end than that of the trace
-  pub left_other : OneOf (0 ∷ 2 ∷ []) (tag_of scanned.the_type r) → (a : Answer) (after : List ℕ) → a ≡ refusal_of r
-      → after ≡ replicate (length table) 0 → Left text a after
-  left_other o' a after h z = go r refl o'
-    where
-      go : (x : Scanned) → r ≡ x → OneOf (0 ∷ 2 ∷ []) (tag_of scanned.the_type x) → Left text a after
-      go (Refused n k) e p = left_refused n k a after e (h ∙ ap refusal_of e) z
-      go (Ended k) e p = absurd (miss (0 ∷ 2 ∷ []) 1 tt p)
-      go (Stopped x y k at) e p = left_stopped x y k at a after e (h ∙ ap refusal_of e) z
 
 -- ---- `read_failure_in`: the same
 
@@ -134,25 +121,20 @@ module _ (text : List ℕ) (r : Scanned) (table : List ℕ) (o : ScanOutcome tex
       → a ≡ (record { number = n; place = k; step = 0; set = 0 }) → after ≡ replicate (length table) 0 → LeftFailing text a after
   no_failure n k a after v l h z = (h ∙ sym (ap failure_answer_of v), zeros (trace_of (last_failure text)) n k table after (ap trace_of v) l z)
 
-  failing_refused : (n k : ℕ) (a : FailureAnswer) (after : List ℕ) → r ≡ Refused n k → a ≡ (record { number = n; place = k; step = 0; set = 0 })
+  pub failing_refused : (n k : ℕ) (a : FailureAnswer) (after : List ℕ) → r ≡ Unread n k → a ≡ (record { number = n; place = k; step = 0; set = 0 })
       → after ≡ replicate (length table) 0 → LeftFailing text a after
   unfolding last_failure
   failing_refused n k a after e h z = let q = told_refused text r table o n k e in no_failure n k a after (ap failing_of q.0) q.1 h z
 
-  failing_ended : (k : ℕ) (a : FailureAnswer) (after : List ℕ) → r ≡ Ended k → a ≡ (record { number = 1; place = k; step = 0; set = 0 })
+  -- the same where the table is zero already
+  pub failing_unread : (n k : ℕ) → r ≡ Unread n k → table ≡ replicate area_words 0 → LeftFailing text (record { number = n; place = k; step = 0; set = 0 }) table
+  failing_unread n k e z =
+      failing_refused n k (record { number = n; place = k; step = 0; set = 0 }) table e refl (z ∙ ap (λ (i : ℕ). replicate i 0) (sym (ap length z ∙ length-replicate {A = ℕ} area_words 0)))
+
+  pub failing_ended : (k : ℕ) (a : FailureAnswer) (after : List ℕ) → r ≡ Ended k → a ≡ (record { number = 1; place = k; step = 0; set = 0 })
       → after ≡ replicate (length table) 0 → LeftFailing text a after
   unfolding last_failure
   failing_ended k a after e h z = let q = told_ended text r table o k e in no_failure 1 k a after (ap failing_of q.1) q.2.size h z
-
-  -- another end than at a failure line
-  pub failing_other : OneOf (0 ∷ 1 ∷ []) (tag_of scanned.the_type r) → (b : Answer) (a : FailureAnswer) (after : List ℕ) → b ≡ refusal_of r
-      → a ≡ failure_refusal b → after ≡ replicate (length table) 0 → LeftFailing text a after
-  failing_other o' b a after q h z = go r refl o'
-    where
-      go : (x : Scanned) → r ≡ x → OneOf (0 ∷ 1 ∷ []) (tag_of scanned.the_type x) → LeftFailing text a after
-      go (Refused n k) e p = failing_refused n k a after e (h ∙ ap failure_refusal (q ∙ ap refusal_of e)) z
-      go (Ended k) e p = failing_ended k a after e (h ∙ ap failure_refusal (q ∙ ap refusal_of e)) z
-      go (Stopped x y k at) e p = absurd (miss (0 ∷ 1 ∷ []) 2 tt p)
 
   module _ (x y k at : ℕ) (e : r ≡ Stopped x y k at) where
     pub failing_follows : (a : FailureAnswer) (after : List ℕ) → at < length text → a ≡ (record { number = 1; place = k + 1; step = 0; set = 0 })

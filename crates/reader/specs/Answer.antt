@@ -1,10 +1,21 @@
 -- What reading a text answers, and what it leaves in the table area. Quotations are from the requirements (MANUAL 6.2
 -- to 6.4).
-use Rattle.std.specs.Prelude.{ℕ, List, cond, length, ltb}
+use Rattle.std.specs.Prelude.{ℕ, List, cond, length, ltb, Result, Ok, Err}
 use Rattle.words.specs.Area.{area_words, ruled}
 use Rattle.trace.specs.Table.{table_word}
-use Rattle.reader.specs.declared.Answer.{Answer}
+use Rattle.refusal.specs.declared.Refused.{Refused}
+use Rattle.refusal.specs.Refusals.{number_of}
 use Rattle.reader.specs.Verdict.{Verdict, refused, accepted, verdict}
+
+-- the answer of a reading: the number of the refusal, 0 if accepted, and the line that it is for, from 1
+pub record Answer : Type 0 where
+  pub number : ℕ
+  pub place : ℕ
+
+-- the same of what `read` gives
+abbrev pub read_answered : Result Unit Refused → Answer
+read_answered (Ok u) = record { number = 0; place = 0 }
+read_answered (Err r) = record { number = number_of r.refusal; place = r.place }
 
 abbrev pub verdict_answer : Verdict → Answer
 verdict_answer (refused n k) = record { number = n; place = k }

@@ -1,10 +1,24 @@
 -- The program's text has one more line, the last: `fail=K set=M`. Quotations are from the requirements (MANUAL 2.5).
-use Rattle.std.specs.Prelude.{ℕ, ◌+◌, List, [], ◌∷◌, length, ltb, cond}
+use Rattle.std.specs.Prelude.{ℕ, ◌+◌, List, [], ◌∷◌, length, ltb, cond, Result, Ok, Err}
 use Rattle.words.specs.Area.{area_words, ruled}
 use Rattle.trace.specs.Trace.{Trace}
-use Rattle.reader.specs.declared.FailureAnswer.{FailureAnswer}
+use Rattle.refusal.specs.declared.Refused.{Refused}
+use Rattle.refusal.specs.Refusals.{number_of}
+use Rattle.reader.specs.declared.Failure.{Failure}
 use Rattle.reader.specs.Verdict.{Scan, scan, Verdict, accepted}
 use Rattle.reader.specs.Answer.{verdict_word}
+
+-- the answer of reading a text that ends with a failure line: also that line's step and set
+pub record FailureAnswer : Type 0 where
+  pub number : ℕ
+  pub place : ℕ
+  pub step : ℕ
+  pub set : ℕ
+
+-- the same of what `read_failure` gives; "In a refused answer every other number is 0."
+abbrev pub failure_answered : Result Failure Refused → FailureAnswer
+failure_answered (Ok f) = record { number = 0; place = 0; step = f.step; set = f.set }
+failure_answered (Err r) = record { number = number_of r.refusal; place = r.place; step = 0; set = 0 }
 
 -- a refusal's number and place, or the trace and the failure line's numbers
 pub data Failing : Type 0 where

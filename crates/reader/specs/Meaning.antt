@@ -9,12 +9,10 @@ use Rattle.trace.specs.Trace.{Trace}
 use Rattle.trace.specs.Fit.{well_formed}
 use Rattle.lines.specs.Line.{k_procs, most, most_set}
 use Rattle.lines.specs.Render.{render_event, render_failure, KeysHold}
-use Rattle.reader.specs.declared.Answer.{Answer}
-use Rattle.reader.specs.declared.FailureAnswer.{FailureAnswer}
 use Rattle.reader.specs.Render.{render}
 use Rattle.reader.specs.Verdict.{pieces, fault_here}
-use Rattle.reader.specs.Answer.{read_answer}
-use Rattle.reader.specs.Failure.{failure_answer}
+use Rattle.reader.specs.Answer.{Answer, read_answer}
+use Rattle.reader.specs.Failure.{FailureAnswer, failure_answer}
 
 -- ---- What is accepted
 

@@ -7,8 +7,6 @@ use Rattle.trace.specs.declared.Event.TheVariants.{Send, Recv, Save, Done}
 use Rattle.trace.specs.Trace.{Trace, started, extended}
 use Rattle.trace.specs.Fit.{event_fault}
 use Rattle.lines.specs.declared.Line.{Line}
-use Rattle.reader.specs.declared.Judged.{Judged}
-use Rattle.reader.specs.declared.Judged.TheVariants.{Fit, Fails, Unfit}
 use Rattle.lines.specs.Line.{line_said}
 use Rattle.lines.specs.declared.Line as line
 
@@ -27,6 +25,12 @@ pieces (b ∷ bs) = cond (eqb b 10) ([] ∷ pieces bs) (grow b (pieces bs))
 -- 4, 5, 6, 15
 unfoldable pub fault_here : Trace → Event → ℕ
 fault_here t e = cond (leb 2048 (length t.events)) 7 (event_fault t.procs t.events e)
+
+-- a line where an event or a failure is due: a fit event, a failure line's numbers, or the number of what is wrong
+pub data Judged : Type 0 where
+  Fit : Event → Judged
+  Fails : ℕ → ℕ → Judged
+  Unfit : ℕ → Judged
 
 unfoldable pub judge_event : Trace → Event → Judged
 judge_event t e = cond (eqb (fault_here t e) 0) (Fit e) (Unfit (fault_here t e))

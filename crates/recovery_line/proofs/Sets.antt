@@ -3,6 +3,7 @@ use Prim.Native.Nat.{ℕ, suc, zero, ◌+◌, ◌-◌, ◌*◌, ◌/◌, ◌%◌
 use mathlib.Core.Path.{◌≡◌, refl, sym, ap, ap₂, ◌∙◌}
 use mathlib.Core.List.{List, [], ◌∷◌}
 use mathlib.Core.Bool.{Bool, true, false, ◌&&◌, not, cond}
+use mir.Val.{bool_byte}
 use native.Mathlib.Omega.{arith}
 use native.Mathlib.Nat.{pow-suc, lt_of_lt_of_le, zero-div}
 use native.Mathlib.Numerals.{one-add}
@@ -21,6 +22,10 @@ use Rattle.recovery_line.specs.Given.{line_in, numbers_of, back_bit, back_of, ba
 bit_lt : (b : Bool) → cond b 0 1 < 2
 bit_lt true = omega arith
 bit_lt false = omega arith
+
+said : (b : Bool) → bool_byte (not b) ≡ cond b 0 1
+said true = refl
+said false = refl
 
 odd : (f m : ℕ) → f < 2 → (f + 2 * m) % 2 ≡ f
 odd f m h = omega arith
@@ -60,11 +65,16 @@ module _ (all : List ℕ) (count i set : ℕ) (p : 0 < i) (h : i ≤ count) (few
       ap₂ (λ (x m : ℕ). back_bit x + 2 * m) (sym (get_or-take count all (i - 1) 0 (omega arith))) (e ∙ ap (λ (k : ℕ). back_of (drop k line)) (let s : i ≡ suc (i - 1) = omega arith in s))
       ∙ sym (ap back_of (drop-cons line (i - 1) 0 (omega (arith, long))))
 
-  pub back_in : (get_or all (i - 1) 0 ≡ 32 → ⊥) → set * 2 + 1 ≡ back_of (drop (i - 1) line)
-  back_in n = omega (arith, rw (ne_eqb (get_or all (i - 1) 0) 32 n) at turn)
+  -- what is added is 1 for a process that goes back
+  module _ (r : ℕ) (er : r ≡ bool_byte (not (eqb (get_or all (i - 1) 0) 32))) where
+    bit : r ≡ back_bit (get_or all (i - 1) 0)
+    bit = er ∙ said (eqb (get_or all (i - 1) 0) 32)
 
-  pub back_out : get_or all (i - 1) 0 ≡ 32 → set * 2 ≡ back_of (drop (i - 1) line)
-  back_out n = omega (arith, rw (eq-eqb (get_or all (i - 1) 0) 32 n) at turn)
+    pub bit_few : r ≤ 1
+    bit_few = omega (arith, bit, bit_lt (eqb (get_or all (i - 1) 0) 32))
+
+    pub back_next : 2 * set + r ≡ back_of (drop (i - 1) line)
+    back_next = omega (arith, bit, turn)
 
 -- bit z says of process z that it goes back
 back_bit_lem : (l : List ℕ) (z : ℕ) → back_of l / 2 ^ z % 2 ≡ back_bit (get_or l z 32)

@@ -9,7 +9,7 @@ ghost use Rattle.theory.specs.Line.{in_set, stays_in};
 ghost use Rattle.recovery_line.specs.Given.{line_in, numbers_of, back_of, back_ones};
 
 // A recovery line: for each process the epoch that it restarts in, or STAYS, and how many processes there are.
-#[derive(Clone, Copy)]
+#[derive(Clone, Copy, Debug, PartialEq, Eq)]
 pub struct Line {
     pub epochs: [u32; 64],
     pub count: usize,
@@ -23,31 +23,19 @@ fn set_of(numbers: &[u32], count: usize) -> u64
     requires { (count ≤ length numbers.now) × (count ≤ 64) }
     ensures { result ≡ back_of (take count numbers.now) }
 {
-    let mut set: u64 = 0;
-    let mut i = count;
-    while i > 0 {
-        i -= 1;
-        set = set * 2;
-        if numbers[i] != STAYS {
-            set += 1;
-        }
+    let mut set = 0;
+    for i in (0..count).rev() {
+        set = 2 * set + u64::from(numbers[i] != STAYS);
     }
     set
 }
 
-// How many numbers a count stands for: a line has 64 places.
-fn places(count: usize) -> usize
-    ensures { result ≡ min count 64 }
-{
-    if count < 64 { count } else { 64 }
-}
-
-// The set of the processes that go back.
+// The set of the processes that go back: a line has 64 places, whatever its count.
 pub fn back_set(line: Line) -> u64
     ensures set { result ≡ back_of (numbers_of line) }
     ensures bits { (z : ℕ) → in_set result z ≡ (ltb z (min line.count 64) && not (stays_in (line_in line) z)) }
 {
-    set_of(&line.epochs, places(line.count))
+    set_of(&line.epochs, line.count.min(64))
 }
 
 // How many go back: the ones of the set.
@@ -55,5 +43,5 @@ pub fn back(line: Line) -> u32
     ensures size { result ≡ ones (back_of (numbers_of line)) }
     ensures number { result ≡ length (back_ones (numbers_of line)) }
 {
-    u64::count_ones(back_set(line))
+    back_set(line).count_ones()
 }

@@ -17,8 +17,7 @@ use Rattle.theory.proofs.Orders.{order_bound}
 use Rattle.columns.specs.Inner.Given.{Marked, Given}
 use Rattle.columns.proofs.Full.{procs_is, procs_most}
 use Rattle.recovery_line.specs.Given.{line_in}
-use Rattle.restart.specs.declared.Restarted.{Restarted}
-use Rattle.restart.specs.Restart.{restart_of, Restarts}
+use Rattle.restart.specs.Restart.{RestartAnswer, restart_of, Restarts}
 use Rattle.restart.proofs.Restarting.{count_in}
 use Rattle.listing.specs.Inner.Words.{EntriesOf}
 use Rattle.steps.specs.Inner.Steps.{listed_events}
@@ -45,12 +44,12 @@ ends_with r =
     (front ++ A ++ B ++ C, sym (append_assoc (front ++ A ++ B) C D ∙ append_assoc (front ++ A) B (C ++ D) ∙ append_assoc front A (B ++ (C ++ D))))
 
 -- the run from the line that was answered
-pub run_is : (t : Trace) (cut set : ℕ) (r : Restarted) → r ≡ restart_of t cut set → run_at t cut (line_in r.line) ≡ engine_run (record { trace = t; step = cut; failed = set })
+pub run_is : (t : Trace) (cut set : ℕ) (r : RestartAnswer) → r ≡ restart_of t cut set → run_at t cut (line_in r.line) ≡ engine_run (record { trace = t; step = cut; failed = set })
 unfolding restart_of
-run_is t cut set r e = ap (λ (x : Restarted). run_at t cut (line_in x.line)) e
+run_is t cut set r e = ap (λ (x : RestartAnswer). run_at t cut (line_in x.line)) e
 
 module _ (t : Trace) (full : List ℕ) (M : Marked t (rule_of t) full) (cut set : ℕ)
-    (r : Restarted) (e : r ≡ restart_of t cut set) (m : Restarts t cut set r) where
+    (r : RestartAnswer) (e : r ≡ restart_of t cut set) (m : Restarts t cut set r) where
   abbrev f : Failure
   f = record { trace = t; step = cut; failed = set }
 
@@ -65,12 +64,12 @@ module _ (t : Trace) (full : List ℕ) (M : Marked t (rule_of t) full) (cut set 
     steps_are : listed + b ≡ steps (lowest_order Q)
     steps_are = lowest_steps Q G.tells.laws m.greatest.loss_free listed b l E.kept_count
 
-    abbrev found : Restarted → Run → Recovery
+    abbrev found : RestartAnswer → Run → Recovery
     found x R = record { restarted = x; orphans = orphans R; kept = kept_ones R; steps = steps (lowest_order R) }
 
     found_is : found r Q ≡ recovery_of f
     unfolding recovery_of
-    found_is = ap (λ (x : Restarted). found x Q) e ∙ ap (found (restart_of t cut set)) (run_is t cut set r e)
+    found_is = ap (λ (x : RestartAnswer). found x Q) e ∙ ap (found (restart_of t cut set)) (run_is t cut set r e)
 
     rows_found : recovery_rows r full events a b (listed + b) ≡ printed_of (given (found r Q))
     unfolding recovery_rows printed_of

@@ -7,7 +7,7 @@ use native.Mathlib.Numerals.{add-one}
 use lib.ListN.{length, get_or, take, drop, length-drop}
 use lib.Seq.{slice, take-nil, length-take-le, get_or-take, get_or-drop}
 use Rattle.theory.specs.Answers.{gather}
-use Rattle.restart.specs.declared.Restarted.{Restarted}
+use Rattle.restart.specs.Restart.{RestartAnswer}
 use Rattle.writer.specs.Inner.Puts.{Puts}
 use Rattle.writer.proofs.Buffers.{none, then}
 use Rattle.text.specs.Bytes.{bytes_of}
@@ -55,7 +55,7 @@ middle_sends events a n s = (
 
 -- ---- The whole report of a recovery
 
-pub recovery_put : (r : Restarted) (full events : List ℕ) (orphans kept steps : ℕ) (out o₁ o₂ o₃ o₄ : List ℕ) (p₁ p₂ p₃ p₄ : ℕ)
+pub recovery_put : (r : RestartAnswer) (full events : List ℕ) (orphans kept steps : ℕ) (out o₁ o₂ o₃ o₄ : List ℕ) (p₁ p₂ p₃ p₄ : ℕ)
     → Puts (gather (process_line_of r) r.line.count) out 0 o₁ p₁
     → Puts (event_rows (bytes_of key_orphan) full (take orphans events)) o₁ p₁ o₂ p₂
     → Puts (event_rows (bytes_of key_kept) full (take (orphans + kept - orphans) (drop orphans events))) o₂ p₂ o₃ p₃

@@ -9,8 +9,7 @@ use Rattle.theory.specs.Order.{steps, most_steps, lowest_order}
 use Rattle.theory.specs.Answers.{Listed, gather, orphans, kept_ones, exact_steps}
 use Rattle.theory.specs.Refusals.{failure_fault}
 use Rattle.recovery_line.specs.Given.{line_in}
-use Rattle.restart.specs.declared.Restarted.{Restarted}
-use Rattle.restart.specs.Restart.{engine_line_of, restart_of}
+use Rattle.restart.specs.Restart.{RestartAnswer, engine_line_of, restart_of}
 use Rattle.text.specs.Number.{decimal}
 use Rattle.text.specs.Bytes.{bytes_of}
 use Rattle.printing.specs.Lines.{process_line, message_line, total_line, refusal_line, key_orphan, key_kept}
@@ -62,7 +61,7 @@ engine_run f = run_at f.trace f.step (line_in (engine_line_of f.trace f.step f.f
 -- the restart: the line, of each process its epoch at the cut and its phase at the restart, "or at the cut for 32", the
 -- set of processes that go back, "and back is its size"; and of the run from it the messages and the steps
 pub record Recovery : Type 0 where
-  pub restarted : Restarted
+  pub restarted : RestartAnswer
   pub orphans : List Listed
   pub kept : List Listed
   pub steps : ℕ
@@ -84,7 +83,7 @@ recovery text = then (failure_of text) (λ f. given (recovery_of f))
 -- ---- What is printed
 
 -- the line of a process
-abbrev pub process_line_of : Restarted → ℕ → List ℕ
+abbrev pub process_line_of : RestartAnswer → ℕ → List ℕ
 process_line_of r z = process_line z (get_or r.epochs z 0) (get_or r.line.epochs z 0) (get_or r.phases z 0)
 
 unfoldable pub message_lines : String → List Listed → List ℕ

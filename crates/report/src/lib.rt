@@ -14,6 +14,7 @@ ghost use Rattle.protocol.specs.Inner.Fillable.{Fillable};
 ghost use Rattle.writer.specs.Inner.Puts.{Puts};
 ghost use Rattle.writer.specs.Buffer.{room, written};
 ghost use Rattle.printing.specs.Inner.Rows.{message_key};
+ghost use Rattle.restart.specs.Restart.{restart_found};
 ghost use Rattle.report.specs.Report.{process_line_of, is_refusal, recovery, reported, StepsPrinted, report_bytes};
 ghost use Rattle.report.specs.Inner.Rows.{Sends, event_row, event_rows, recovery_rows, Recounts, ReportOf};
 ghost use Rattle.reader.specs.Failure.{Failing, last_failure};
@@ -34,7 +35,7 @@ pub struct Reported {
 // A line for each process of the recovery line.
 fn put_processes(out: &mut [u8], r: Restarted) -> usize
     requires { r.line.count ≤ 64 }
-    ensures { Puts (gather (process_line_of r) r.line.count) out.old 0 out.new result }
+    ensures { Puts (gather (process_line_of (restart_found r)) r.line.count) out.old 0 out.new result }
 {
     let epochs = r.epochs;
     let numbers = r.line.epochs;
@@ -91,7 +92,7 @@ fn put_recovery(
     steps: usize,
 ) -> usize
     requires { (length full.now ≡ full_words) × (r.line.count ≤ 64) × Sends events.now (orphans + kept) }
-    ensures { Puts (recovery_rows r full.now events.now orphans kept steps) out.old 0 out.new result }
+    ensures { Puts (recovery_rows (restart_found r) full.now events.now orphans kept steps) out.old 0 out.new result }
 {
     let to_orphans = put_processes(out, r);
     let to_kept = put_messages(out, to_orphans, false, full, &events[..orphans]);
@@ -131,18 +132,15 @@ fn report_in(full: &mut [u32], step: u64, set: u64, out: &mut [u8]) -> Reported
         → ReportOf text result.refused result.length out.old out.new }
 {
     protocol::fill_in_place(full);
-    let fault = faults::failure_fault(full, step, set);
-    if fault != 0 {
-        let length = printing::put_refusal(out, fault, 0);
-        return Reported {
-            length,
+    match faults::failure_fault(full, step, set) {
+        Ok(()) => Reported {
+            length: report_from(full, step as usize, set, out),
+            refused: false,
+        },
+        Err(refusal) => Reported {
+            length: printing::put_refusal(out, refusal.number(), 0),
             refused: true,
-        };
-    }
-    let length = report_from(full, step as usize, set, out);
-    Reported {
-        length,
-        refused: false,
+        },
     }
 }
 
@@ -157,9 +155,8 @@ pub fn report(text: &[u8], out: &mut [u8]) -> Reported
     let mut area = [0u32; AREA_WORDS];
     let read = reader::read_failure_clear(text, &mut area);
     if read.number != 0 {
-        let length = printing::put_refusal(out, read.number, read.place);
         return Reported {
-            length,
+            length: printing::put_refusal(out, read.number, read.place),
             refused: true,
         };
     }

@@ -20,10 +20,12 @@ use Rattle.columns.specs.Inner.Given.{Marked}
 use Rattle.columns.proofs.Full.{fit}
 use Rattle.recovery_line.proofs.Sets.{places_of}
 use Rattle.recovery_line.specs.Given.{line_in, line_to, restart_phase_in, numbers_of, back_of, back_ones}
-use Rattle.restart.specs.declared.Restarted.{Restarted}
+use Rattle.refusal.specs.declared.Refusal.{Refusal}
+use Rattle.refusal.specs.Refusals.{number_of}
+use Rattle.refusal.proofs.Refusals.{no_number_0}
 use Rattle.preparing.specs.Faults.{failure_fault_of}
 use Rattle.preparing.specs.Inner.Prepared.{Takeable}
-use Rattle.restart.specs.Restart.{engine_line_of, of_each, restart_by, restart_of, restart_refusal, restart_answer, Restarts}
+use Rattle.restart.specs.Restart.{engine_line_of, of_each, restart_by, restart_of, restart_refusal, restart_answer, RestartAnswer, Restarts}
 
 -- ---- From the full table
 
@@ -56,37 +58,33 @@ module _ (t : Trace) (full : List ℕ) (G : Marked t (rule_of t) full) (cut set 
       }
 
 module _ (a : List ℕ) (step set : ℕ) where
-  abbrev pub Answered : Restarted → Type 0
-  Answered r = (r ≡ restart_answer a step set) × (r.number ≡ 0 → Restarts (held a) step set r)
-
-  pub refuses_restart : (n : ℕ) (r : Restarted) → n ≡ failure_fault_of a step set → (n ≡ 0 → ⊥) → r ≡ restart_refusal n → Answered r
+  pub refuses_restart : (e : Refusal) → number_of e ≡ failure_fault_of a step set → restart_refusal (number_of e) ≡ restart_answer a step set
   unfolding restart_answer
-  refuses_restart n r f z e =
-      (e ∙ rw (← f, ne_eqb n 0 z), λ h. absurd (z (sym (ap (λ (x : Restarted). x.number) e) ∙ h)))
+  refuses_restart e f = rw (← f, ne_eqb (number_of e) 0 (no_number_0 e))
 
-  pub answers_restart : (n : ℕ) (r : Restarted) → n ≡ failure_fault_of a step set → n ≡ 0 → r ≡ restart_of (held a) step set → Restarts (held a) step set r → Answered r
+  pub answers_restart : (r : RestartAnswer) → 0 ≡ failure_fault_of a step set → r ≡ restart_of (held a) step set → r ≡ restart_answer a step set
   unfolding restart_answer
-  answers_restart n r f z e m = (e ∙ rw (← f, z), λ _. m)
+  answers_restart r f e = e ∙ rw (← f)
 
 -- ---- A failure that is not refused
 
 -- a table area that holds a trace, a failure that is fit, and the answer to it
-pub record Ready (a : List ℕ) (step set : ℕ) (r : Restarted) : Type 0 where
+pub record Ready (a : List ℕ) (step set : ℕ) (r : RestartAnswer) : Type 0 where
   pub holds : holds_trace a ≡ true
   pub fit : failure_fault (held a) step set ≡ 0
   pub answer : r ≡ restart_of (held a) step set
   pub means : Restarts (held a) step set r
 
-module _ (t : Trace) (step set : ℕ) (r : Restarted) (e : r ≡ restart_of t step set) where
+module _ (t : Trace) (step set : ℕ) (r : RestartAnswer) (e : r ≡ restart_of t step set) where
   pub line_is : r.line ≡ line_to t (engine_line t step set)
   unfolding restart_of engine_line_of
-  line_is = ap (λ (x : Restarted). x.line) e
+  line_is = ap (λ (x : RestartAnswer). x.line) e
 
   pub count_in : r.line.count ≡ t.procs
   count_in = ap (λ (l : Line). l.count) line_is
 
 -- the engine's line may be taken
-pub engine_takeable : (t : Trace) (full : List ℕ) → Marked t (rule_of t) full → (cut set : ℕ) → cut ≤ size t → (r : Restarted) → r ≡ restart_of t cut set → Restarts t cut set r
+pub engine_takeable : (t : Trace) (full : List ℕ) → Marked t (rule_of t) full → (cut set : ℕ) → cut ≤ size t → (r : RestartAnswer) → r ≡ restart_of t cut set → Restarts t cut set r
     → Takeable t full r.line cut
 engine_takeable t full M cut set h r e m =
     record { marked = M; within = h; count_is = count_in t cut set r e; failed = set; permitted = m.greatest.permitted }

@@ -16,24 +16,14 @@ pub const ROOM: usize = rendering::TEXT_BYTES;
 
 // How many of the first n bytes of a buffer are not those of a text.
 fn differing(out: &[u8], n: usize, text: &[u8]) -> u64 {
-    let mut count: u64 = 0;
-    let mut i: usize = 0;
-    while i < n {
-        count += checks::flag(text::byte(out, i) != text::byte(text, i));
-        i += 1;
-    }
-    count
+    (0..n)
+        .filter(|i| text::byte(out, *i) != text::byte(text, *i))
+        .count() as u64
 }
 
 // How many bytes of a buffer, from a place on, are not as they were.
 fn changed(out: &[u8], from: usize) -> u64 {
-    let mut count: u64 = 0;
-    let mut i = from;
-    while i < out.len() {
-        count += checks::flag(out[i] != BEFORE);
-        i += 1;
-    }
-    count
+    out.iter().skip(from).filter(|b| **b != BEFORE).count() as u64
 }
 
 // Writes into a buffer and prints how many bytes it has, the answer, how many of the bytes written are not the text's,
@@ -47,7 +37,7 @@ fn print_write(table: &[u32; AREA_WORDS], text: &[u8], out: &mut [u8]) -> usize
         b" room=# number=# place=# length=# differ=# changed=#",
         &[
             out.len() as u64,
-            w.number as u64,
+            u64::from(w.number),
             w.place as u64,
             w.length as u64,
             differing(out, w.length, text),
@@ -60,18 +50,15 @@ fn print_write(table: &[u32; AREA_WORDS], text: &[u8], out: &mut [u8]) -> usize
 // Writes into a buffer of so many bytes.
 fn print_room(table: &[u32; AREA_WORDS], text: &[u8], room: usize) {
     let mut out = [BEFORE; ROOM];
-    let n = checks::most(&out, room);
+    let n = room.min(out.len());
     print_write(table, text, &mut out[..n]);
 }
 
-// Reads the first n bytes of a buffer and tells whether they are accepted and leave the area given: 1 if so.
-fn again(table: &[u32; AREA_WORDS], out: &[u8], n: usize) -> u64 {
-    let mut area = [BEFORE as u32; AREA_WORDS];
-    let a = reader::read(&out[..checks::most(out, n)], &mut area);
-    if a.number != 0 {
-        return 0;
-    }
-    checks::flag(checks::same_words(table, &area))
+// Reads the first n bytes of a buffer and tells whether they are accepted and leave the area given.
+fn again(table: &[u32; AREA_WORDS], out: &[u8], n: usize) -> bool {
+    let mut area = [u32::from(BEFORE); AREA_WORDS];
+    let a = reader::read(&out[..n.min(out.len())], &mut area);
+    a.number == 0 && *table == area
 }
 
 // The trace of an area written back into a lent buffer, and read again; and written into buffers of just its length, of
@@ -82,7 +69,7 @@ pub fn print_trip(table: &[u32; AREA_WORDS], text: &[u8], out: &mut [u8]) -> usi
 {
     io::write_all(1, b"back");
     let n = print_write(table, text, out);
-    checks::print(b" again=#", &[again(table, out, n)]);
+    checks::print(b" again=#", &[u64::from(again(table, out, n))]);
     print_room(table, text, n);
     if n > 0 {
         print_room(table, text, n - 1);
@@ -100,8 +87,5 @@ pub fn comes_back(table: &[u32; AREA_WORDS], text: &[u8], out: &mut [u8]) -> boo
     ensures buffer { out.new ≡ write_buffer table.now out.old }
 {
     let w = rendering::write(table, out);
-    if w.length != text.len() {
-        return false;
-    }
-    text::key(out, 0, text)
+    w.length == text.len() && text::key(out, 0, text)
 }

@@ -5,23 +5,25 @@
 ghost use Rattle.std.specs.Prelude.{◌≤◌, ◌<◌, length};
 ghost use Rattle.io.specs.Counts.{IsPrefixLen};
 
-use bruteforce::{DONE, RECEIVE, SAVE, SEND, event, kind, peer, process};
+use bruteforce::Event;
 
 // What a process can do, by number from 0: a checkpoint, a done, a send to each other process, a receive from each
 // other.
-fn nth_event(count: u32, at: u32, which: u32) -> u32
+fn nth_event(count: u32, at: u32, which: u32) -> Event
     requires { (2 ≤ count) × (at < 4) × (which < 8) }
 {
-    if which == 0 {
-        return event(SAVE, at, 0);
+    match which {
+        0 => Event::Save { at },
+        1 => Event::Done { at },
+        _ if which <= count => Event::Send {
+            at,
+            to: (at + which - 1) % count,
+        },
+        _ => Event::Receive {
+            at,
+            from: (at + which) % count,
+        },
     }
-    if which == 1 {
-        return event(DONE, at, 0);
-    }
-    if which <= count {
-        return event(SEND, at, (at + which - 1) % count);
-    }
-    event(RECEIVE, at, (at + which) % count)
 }
 
 // The sequence of events with number x, and its length. Its events are the digits of x in a numeration without a digit
@@ -32,42 +34,40 @@ pub fn sequence(count: u32, x: u32, events: &mut [u32; 7]) -> u32
 {
     let all = 2 * count;
     let mut rest = x;
-    let mut i: u32 = 0;
-    while i < 7 {
+    for i in 0..7 {
         if rest == 0 {
             return i;
         }
         let at = (rest - 1) % count;
         let which = (rest - 1) / count % all;
-        events[i as usize] = nth_event(count, at, which);
+        events[i as usize] = nth_event(count, at, which).word();
         rest = (rest - 1) / count / all;
-        i += 1;
     }
-    i
+    7
 }
 
 // An event's line. The value of a send is the event's number: no two sends have the same.
-fn put_event(text: &mut [u8], at: usize, w: u32, number: u32) -> usize
-    requires { at ≤ length text.old }
+fn put_event(text: &mut [u8], place: usize, w: u32, number: u32) -> usize
+    requires { place ≤ length text.old }
     ensures { result ≤ length text.new }
 {
-    let z = process(w) as u64;
-    let q = peer(w) as u64;
-    if kind(w) == SAVE {
-        return checks::put(text, at, b"ev=save at=#\n", &[z]);
+    match Event::of(w) {
+        Some(Event::Save { at }) => checks::put(text, place, b"ev=save at=#\n", &[u64::from(at)]),
+        Some(Event::Done { at }) => checks::put(text, place, b"ev=done at=#\n", &[u64::from(at)]),
+        Some(Event::Receive { at, from }) => checks::put(
+            text,
+            place,
+            b"ev=recv at=# from=#\n",
+            &[u64::from(at), u64::from(from)],
+        ),
+        Some(Event::Send { at, to }) => checks::put(
+            text,
+            place,
+            b"ev=send at=# to=# val=#\n",
+            &[u64::from(at), u64::from(to), u64::from(number)],
+        ),
+        None => place,
     }
-    if kind(w) == DONE {
-        return checks::put(text, at, b"ev=done at=#\n", &[z]);
-    }
-    if kind(w) == RECEIVE {
-        return checks::put(text, at, b"ev=recv at=# from=#\n", &[z, q]);
-    }
-    checks::put(
-        text,
-        at,
-        b"ev=send at=# to=# val=#\n",
-        &[z, q, number as u64],
-    )
 }
 
 // The text of a sequence of events, and its length.
@@ -75,12 +75,9 @@ pub fn put_trace(text: &mut [u8], count: u32, events: &[u32; 7], size: u32) -> u
     requires { size ≤ 7 }
     ensures { IsPrefixLen result text.new }
 {
-    let mut to = checks::put(text, 0, b"procs=#\n", &[count as u64]);
-    let mut i: u32 = 0;
-    while i < size {
-        let w = events[i as usize];
-        i += 1;
-        to = put_event(text, to, w, i);
+    let mut to = checks::put(text, 0, b"procs=#\n", &[u64::from(count)]);
+    for i in 0..size {
+        to = put_event(text, to, events[i as usize], i + 1);
     }
     to
 }

@@ -1,5 +1,5 @@
 -- The events after the restart of their process, counted in one pass: as many as all processes have listed events.
-use Prim.Native.Nat.{ℕ, zero, suc, ◌+◌, ◌≤◌, ◌<◌}
+use Prim.Native.Nat.{ℕ, zero, suc, ◌+◌, ◌-◌, ◌≤◌, ◌<◌}
 use mathlib.Core.Path.{◌≡◌, refl, sym, ap, ◌∙◌}
 use mathlib.Core.Logic.{◌≢◌}
 use mathlib.Core.Bool.{Bool, false, ◌&&◌, and-true, and-false}
@@ -91,18 +91,28 @@ lowest_steps R L f events kept e k =
     let (s, c, d) = lowest_order_lem R L in
     rw (e, k) (sym (exact_steps_lem R L (lowest_order R) s c f d))
 
--- ---- A turn of the loop: event e + 1, of process z, which restarts after event r
+-- ---- A turn of the loop: event e, of process z, which restarts after event r
 
-module _ (full gates : List ℕ) (count e z r : ℕ) (so_far : count ≡ cnt (after_restart_w full gates) e) (own : z ≡ at_w full (e + 1)) (there : r ≡ get_or gates (64 + z) 0) where
-  restart_is : r ≡ get_or gates (64 + at_w full (suc e)) 0
-  restart_is = there ∙ ap (λ (y : ℕ). get_or gates (64 + y) 0) (rw (add-one e) at own)
+module _ (full gates : List ℕ) (count e z r : ℕ) (h : 0 < e) (so_far : count ≡ cnt (after_restart_w full gates) (e - 1)) (own : z ≡ at_w full e) (there : r ≡ get_or gates (64 + z) 0) where
+  this : e ≡ suc (e - 1)
+  this = omega (arith, h)
 
-  pub one_more : r < e + 1 → count + 1 ≡ cnt (after_restart_w full gates) (e + 1)
-  one_more h =
-      rw (add-one e, add-one count, so_far)
-      (sym (cnt_suc (after_restart_w full gates) e (lt-ltb _ (suc e) (omega (arith, restart_is)))))
+  next : e + 1 - 1 ≡ suc (e - 1)
+  next = omega (arith, h)
 
-  pub no_more : e + 1 ≤ r → count ≡ cnt (after_restart_w full gates) (e + 1)
-  no_more h =
-      rw (add-one e, so_far)
-      (sym (cnt_skip (after_restart_w full gates) e (le-ltb _ (suc e) (omega (arith, restart_is)))))
+  restart_is : r ≡ get_or gates (64 + at_w full (suc (e - 1))) 0
+  restart_is = there ∙ ap (λ (y : ℕ). get_or gates (64 + y) 0) (own ∙ ap (λ (y : ℕ). at_w full y) this)
+
+  pub turn_more : r < e → count + 1 ≡ cnt (after_restart_w full gates) (e + 1 - 1)
+  turn_more l =
+      rw (next, add-one count, so_far)
+      (sym (cnt_suc (after_restart_w full gates) (e - 1) (lt-ltb _ (suc (e - 1)) (omega (arith, restart_is, l)))))
+
+  pub turn_none : e ≤ r → count ≡ cnt (after_restart_w full gates) (e + 1 - 1)
+  turn_none l =
+      rw (next, so_far)
+      (sym (cnt_skip (after_restart_w full gates) (e - 1) (le-ltb _ (suc (e - 1)) (omega (arith, restart_is, l)))))
+
+-- what is counted at the end
+pub at_end : (R : Run) (full gates : List ℕ) (count n : ℕ) → Tells R full → Gated R gates → count ≡ cnt (after_restart_w full gates) n → n ≡ events_w full → count ≡ listed_events R
+at_end R full gates count n T G c e = c ∙ ap (λ (m : ℕ). cnt (after_restart_w full gates) m) e ∙ counted_listed R full gates T G

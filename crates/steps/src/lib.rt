@@ -17,13 +17,10 @@ pub fn listed_events(full: &[u32], gates: &[u32]) -> usize
     ensures count { (R : Run) → Tells R full.now → Gated R gates.now → result ≡ listed_events R }
     ensures few { result ≤ 2048 }
 {
-    let events = words::wide(full[1]);
-    let mut count: usize = 0;
-    let mut e: usize = 0;
-    while e < events {
-        e += 1;
+    let mut count = 0;
+    for e in 1..full[1] as usize + 1 {
         let z = trace::process(full[EVENT_BASE + e]);
-        if words::wide(gates[RESTART_BASE + z]) < e {
+        if (gates[RESTART_BASE + z] as usize) < e {
             count += 1;
         }
     }

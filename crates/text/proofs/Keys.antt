@@ -1,5 +1,4 @@
--- Laws of keys: one for each way a turn of the comparison goes; that a key which is found lies within the text; a key
--- with its number.
+-- Laws of keys: as the library compares them; that a key which is found lies within the text; a key with its number.
 use Prim.Native.Nat.{ℕ, suc, ◌+◌, ◌-◌, ◌<◌, ◌≤◌, zero-le, suc-le-suc}
 use mathlib.Core.Path.{◌≡◌, refl, sym, ap₂, ◌∙◌}
 use mathlib.Core.List.{List, [], ◌∷◌, ◌++◌}
@@ -8,34 +7,34 @@ use native.Mathlib.Omega.{arith}
 use native.Mathlib.Numerals.{add-one}
 use native.Mathlib.Nat.{add-suc}
 use lib.Dec.{eqb}
-use lib.ListN.{length, get_or, drop, drop_of_length-le, length-drop}
-use lib.Seq.{drop-cons}
+use lib.ListN.{length, get_or, take, drop, drop_of_length-le, length-drop}
+use lib.Seq.{drop-cons, take_all}
 use borrow.Author.Tests.{eqb-true, eq-eqb, ne_eqb}
-use Rattle.words.proofs.Cases.{by_bool, and_left, and_right, clash}
-use Rattle.text.specs.declared.Num.TheVariants.{Refused}
+use Rattle.words.proofs.Cases.{by_bool, by_eq, and_left, and_right, clash}
+use Rattle.std.specs.Prelude.{None, nat_eq}
+use Rattle.std.specs.List as list
 use Rattle.text.specs.Number.{number_at}
 use Rattle.text.specs.Key.{key_at, starts_with, field_at}
+
+-- as the library says it
+pub key_starts : (x key : List ℕ) → list.starts_with nat_eq x key ≡ starts_with x key
+unfolding starts_with
+key_starts x [] = refl
+key_starts [] (k ∷ key) = refl
+key_starts (b ∷ x) (k ∷ key) =
+    by_eq b k
+    (λ e. rw (eq-eqb b k e, eq-eqb k b (sym e)) (key_starts x key))
+    (λ n. rw (ne_eqb b k n, ne_eqb k b (λ e. n (sym e))))
+
+-- the same of what follows a place
+pub key_rest : (text : List ℕ) (at : ℕ) (key : List ℕ) → list.starts_with nat_eq (take (length text - at) (drop at text)) key ≡ key_at text at key
+key_rest text at key = rw (take_all (length text - at) (drop at text) (omega (arith, length-drop at text))) (key_starts (drop at text) key)
 
 -- past the end of the text only the empty key stands
 pub key_past : (text : List ℕ) (at : ℕ) (key : List ℕ) → length text < at → eqb (length key) 0 ≡ starts_with (drop at text) key
 unfolding starts_with
 key_past text at [] h = refl
 key_past text at (k ∷ key) h = rw (drop_of_length-le text {i = at} (omega arith), ne_eqb (suc (length key)) 0 (λ e. omega arith))
-
--- a turn of the key's loop, where the key has room in the text
-module _ (text : List ℕ) (at i : ℕ) (key : List ℕ) where
-  pub key_end : length key ≤ i → starts_with (drop (at + i) text) (drop i key) ≡ true
-  unfolding starts_with
-  key_end h = rw (drop_of_length-le key {i = i} h)
-
-  pub key_differs : i < length key → at + i < length text → (get_or text (at + i) 0 ≡ get_or key i 0 → ⊥) → starts_with (drop (at + i) text) (drop i key) ≡ false
-  unfolding starts_with
-  key_differs h l n = rw (drop-cons key i 0 h, drop-cons text (at + i) 0 l, ne_eqb (get_or text (at + i) 0) (get_or key i 0) n)
-
-  pub key_next : i < length key → at + i < length text → get_or text (at + i) 0 ≡ get_or key i 0
-      → starts_with (drop (at + i) text) (drop i key) ≡ starts_with (drop (at + (i + 1)) text) (drop (i + 1) key)
-  unfolding starts_with
-  key_next h l e = rw (drop-cons key i 0 h, drop-cons text (at + i) 0 l, eq-eqb (get_or text (at + i) 0) (get_or key i 0) e, add-one i, add-suc)
 
 pub starts_within : (text key : List ℕ) → starts_with text key ≡ true → length key ≤ length text
 unfolding starts_with
@@ -53,13 +52,6 @@ key_split (b ∷ x) (k ∷ key) e =
     let same : b ≡ k = eqb-true b k (and_left (eqb b k) (starts_with x key) e) in
     (more.0, ap₂ ◌∷◌ same more.1)
 
--- a key that is longer than the rest of the text does not stand there
-pub key_short : (text : List ℕ) (at : ℕ) (key : List ℕ) → length text - at < length key → false ≡ key_at text at key
-key_short text at key h =
-    by_bool (key_at text at key)
-    (λ e. absurd (let z : ⊥ = omega (arith, starts_within (drop at text) key e, length-drop at text) in z))
-    (λ e. sym e)
-
 -- over the test b that the code has: a key that was found lies within the text
 pub key_within : (text : List ℕ) (at : ℕ) (key : List ℕ) (b : Bool) → b ≡ key_at text at key → b ≡ true → 0 < length key → at + length key ≤ length text
 key_within text at key b e t h = omega (arith, starts_within (drop at text) key (sym e ∙ t), length-drop at text)
@@ -70,6 +62,6 @@ module _ (text : List ℕ) (at : ℕ) (key : List ℕ) (bound : ℕ) (b : Bool) 
   unfolding field_at
   field_1 t = rw (← e, t)
 
-  pub field_2 : b ≡ false → Refused ≡ field_at text at key bound
+  pub field_2 : b ≡ false → None ≡ field_at text at key bound
   unfolding field_at
   field_2 t = rw (← e, t)

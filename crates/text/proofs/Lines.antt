@@ -1,27 +1,52 @@
 -- Laws of `lf_from`: one for each way a turn of the search goes, and for several turns that find nothing.
-use Prim.Native.Nat.{ℕ, suc, zero, ◌+◌, ◌<◌, ◌≤◌}
+use Prim.Native.Nat.{ℕ, suc, zero, ◌+◌, ◌-◌, ◌<◌, ◌≤◌}
 use mathlib.Core.Path.{◌≡◌, refl, ◌∙◌, ap}
-use mathlib.Core.List.{List}
+use mathlib.Core.List.{List, [], ◌∷◌}
 use native.Mathlib.Omega.{arith}
 use native.Mathlib.Nat.{add-zero}
 use native.Mathlib.Numerals.{add-one}
-use lib.ListN.{length, get_or, drop, drop_of_length-le}
-use lib.Seq.{drop-cons}
-use borrow.Author.Tests.{ne_eqb}
+use lib.ListN.{length, get_or, take, drop, length-drop, drop_of_length-le}
+use lib.Seq.{drop-cons, take_all}
+use borrow.Author.Tests.{eq-eqb, ne_eqb, lt-ltb, le-ltb}
 use Rattle.words.proofs.Cases.{by_lt, by_eq}
-use Rattle.text.specs.declared.LineEnd.{LineEnd}
-use Rattle.text.specs.declared.LineEnd.TheVariants.{At, Missing}
+use Rattle.std.specs.Prelude.{Option, Some, None, option_map, position, ◌==◌}
+use Rattle.std.specs.List.{position_or_len}
 use Rattle.text.specs.Inner.Line.{lf_from, line_end, Ends}
 pub use Rattle.text.proofs.Here.{lf_here}
 
 module _ (text : List ℕ) (at : ℕ) where
-  pub lf_none : length text ≤ at → lf_from at (drop at text) ≡ Missing
+  pub lf_none : length text ≤ at → lf_from at (drop at text) ≡ None
   unfolding lf_from
   lf_none h = rw (drop_of_length-le text {i = at} h)
 
   pub lf_next : at < length text → (get_or text at 0 ≡ 10 → ⊥) → lf_from at (drop at text) ≡ lf_from (at + 1) (drop (at + 1) text)
   unfolding lf_from
   lf_next h n = rw (drop-cons text at 0 h, ne_eqb (get_or text at 0) 10 n, add-one at)
+
+-- what is found byte by byte, from the front of the bytes
+lf_position : (at : ℕ) (l : List ℕ) → lf_from at l ≡ option_map (λ (k : ℕ). at + k) (position (λ (b : ℕ). b == 10) l)
+unfolding lf_from
+lf_position at [] = refl
+lf_position at (b ∷ l) =
+    by_eq b 10
+    (λ e. rw (eq-eqb b 10 e, lt-ltb 0 (suc (length l)) (omega arith)) (ap Some (omega arith)))
+    (λ n.
+    let k = position_or_len (λ (c : ℕ). c == 10) l in
+    rw (ne_eqb b 10 n)
+    (lf_position (at + 1) l
+    ∙ by_lt k (length l)
+    (λ h. rw (lt-ltb k (length l) h, lt-ltb (1 + k) (suc (length l)) (omega arith)) (ap Some (omega arith)))
+    (λ g. rw (le-ltb k (length l) g, le-ltb (1 + k) (suc (length l)) (omega arith)))))
+
+module _ (text : List ℕ) (at : ℕ) where
+  rest : take (length text - at) (drop at text) ≡ drop at text
+  rest = take_all (length text - at) (drop at text) (omega (arith, length-drop at text))
+
+  pub lf_found : (r : Option ℕ) (k : ℕ) → r ≡ position (λ (b : ℕ). b == 10) (take (length text - at) (drop at text)) → r ≡ Some k → line_end text at ≡ Some (at + k)
+  lf_found r k e f = lf_position at (drop at text) ∙ rw (← rest, ← e, f)
+
+  pub lf_nowhere : (r : Option ℕ) → r ≡ position (λ (b : ℕ). b == 10) (take (length text - at) (drop at text)) → r ≡ None → line_end text at ≡ None
+  lf_nowhere r e f = lf_position at (drop at text) ∙ rw (← rest, ← e, f)
 
 -- the search comes past k bytes that are no LF
 pub lf_past : (text : List ℕ) (at k : ℕ) → at + k ≤ length text → ((i : ℕ) → i < k → get_or text (at + i) 0 ≡ 10 → ⊥)
@@ -36,15 +61,15 @@ lf_past text at (suc k) h n =
 -- ---- What `line_end` says, for every text and place
 
 module _ (text : List ℕ) where
-  ends_next : (from : ℕ) (e : LineEnd) → (get_or text from 0 ≡ 10 → ⊥) → Ends text (from + 1) e → Ends text from e
-  ends_next from (At k) n f =
+  ends_next : (from : ℕ) (e : Option ℕ) → (get_or text from 0 ≡ 10 → ⊥) → Ends text (from + 1) e → Ends text from e
+  ends_next from (Some k) n f =
       record {
         after = omega (arith, f.after);
         within = f.within;
         here = f.here;
         before = λ i g q. by_eq i from (λ e. rw e n) (λ d. f.before i (omega arith) q);
       }
-  ends_next from Missing n b = λ i g q. by_eq i from (λ e. rw e n) (λ d. b i (omega arith) q)
+  ends_next from None n b = λ i g q. by_eq i from (λ e. rw e n) (λ d. b i (omega arith) q)
 
   ends_none : (from : ℕ) → length text ≤ from → Ends text from (line_end text from)
   ends_none from h = rw (lf_none text from h) (λ i g q. absurd (let z : ⊥ = omega arith in z))
@@ -70,17 +95,17 @@ module _ (text : List ℕ) where
   line_ends from = ends (length text) from (omega arith)
 
   -- and nothing else can be said so
-  ends_one : (from : ℕ) (e g : LineEnd) → Ends text from e → Ends text from g → e ≡ g
-  ends_one from (At j) (At k) f h =
+  ends_one : (from : ℕ) (e g : Option ℕ) → Ends text from e → Ends text from g → e ≡ g
+  ends_one from (Some j) (Some k) f h =
       by_lt j k
       (λ l. absurd (h.before j f.after l f.here))
       (λ l.
       by_lt k j
       (λ m. absurd (f.before k h.after m h.here))
-      (λ m. ap (λ (i : ℕ). At i) (omega arith)))
-  ends_one from (At j) Missing f h = absurd (h j f.after f.within f.here)
-  ends_one from Missing (At k) f h = absurd (f k h.after h.within h.here)
-  ends_one from Missing Missing f h = refl
+      (λ m. ap (λ (i : ℕ). Some i) (omega arith)))
+  ends_one from (Some j) None f h = absurd (h j f.after f.within f.here)
+  ends_one from None (Some k) f h = absurd (f k h.after h.within h.here)
+  ends_one from None None f h = refl
 
-  pub ends_only : (from : ℕ) (e : LineEnd) → Ends text from e → e ≡ line_end text from
+  pub ends_only : (from : ℕ) (e : Option ℕ) → Ends text from e → e ≡ line_end text from
   ends_only from e h = ends_one from e (line_end text from) h (line_ends from)

@@ -16,7 +16,7 @@ use Rattle.words.specs.Area.{words_from}
 use Rattle.words.proofs.Area.{words_agree}
 use Rattle.words.proofs.Cases.{by_eq}
 use Rattle.words.proofs.Zeros.{even_zeros, odd_zeros}
-use Rattle.text.specs.declared.LineEnd.TheVariants.{At}
+use Rattle.std.specs.Prelude.{Some}
 use Rattle.text.specs.Inner.Line.{line_end}
 use Rattle.text.specs.Inner.Blocks.{packed, byte_of, AnyLf, FirstLf, marks}
 use Rattle.text.proofs.Lines.{lf_here, lf_past}
@@ -201,7 +201,7 @@ module _ (text : List ℕ) (at w : ℕ) (h : at + 8 ≤ length text) (p : Bytes 
   pub none_of_eight : (AnyLf 8 w → ⊥) → line_end text at ≡ line_end text (at + 8)
   none_of_eight n = lf_past text at 8 h (λ i l q. n (i, l, byte_there i l ∙ q))
 
-  pub first_of_eight : (i : ℕ) → FirstLf 8 w i → line_end text at ≡ At (at + i)
+  pub first_of_eight : (i : ℕ) → FirstLf 8 w i → line_end text at ≡ Some (at + i)
   first_of_eight i f =
       let l = f.within in
       lf_past text at i (omega arith) (λ j g q. f.before j g (byte_there j (omega arith) ∙ q))

@@ -11,10 +11,8 @@ use lib.ListN.{length, get_or, drop, drop_of_length-le, get_or-eq_default}
 use lib.Seq.{drop-cons}
 use borrow.Author.Tests.{not-true, not-false, leb-true, le-leb, lt-leb, lt-ltb, le-ltb, eq-eqb, ne_eqb}
 use Rattle.words.proofs.Cases.{by_lt, and_left, and_right}
-use Rattle.text.specs.declared.Num.TheVariants.{Value, Refused}
-use Rattle.text.specs.declared.Pushed.{Pushed}
-use Rattle.text.specs.declared.Pushed.TheVariants.{Fits, Over}
-use Rattle.text.specs.Number.{is_digit, pushed, digits_from, number_at, last_digits}
+use Rattle.std.specs.Prelude.{Option, Some, None}
+use Rattle.text.specs.Number.{read_to, is_digit, pushed, digits_from, number_at, last_digits}
 
 pub digit_low : (b : ℕ) → is_digit b ≡ true → 48 ≤ b
 unfolding is_digit
@@ -32,37 +30,37 @@ module _ (b : ℕ) (d : Bool) (e : d ≡ is_digit b) (n : not d ≡ false) where
   pub digit_bounds : (48 ≤ b) × (b ≤ 57)
   digit_bounds = (digit_low b digit_so, digit_high b digit_so)
 
-pub pushed_fits : (v b bound : ℕ) → v * 10 + (b - 48) ≤ bound → pushed v b bound ≡ Fits (v * 10 + (b - 48))
+pub pushed_fits : (v b bound : ℕ) → v * 10 + (b - 48) ≤ bound → pushed v b bound ≡ Some (v * 10 + (b - 48))
 unfolding pushed
 pushed_fits v b bound h = rw (le-leb (v * 10 + (b - 48)) bound h)
 
-pub pushed_over : (v b bound : ℕ) → bound < v * 10 + (b - 48) → pushed v b bound ≡ Over
+pub pushed_over : (v b bound : ℕ) → bound < v * 10 + (b - 48) → pushed v b bound ≡ None
 unfolding pushed
 pushed_over v b bound h = rw (lt-leb (v * 10 + (b - 48)) bound h)
 
 -- a turn of the digits' loop, over the values that the code has: the byte b, its test d
 module _ (bound v at : ℕ) (text : List ℕ) where
-  pub digits_end : length text ≤ at → digits_from bound v at (drop at text) ≡ Value v at
+  pub digits_end : length text ≤ at → digits_from bound v at (drop at text) ≡ read_to v at
   unfolding digits_from
   digits_end h = rw (drop_of_length-le text {i = at} h)
 
-  module _ (b : ℕ) (d : Bool) (h : at < length text) (eb : b ≡ get_or text at 256) (ed : d ≡ is_digit b) where
-    pub digits_stop : not d ≡ true → digits_from bound v at (drop at text) ≡ Value v at
+  module _ (z b : ℕ) (d : Bool) (h : at < length text) (eb : b ≡ get_or text at z) (ed : d ≡ is_digit b) where
+    pub digits_stop : not d ≡ true → digits_from bound v at (drop at text) ≡ read_to v at
     unfolding digits_from
-    digits_stop n = rw (drop-cons text at 256 h, ← eb, ← ed, not-true d n)
+    digits_stop n = rw (drop-cons text at z h, ← eb, ← ed, not-true d n)
 
-    pub digits_over : not d ≡ false → (p : Pushed) → p ≡ pushed v b bound → p ≡ Over → digits_from bound v at (drop at text) ≡ Refused
+    pub digits_over : not d ≡ false → (p : Option ℕ) → p ≡ pushed v b bound → p ≡ None → digits_from bound v at (drop at text) ≡ None
     unfolding digits_from
-    digits_over n p q e = rw (drop-cons text at 256 h, ← eb, ← ed, not-false d n, ← q, e)
+    digits_over n p q e = rw (drop-cons text at z h, ← eb, ← ed, not-false d n, ← q, e)
 
-    pub digits_next : not d ≡ false → (p : Pushed) → p ≡ pushed v b bound → (w : ℕ) → p ≡ Fits w
+    pub digits_next : not d ≡ false → (p : Option ℕ) → p ≡ pushed v b bound → (w : ℕ) → p ≡ Some w
         → digits_from bound v at (drop at text) ≡ digits_from bound w (at + 1) (drop (at + 1) text)
     unfolding digits_from
-    digits_next n p q w e = rw (drop-cons text at 256 h, ← eb, ← ed, not-false d n, ← q, e, add-one at)
+    digits_next n p q w e = rw (drop-cons text at z h, ← eb, ← ed, not-false d n, ← q, e, add-one at)
 
 -- each way out of `number`, over the values that the code has
 module _ (text : List ℕ) (at bound b : ℕ) (d : Bool) (eb : b ≡ get_or text at 256) (ed : d ≡ is_digit b) where
-  pub number_1 : not d ≡ true → Refused ≡ number_at text at bound
+  pub number_1 : not d ≡ true → None ≡ number_at text at bound
   unfolding number_at
   number_1 n = rw (← eb, ← ed, not-true d n)
 
@@ -71,21 +69,21 @@ module _ (text : List ℕ) (at bound b : ℕ) (d : Bool) (eb : b ≡ get_or text
   number_digits n z = rw (← eb, ← ed, not-false d n, ne_eqb b 48 z)
 
   -- the first digit is too large by itself
-  pub number_2 : not d ≡ false → (b ≡ 48 → ⊥) → at < length text → (p : Pushed) → p ≡ pushed 0 b bound → p ≡ Over → Refused ≡ number_at text at bound
-  number_2 n z h p q e = sym (digits_over bound 0 at text b d h eb ed n p q e) ∙ number_digits n z
+  pub number_2 : not d ≡ false → (b ≡ 48 → ⊥) → at < length text → (p : Option ℕ) → p ≡ pushed 0 b bound → p ≡ None → None ≡ number_at text at bound
+  number_2 n z h p q e = sym (digits_over bound 0 at text 256 b d h eb ed n p q e) ∙ number_digits n z
 
   -- the others carry its value on
-  pub number_3 : not d ≡ false → (b ≡ 48 → ⊥) → at < length text → (p : Pushed) → p ≡ pushed 0 b bound → (w : ℕ) → p ≡ Fits w
+  pub number_3 : not d ≡ false → (b ≡ 48 → ⊥) → at < length text → (p : Option ℕ) → p ≡ pushed 0 b bound → (w : ℕ) → p ≡ Some w
       → digits_from bound w (at + 1) (drop (at + 1) text) ≡ number_at text at bound
-  number_3 n z h p q w e = sym (digits_next bound 0 at text b d h eb ed n p q w e) ∙ number_digits n z
+  number_3 n z h p q w e = sym (digits_next bound 0 at text 256 b d h eb ed n p q w e) ∙ number_digits n z
 
 module _ (text : List ℕ) (at bound b : ℕ) (d : Bool) (f : ℕ) (e : Bool) (eb : b ≡ get_or text at 256) (ed : d ≡ is_digit b) (n : not d ≡ false) (z : b ≡ 48)
     (ef : f ≡ get_or text (at + 1) 256) (ee : e ≡ is_digit f) where
-  pub number_4 : e ≡ true → Refused ≡ number_at text at bound
+  pub number_4 : e ≡ true → None ≡ number_at text at bound
   unfolding number_at
   number_4 t = rw (← eb, ← ed, not-false d n, eq-eqb b 48 z, ← ef, ← ee, t)
 
-  pub number_5 : e ≡ false → Value 0 (at + 1) ≡ number_at text at bound
+  pub number_5 : e ≡ false → read_to 0 (at + 1) ≡ number_at text at bound
   unfolding number_at
   number_5 t = rw (← eb, ← ed, not-false d n, eq-eqb b 48 z, ← ef, ← ee, t)
 

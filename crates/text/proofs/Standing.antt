@@ -1,5 +1,4 @@
--- Laws of what stands between two places of a text: a byte, digits that make a number, a key that was compared as one
--- number, and each after another.
+-- Laws of what stands between two places of a text: a byte, digits that make a number, a key, and each after another.
 use Prim.Native.Nat.{ℕ, suc, zero, ◌+◌, ◌-◌, ◌*◌, ◌/◌, ◌^◌, ◌<◌, ◌≤◌}
 use mathlib.Core.Path.{◌≡◌, refl, sym, ap, ap₂, subst, subst₂, ◌∙◌}
 use mathlib.Core.List.{List, [], ◌∷◌, ◌++◌, append_assoc}
@@ -13,14 +12,12 @@ use Rattle.words.proofs.Cases.{by_lt, and_left, and_right}
 use Rattle.text.specs.Number.{is_digit, pushed, last_digits, decimal}
 use Rattle.text.specs.Key.{starts_with}
 use Rattle.text.specs.Inner.Blocks.{packed}
-use Rattle.text.specs.declared.Num.{Num}
-use Rattle.text.specs.declared.Num.TheVariants.{Value}
-use Rattle.text.specs.declared.Pushed.{Pushed}
-use Rattle.text.specs.declared.Pushed.TheVariants.{Fits, Over}
+use Rattle.std.specs.Prelude.{Option, Some, None, nat_eq, take}
+use Rattle.std.specs.List as list
+use Rattle.text.specs.declared.Numeral.{Numeral}
 use Rattle.text.specs.Inner.Standing.{Stands, NumberStands, Written}
 use Rattle.text.proofs.Numbers.{digit_low, digit_high, pushed_fits, pushed_over, last_small, last_more, room_more, last_push}
-use Rattle.text.proofs.Keys.{key_split}
-use Rattle.text.proofs.Blocks.{Bytes, bytes_from, starts_packed}
+use Rattle.text.proofs.Keys.{key_split, key_rest}
 
 -- a number has at most as many digits as there is room for
 last_length : (room v : ℕ) → length (last_digits room v) ≤ room
@@ -32,20 +29,9 @@ last_length (suc r) v =
     (λ g. rw (last_more r v g, length-append) (omega (arith, last_length r (v / 10))))
 
 -- a value with one more digit, where it fits: its decimal stands there up to q
-abbrev Fitted : List ℕ → ℕ → ℕ → ℕ → Pushed → Type 0
-Fitted text at bound q (Fits w) = Stands text at (decimal w) q × (w ≤ bound)
-Fitted text at bound q Over = Unit
-
--- seen by computation of a key: its words are bytes
-unfoldable pub all_bytes : List ℕ → Bool
-all_bytes [] = true
-all_bytes (b ∷ l) = ltb b 256 && all_bytes l
-
-pub bytes_all : (l : List ℕ) → all_bytes l ≡ true → Bytes l
-unfolding all_bytes
-bytes_all [] h i = omega arith
-bytes_all (b ∷ l) h zero = ltb-true b 256 (and_left (ltb b 256) (all_bytes l) h)
-bytes_all (b ∷ l) h (suc i) = bytes_all l (and_right (ltb b 256) (all_bytes l) h) i
+abbrev Fitted : List ℕ → ℕ → ℕ → ℕ → Option ℕ → Type 0
+Fitted text at bound q (Some w) = Stands text at (decimal w) q × (w ≤ bound)
+Fitted text at bound q None = Unit
 
 module _ (text : List ℕ) where
   pub byte_stands : (at b : ℕ) → at < length text → get_or text at 0 ≡ b → Stands text at (b ∷ []) (at + 1)
@@ -60,11 +46,6 @@ module _ (text : List ℕ) where
         bytes = s.bytes ∙ ap (λ (z : List ℕ). x ++ z) u.bytes ∙ sym (append_assoc x y (drop q text));
         size = omega (arith, s.size, u.size, length-append x y);
       }
-
-  -- without the first byte
-  pub stands_rest : {at q b : ℕ} {x : List ℕ} → Stands text at (b ∷ x) q → Stands text (at + 1) x q
-  stands_rest {at} {q} {b} {x} s =
-      record { bytes = sym (drop-drop 1 at text) ∙ ap (drop 1) s.bytes; size = omega (arith, s.size) }
 
   -- a digit, and one more behind a number other than 0
   pub digit_stands : (at : ℕ) → at < length text → is_digit (get_or text at 0) ≡ true → Stands text at (decimal (get_or text at 0 - 48)) (at + 1)
@@ -83,7 +64,7 @@ module _ (text : List ℕ) where
 
   -- the same where the digit may be too many, over the answer that the code has
   pub fitted : (at v p bound : ℕ) → Stands text at (decimal v) p → 0 < v → p < length text → is_digit (get_or text p 0) ≡ true → v < 10 ^ 19
-      → (n : Pushed) (w : ℕ) → n ≡ pushed v (get_or text p 0) bound → n ≡ Fits w → Stands text at (decimal w) (p + 1) × (w ≤ bound)
+      → (n : Option ℕ) (w : ℕ) → n ≡ pushed v (get_or text p 0) bound → n ≡ Some w → Stands text at (decimal w) (p + 1) × (w ≤ bound)
   fitted at v p bound s z h d l n w q e =
       let b = get_or text p 0 in
       let x : v * 10 + b - 48 ≡ v * 10 + (b - 48) = omega (arith, digit_low b d) in
@@ -94,8 +75,8 @@ module _ (text : List ℕ) where
       subst (Fitted text at bound (p + 1)) (sym q ∙ e) fits
 
   -- a number that was found, over the answer that the code has
-  pub found : (at most room : ℕ) (begins : Bool) (n : Num) (v p : ℕ) → Written text at most room begins n → n ≡ Value v p → NumberStands text at most room v p
-  found at most room begins n v p w e = subst (Written text at most room begins) e w
+  pub found : (at most room : ℕ) (begins : Bool) (r : Option Numeral) (n : Numeral) → Written text at most room begins r → r ≡ Some n → NumberStands text at most room n.value n.end
+  found at most room begins r n w e = subst (Written text at most room begins) e w
 
   -- the end of a number below 10 ^ 19 is near
   pub decimal_near : (at v p : ℕ) → v ≤ 9999999999999999999 → Stands text at (decimal v) p → p ≤ at + 19
@@ -115,15 +96,10 @@ module _ (text : List ℕ) where
       let s = push_stands at (a - 48) (at + 1) (digit_stands at (omega arith) d) (omega arith) h e (omega (arith, digit_high a d)) in
       (subst₂ (λ (v q : ℕ). Stands text at (decimal v) q) w p s, omega (arith, digit_high a d), omega arith)
 
-  -- a key of n bytes that were compared as one number w
-  pub key_stands : (n at : ℕ) (key : List ℕ) (w : ℕ) → length key ≡ n → all_bytes key ≡ true → Bytes text → at + n ≤ length text
-      → w ≡ packed n (drop at text) → w ≡ packed n key → Stands text at key (at + n)
-  unfolding starts_with
-  key_stands n at key w k a t h e f =
-      let none : drop n key ≡ [] = drop_of_length-le key {i = n} (omega arith) in
-      let there : starts_with (drop at text) key ≡ true =
-      starts_packed n (drop at text) key (omega (arith, length-drop at text)) (omega arith) (bytes_from at text t) (bytes_all key a) (sym e ∙ f) ∙ rw none in
-      let (rest, split) = key_split (drop at text) key there in
-      let seam : drop n (key ++ rest) ≡ rest = ap (λ (j : ℕ). drop j (key ++ rest)) (sym k) ∙ drop-append_seam key rest in
-      let behind : drop (at + n) text ≡ rest = sym (drop-drop n at text) ∙ ap (drop n) split ∙ seam in
-      record { bytes = split ∙ ap (λ (z : List ℕ). key ++ z) (sym behind); size = omega arith }
+  -- a key that the library finds there, over the answer that the code has
+  pub key_stands : (at : ℕ) (key : List ℕ) (b : Bool) → b ≡ list.starts_with nat_eq (take (length text - at) (drop at text)) key → b ≡ true
+      → Stands text at key (at + length key)
+  key_stands at key b e t =
+      let (rest, split) = key_split (drop at text) key (sym (key_rest text at key) ∙ sym e ∙ t) in
+      let behind : drop (at + length key) text ≡ rest = sym (drop-drop (length key) at text) ∙ ap (drop (length key)) split ∙ drop-append_seam key rest in
+      record { bytes = split ∙ ap (λ (z : List ℕ). key ++ z) (sym behind); size = refl }

@@ -3,39 +3,18 @@
 // that so many bytes are there. Assumes nothing.
 #![tactic(auto)]
 
-ghost use Rattle.std.specs.Prelude.{true, ◌&&◌, not, ◌≡◌, ◌↔◌, ◌+◌, ◌-◌, ◌≤◌, ◌<◌, eqb, length, drop, get_or};
+ghost use Rattle.std.specs.Prelude.{true, ◌&&◌, not, ◌≡◌, ◌↔◌, ◌+◌, ◌-◌, ◌≤◌, ◌<◌, eqb, length, drop, get_or, position, ◌==◌, IfSome};
 ghost use Rattle.text.specs.Inner.Line.{line_end};
 ghost use Rattle.text.specs.Inner.Blocks.{packed, marks, AnyLf, FirstLf};
 ghost use Rattle.text.specs.Inner.Standing.{Written};
 ghost use Rattle.text.specs.Number.{is_digit, pushed, digits_from, number_at};
 ghost use Rattle.text.specs.Key.{starts_with, key_at};
 
-// Where a line ends: the place of its LF, or nowhere.
-#[derive(Clone, Copy)]
-pub enum LineEnd {
-    At(usize),
-    Missing,
-}
-
-// A number and the place after it, or none that is fit.
-#[derive(Clone, Copy)]
-pub enum Num {
-    Value(u64, usize),
-    Refused,
-}
-
-// A value with one more digit at its end, or too large for its bound.
-#[derive(Clone, Copy)]
-pub enum Pushed {
-    Fits(u64),
-    Over,
-}
-
-// A number less another, or 0.
-fn less(n: usize, k: usize) -> usize
-    ensures { result ≡ n - k }
-{
-    if n < k { 0 } else { n - k }
+// A number that was read and the place after it.
+#[derive(Clone, Copy, Debug, PartialEq, Eq)]
+pub struct Numeral {
+    pub value: u64,
+    pub end: usize,
 }
 
 // Four bytes from a place on as one number, the first of them lowest: the machine takes them at once.
@@ -87,34 +66,32 @@ fn first_lf(w: u64) -> usize
     u64::trailing_zeros(lf_marks(w)) as usize / 8
 }
 
-// The first LF at or after a place, byte by byte.
-fn lf_singly(text: &[u8], from: usize) -> LineEnd
-    ensures { result ≡ line_end text.now from }
+// The first LF, byte by byte.
+fn lf_singly(text: &[u8]) -> Option<usize>
+    ensures first { result ≡ position (λ b. b == 10) text.now }
+    ensures within { IfSome result (λ k. k < length text.now) }
 {
-    let mut at = from;
-    while at < text.len() {
-        if text[at] == 10 {
-            return LineEnd::At(at);
-        }
-        at += 1;
-    }
-    LineEnd::Missing
+    text.iter().position(|b| *b == b'\n')
 }
 
-// The first LF at or after a place: eight bytes together, and the last few singly.
-pub fn line_end(text: &[u8], from: usize) -> LineEnd
+// The place of the first LF at or after a place: eight bytes together, and the last few singly.
+pub fn line_end(text: &[u8], from: usize) -> Option<usize>
     ensures { result ≡ line_end text.now from }
 {
-    let eights = less(text.len(), 7);
+    let eights = text.len().saturating_sub(7);
     let mut at = from;
     while at < eights {
         let w = eight(text, at);
         if has_lf(w) {
-            return LineEnd::At(at + first_lf(w));
+            return Some(at + first_lf(w));
         }
         at += 8;
     }
-    lf_singly(text, at)
+    if at > text.len() {
+        return None;
+    }
+    let found = lf_singly(&text[at..])?;
+    Some(at + found)
 }
 
 // The byte at a place, or 256 past the end.
@@ -122,7 +99,7 @@ pub fn byte(text: &[u8], at: usize) -> u16
     ensures { result ≡ get_or text.now at 256 }
 {
     if at < text.len() {
-        text[at] as u16
+        u16::from(text[at])
     } else {
         256
     }
@@ -138,161 +115,130 @@ pub fn is_digit(b: u16) -> bool
 // Ten times a value below this, and a byte, have room in 64 bits.
 const ROOM: u64 = 1000000000000000000;
 
-fn smaller(a: u64, b: u64) -> u64
-    ensures { (result ≤ a) × (result ≤ b) }
-{
-    if a < b { a } else { b }
-}
-
-// The value v with a digit at its end. (Where there is room the byte is added before 48 is taken away, which is less to
-// do.)
-fn push(v: u64, b: u16, bound: u64) -> Pushed
+// The value v with a digit at its end, where it is at most the bound. (Where there is room the byte is added before 48 is
+// taken away, which is less to do.)
+#[tactic(auto, unfolding(crate::specs::Number::is_digit, crate::specs::Number::pushed))]
+fn push(v: u64, b: u16, bound: u64) -> Option<u64>
     requires { is_digit b ≡ true }
     ensures { result ≡ pushed v b bound }
 {
-    if v < smaller(bound / 10, ROOM) {
-        return Pushed::Fits(v * 10 + b as u64 - 48);
+    if v < (bound / 10).min(ROOM) {
+        return Some(v * 10 + u64::from(b) - 48);
     }
-    if v > bound / 10 {
-        return Pushed::Over;
-    }
-    let tens = v * 10;
-    let d = b as u64 - 48;
-    if d > bound - tens {
-        Pushed::Over
-    } else {
-        Pushed::Fits(tens + d)
-    }
+    let w = v.checked_mul(10)?.checked_add(u64::from(b) - 48)?;
+    if w > bound { None } else { Some(w) }
 }
 
 // The number that the digits from a place on give, after others of a value.
-fn digits(text: &[u8], from: usize, value: u64, bound: u64) -> Num
+fn digits(text: &[u8], from: usize, value: u64, bound: u64) -> Option<Numeral>
+    requires { from ≤ length text.now }
     ensures { result ≡ digits_from bound value from (drop from text.now) }
 {
     let mut v = value;
-    let mut at = from;
-    while at < text.len() {
-        let b = byte(text, at);
+    for at in from..text.len() {
+        let b = u16::from(text[at]);
         if !is_digit(b) {
-            return Num::Value(v, at);
+            return Some(Numeral { value: v, end: at });
         }
-        let Pushed::Fits(w) = push(v, b, bound) else {
-            return Num::Refused;
-        };
-        v = w;
-        at += 1;
+        v = push(v, b, bound)?;
     }
-    Num::Value(v, at)
+    Some(Numeral {
+        value: v,
+        end: text.len(),
+    })
 }
 
 // The decimal number at a place: without leading zeros, and at most the bound.
-pub fn number(text: &[u8], at: usize, bound: u64) -> Num
+pub fn number(text: &[u8], at: usize, bound: u64) -> Option<Numeral>
     ensures { result ≡ number_at text.now at bound }
 {
     let b = byte(text, at);
     if !is_digit(b) {
-        return Num::Refused;
+        return None;
     }
     if b != 48 {
-        let Pushed::Fits(v) = push(0, b, bound) else {
-            return Num::Refused;
-        };
-        return digits(text, at + 1, v, bound);
+        let first = push(0, b, bound)?;
+        return digits(text, at + 1, first, bound);
     }
     let e = byte(text, at + 1);
     if is_digit(e) {
-        return Num::Refused;
+        return None;
     }
-    Num::Value(0, at + 1)
+    Some(Numeral {
+        value: 0,
+        end: at + 1,
+    })
 }
 
 // A number of one or two digits; none where no digit stands there, or a 0 before another. Here and in `long` what
 // follows the digits is the caller's to look at.
-pub fn short(text: &[u8], at: usize) -> Num
+pub fn short(text: &[u8], at: usize) -> Option<Numeral>
     requires { at + 2 ≤ length text.now }
     ensures { Written text.now at 99 2
         (is_digit (get_or text.now at 0) && not (eqb (get_or text.now at 0) 48 && is_digit (get_or text.now (at + 1) 0))) result }
 {
-    let first = text[at] as u16;
+    let first = u16::from(text[at]);
     if !is_digit(first) {
-        return Num::Refused;
+        return None;
     }
-    let second = text[at + 1] as u16;
+    let second = u16::from(text[at + 1]);
     if !is_digit(second) {
-        return Num::Value(first as u64 - 48, at + 1);
+        return Some(Numeral {
+            value: u64::from(first) - 48,
+            end: at + 1,
+        });
     }
     if first == 48 {
-        return Num::Refused;
+        return None;
     }
-    Num::Value(10 * (first as u64) + second as u64 - 528, at + 2)
+    Some(Numeral {
+        value: 10 * u64::from(first) + u64::from(second) - 528,
+        end: at + 2,
+    })
 }
 
 // A number of up to 20 digits that 64 bits have room for; none where no digit stands there. The 20th may be too
 // large: then it is left to the caller, behind the number of 19.
-pub fn long(text: &[u8], at: usize) -> Num
+pub fn long(text: &[u8], at: usize) -> Option<Numeral>
     requires { at + 21 ≤ length text.now }
     ensures { Written text.now at 18446744073709551615 20 (is_digit (get_or text.now at 0)) result }
 {
-    let first = text[at] as u16;
+    let first = u16::from(text[at]);
     if !is_digit(first) {
-        return Num::Refused;
+        return None;
     }
-    let mut v = first as u64 - 48;
+    let mut v = u64::from(first) - 48;
     let mut i = at + 1;
     if v == 0 {
-        return Num::Value(v, i);
+        return Some(Numeral { value: v, end: i });
     }
     while v < ROOM {
-        let next = text[i] as u16;
+        let next = u16::from(text[i]);
         if !is_digit(next) {
-            return Num::Value(v, i);
+            return Some(Numeral { value: v, end: i });
         }
-        v = v * 10 + next as u64 - 48;
+        v = v * 10 + u64::from(next) - 48;
         i += 1;
     }
-    let last = text[i] as u16;
+    let last = u16::from(text[i]);
     if !is_digit(last) {
-        return Num::Value(v, i);
+        return Some(Numeral { value: v, end: i });
     }
-    let Pushed::Fits(w) = push(v, last, 18446744073709551615) else {
-        return Num::Value(v, i);
+    let Some(w) = push(v, last, u64::MAX) else {
+        return Some(Numeral { value: v, end: i });
     };
-    Num::Value(w, i + 1)
+    Some(Numeral {
+        value: w,
+        end: i + 1,
+    })
 }
 
-// Whether the rest of a key, from its byte `from` on, stands in the text where the whole key would stand at a place;
-// byte by byte.
-fn key_singly(text: &[u8], at: usize, key: &[u8], from: usize) -> bool
-    requires { (from ≤ length key.now) × (at + length key.now ≤ length text.now) }
-    ensures { result ≡ starts_with (drop (at + from) text.now) (drop from key.now) }
-{
-    let mut i = from;
-    while i < key.len() {
-        if text[at + i] != key[i] {
-            return false;
-        }
-        i += 1;
-    }
-    true
-}
-
-// Whether the key's bytes stand at a place: four bytes to a turn, and the last few singly.
+// Whether the key's bytes stand at a place; past the end of the text only the empty key does.
 pub fn key(text: &[u8], at: usize, key: &[u8]) -> bool
     ensures { result ≡ key_at text.now at key.now }
 {
     if at > text.len() {
-        return key.len() == 0;
+        return key.is_empty();
     }
-    if key.len() > text.len() - at {
-        return false;
-    }
-    let fours = less(key.len(), 3);
-    let mut i = 0;
-    while i < fours {
-        if four(text, at + i) != four(key, i) {
-            return false;
-        }
-        i += 4;
-    }
-    key_singly(text, at, key, i)
+    text[at..].starts_with(key)
 }

@@ -12,8 +12,18 @@ use Rattle.trace.specs.declared.Event.{Event}
 use Rattle.trace.specs.declared.Event.TheVariants.{Send, Recv, Save, Done}
 use Rattle.trace.specs.Trace.{sends_in, recvs_in, saves_in, dones_in}
 use Rattle.trace.specs.Fit.{event_fault}
-use Rattle.trace.specs.Inner.Tally.{Tally, fault_by}
+use Rattle.trace.specs.Inner.Tally.{Tally, fault_by, number_of}
+use Rattle.trace.specs.declared.Unfit.{Unfit}
+use Rattle.trace.specs.declared.Unfit.TheVariants.{NoProcess, Itself, NothingInTransit, TooManySaves, NothingToFinish}
 use Rattle.words.proofs.Cases.{by_lt, by_eq}
+
+-- what is wrong has a number
+pub unfit_some : (u : Unfit) → number_of u ≡ 0 → ⊥
+unfit_some NoProcess e = omega arith
+unfit_some Itself e = omega arith
+unfit_some NothingInTransit e = omega arith
+unfit_some TooManySaves e = omega arith
+unfit_some NothingToFinish e = omega arith
 
 -- no test said yes
 pub or_zero : (b : Bool) (k rest : ℕ) → 0 < k → cond b k rest ≡ 0 → (b ≡ false) × (rest ≡ 0)
@@ -57,24 +67,6 @@ module _ (n : ℕ) (es : List Event) (a : ℕ) where
 -- ---- The ways out of the functions that judge an event by counters
 
 module _ (n : ℕ) (counts : List ℕ) (a b : ℕ) where
-  -- `pair_fault`
-  module _ (v : ℕ) where
-    pub pair_1 : n ≤ a → 3 ≡ fault_by n counts (Send a b v)
-    unfolding fault_by
-    pair_1 h = rw (le-leb n a h)
-
-    pub pair_2 : a < n → n ≤ b → 3 ≡ fault_by n counts (Send a b v)
-    unfolding fault_by
-    pair_2 l h = rw (lt-leb n a l, le-leb n b h)
-
-    pub pair_3 : a < n → b < n → a ≡ b → 4 ≡ fault_by n counts (Send a b v)
-    unfolding fault_by
-    pair_3 l m h = rw (lt-leb n a l, lt-leb n b m, eq-eqb a b h)
-
-    pub pair_4 : a < n → b < n → (a ≡ b → ⊥) → 0 ≡ fault_by n counts (Send a b v)
-    unfolding fault_by
-    pair_4 l m h = rw (lt-leb n a l, lt-leb n b m, ne_eqb a b h)
-
   -- `recv_fault`: f is what is wrong with the pair
   pub recv_1 : (f : ℕ) → f ≡ fault_by n counts (Send a b 0) → (f ≡ 0 → ⊥) → f ≡ fault_by n counts (Recv a b)
   unfolding fault_by
@@ -101,33 +93,6 @@ module _ (n : ℕ) (counts : List ℕ) (a b : ℕ) where
     pub recv_3 : (get_or counts (64 * b + a) 0 ≡ 0 → ⊥) → 0 ≡ fault_by n counts (Recv a b)
     unfolding fault_by
     recv_3 z = let p = pair_fit f in rw (lt-leb n a p.0, lt-leb n b p.1, ne_eqb a b p.2, ne_eqb (get_or counts (64 * b + a) 0) 0 z)
-
-module _ (n : ℕ) (counts : List ℕ) (a : ℕ) where
-  -- `save_fault`
-  pub save_1 : n ≤ a → 3 ≡ fault_by n counts (Save a)
-  unfolding fault_by
-  save_1 h = rw (le-leb n a h)
-
-  pub save_2 : a < n → 30 ≤ get_or counts (4096 + a) 0 → 6 ≡ fault_by n counts (Save a)
-  unfolding fault_by
-  save_2 l h = rw (lt-leb n a l, le-leb 30 (get_or counts (4096 + a) 0) h)
-
-  pub save_3 : a < n → get_or counts (4096 + a) 0 < 30 → 0 ≡ fault_by n counts (Save a)
-  unfolding fault_by
-  save_3 l h = rw (lt-leb n a l, lt-leb 30 (get_or counts (4096 + a) 0) h)
-
-  -- `done_fault`
-  pub done_1 : n ≤ a → 3 ≡ fault_by n counts (Done a)
-  unfolding fault_by
-  done_1 h = rw (le-leb n a h)
-
-  pub done_2 : a < n → get_or counts (4096 + a) 0 ≤ get_or counts (4160 + a) 0 → 15 ≡ fault_by n counts (Done a)
-  unfolding fault_by
-  done_2 l h = rw (lt-leb n a l, le-leb (get_or counts (4096 + a) 0) (get_or counts (4160 + a) 0) h)
-
-  pub done_3 : a < n → get_or counts (4160 + a) 0 < get_or counts (4096 + a) 0 → 0 ≡ fault_by n counts (Done a)
-  unfolding fault_by
-  done_3 l h = rw (lt-leb n a l, lt-leb (get_or counts (4096 + a) 0) (get_or counts (4160 + a) 0) h)
 
 -- ---- What the counters say is what the events that were counted say
 

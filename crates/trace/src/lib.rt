@@ -5,12 +5,21 @@
 
 ghost use Rattle.std.specs.Prelude.{List, ℕ, ◌+◌, ◌-◌, ◌*◌, ◌/◌, ◌%◌, ◌≤◌, ◌<◌, length, get_or, set, ◌≡◌};
 ghost use Rattle.trace.specs.declared.Event.TheVariants.{Send, Recv, Save, Done};
-ghost use Rattle.trace.specs.Inner.Tally.{count_words, fault_by, tallied, Next};
+ghost use Rattle.trace.specs.Inner.Tally.{count_words, fault_by, number_or_zero, tallied, Next};
 ghost use Rattle.trace.specs.Trace.{value_of};
 ghost use Rattle.trace.specs.Table.{word_of, top_in, kind_in, process_in, peer_in};
 
+pub mod kinds;
+
+// How many processes a run has at most, how many events, and how many checkpoints of one process.
+pub const PROCESSES: usize = 64;
+
+pub const EVENTS: usize = 2048;
+
+pub const SAVES: u16 = 30;
+
 // An event of a trace: `ev=send at=A to=B val=V`, `ev=recv at=A from=B`, `ev=save at=A`, `ev=done at=A`.
-#[derive(Clone, Copy)]
+#[derive(Clone, Copy, Debug, PartialEq, Eq)]
 pub enum Event {
     Send { at: u64, to: u64, val: u64 },
     Recv { at: u64, from: u64 },
@@ -18,13 +27,23 @@ pub enum Event {
     Done { at: u64 },
 }
 
+// What is wrong with an event after others: 3, 4, 5, 6 and 15 of the C interface, in this order.
+#[derive(Clone, Copy, Debug, PartialEq, Eq)]
+pub enum Unfit {
+    NoProcess,
+    Itself,
+    NothingInTransit,
+    TooManySaves,
+    NothingToFinish,
+}
+
 // Where the planes of the table area begin: the word of event e, from 1, is at EVENT_BASE + e, the low half of its
 // value at VALUE_BASE + e, the high half at HIGH_BASE + e.
 pub const EVENT_BASE: usize = 16;
 
-pub const VALUE_BASE: usize = 2065;
+pub const VALUE_BASE: usize = EVENT_BASE + EVENTS + 1;
 
-pub const HIGH_BASE: usize = 4114;
+pub const HIGH_BASE: usize = VALUE_BASE + EVENTS + 1;
 
 // The kinds of events: that of an event's word is kind(w). Any other is a checkpoint's, 3.
 pub const DONE: u32 = 0;
@@ -38,7 +57,7 @@ pub fn word(e: Event) -> u32
     ensures { result ≡ word_of e }
 {
     match e {
-        Event::Send { at, to, val: _ } => (at % 64 + 64 * (to % 64) + 4096) as u32,
+        Event::Send { at, to, .. } => (at % 64 + 64 * (to % 64) + 4096) as u32,
         Event::Recv { at, from } => (at % 64 + 64 * (from % 64) + 8192) as u32,
         Event::Save { at } => (at % 64 + 12288) as u32,
         Event::Done { at } => (at % 64) as u32,
@@ -50,10 +69,8 @@ pub fn value(e: Event) -> u64
     ensures { result ≡ value_of e }
 {
     match e {
-        Event::Send { at: _, to: _, val } => val,
-        Event::Recv { at: _, from: _ } => 0,
-        Event::Save { at: _ } => 0,
-        Event::Done { at: _ } => 0,
+        Event::Send { val, .. } => val,
+        Event::Recv { .. } | Event::Save { .. } | Event::Done { .. } => 0,
     }
 }
 
@@ -95,11 +112,11 @@ pub fn peer(w: u32) -> usize
 
 // How many counters there are: messages in transit, a word for each channel, then checkpoints, a word for each process,
 // then those of them that are finished, likewise. Counters have 16 bits, so that they take less to clear.
-pub const COUNTS: usize = 4224;
+pub const COUNTS: usize = DONES_BASE + PROCESSES;
 
-const SAVES_BASE: usize = 4096;
+const SAVES_BASE: usize = PROCESSES * PROCESSES;
 
-const DONES_BASE: usize = 4160;
+const DONES_BASE: usize = SAVES_BASE + PROCESSES;
 
 // The counter of a channel.
 fn channel(from: u64, to: u64) -> usize
@@ -109,74 +126,69 @@ fn channel(from: u64, to: u64) -> usize
     (64 * from + to) as usize
 }
 
-// What is wrong with a message between two processes: 3 where one is none, 4 where they are one.
+// What is wrong with a message between two processes: one of them is none, or they are one.
 #[tactic(auto, unfolding(crate::specs::Inner::Tally::fault_by))]
-fn pair_fault(procs: u64, at: u64, peer: u64) -> u32
-    ensures { (counts : List ℕ) (val : ℕ) → result ≡ fault_by procs counts (Send at peer val) }
+fn pair_fault(procs: u64, at: u64, peer: u64) -> Result<(), Unfit>
+    ensures { (counts : List ℕ) (val : ℕ) → number_or_zero result ≡ fault_by procs counts (Send at peer val) }
 {
-    if at >= procs {
-        return 3;
-    }
-    if peer >= procs {
-        return 3;
+    if at >= procs || peer >= procs {
+        return Err(Unfit::NoProcess);
     }
     if at == peer {
-        return 4;
+        return Err(Unfit::Itself);
     }
-    0
+    Ok(())
 }
 
-// What is wrong with a receive: 5 where nothing is in transit.
-fn recv_fault(counts: &[u16], procs: u64, at: u64, from: u64) -> u32
+// What is wrong with a receive: also that nothing is in transit.
+fn recv_fault(counts: &[u16], procs: u64, at: u64, from: u64) -> Result<(), Unfit>
     requires { (procs ≤ 64) × (length counts.now ≡ count_words) }
-    ensures { result ≡ fault_by procs counts.now (Recv at from) }
+    ensures { number_or_zero result ≡ fault_by procs counts.now (Recv at from) }
 {
-    let f = pair_fault(procs, at, from);
-    if f != 0 {
-        return f;
-    }
+    pair_fault(procs, at, from)?;
     if counts[channel(from, at)] == 0 {
-        return 5;
+        return Err(Unfit::NothingInTransit);
     }
-    0
+    Ok(())
 }
 
-// What is wrong with a checkpoint: 6 where it is the process's 31st.
+// What is wrong with a checkpoint: it is the process's 31st.
 #[tactic(auto, unfolding(crate::specs::Inner::Tally::fault_by))]
-fn save_fault(counts: &[u16], procs: u64, at: u64) -> u32
+fn save_fault(counts: &[u16], procs: u64, at: u64) -> Result<(), Unfit>
     requires { (procs ≤ 64) × (length counts.now ≡ count_words) }
-    ensures { result ≡ fault_by procs counts.now (Save at) }
+    ensures { number_or_zero result ≡ fault_by procs counts.now (Save at) }
 {
     if at >= procs {
-        return 3;
+        return Err(Unfit::NoProcess);
     }
-    if counts[SAVES_BASE + at as usize] >= 30 {
-        return 6;
+    if counts[SAVES_BASE + at as usize] >= SAVES {
+        return Err(Unfit::TooManySaves);
     }
-    0
+    Ok(())
 }
 
-// What is wrong with the end of a checkpoint: 15 where the process has no unfinished one.
-fn done_fault(counts: &[u16], procs: u64, at: u64) -> u32
+// What is wrong with the end of a checkpoint: the process has no unfinished one.
+#[tactic(auto, unfolding(crate::specs::Inner::Tally::fault_by))]
+fn done_fault(counts: &[u16], procs: u64, at: u64) -> Result<(), Unfit>
     requires { (procs ≤ 64) × (length counts.now ≡ count_words) }
-    ensures { result ≡ fault_by procs counts.now (Done at) }
+    ensures { number_or_zero result ≡ fault_by procs counts.now (Done at) }
 {
     if at >= procs {
-        return 3;
+        return Err(Unfit::NoProcess);
     }
     if counts[DONES_BASE + at as usize] >= counts[SAVES_BASE + at as usize] {
-        return 15;
+        return Err(Unfit::NothingToFinish);
     }
-    0
+    Ok(())
 }
 
-// What is wrong with an event after those that were counted: 3, 4, 5, 6 or 15, or 0 (proofs/Faults: `fault_counted`).
-pub fn fault(counts: &[u16], procs: u64, e: Event) -> u32
+// What is wrong with an event after those that were counted, if anything is (proofs/Faults: `fault_counted`).
+pub fn fault(counts: &[u16], procs: u64, e: Event) -> Result<(), Unfit>
     requires { (procs ≤ 64) × (length counts.now ≡ count_words) }
-    ensures { result ≡ fault_by procs counts.now e }
+    ensures { number_or_zero result ≡ fault_by procs counts.now e }
 {
     match e {
-        Event::Send { at, to, val: _ } => pair_fault(procs, at, to),
+        Event::Send { at, to, .. } => pair_fault(procs, at, to),
         Event::Recv { at, from } => recv_fault(counts, procs, at, from),
         Event::Save { at } => save_fault(counts, procs, at),
         Event::Done { at } => done_fault(counts, procs, at),
@@ -203,7 +215,7 @@ pub fn tally(counts: &mut [u16], e: Event)
     ensures { counts.new ≡ tallied counts.old e }
 {
     match e {
-        Event::Send { at, to, val: _ } => raise(counts, channel(at, to)),
+        Event::Send { at, to, .. } => raise(counts, channel(at, to)),
         Event::Recv { at, from } => lower(counts, channel(from, at)),
         Event::Save { at } => raise(counts, SAVES_BASE + at as usize),
         Event::Done { at } => raise(counts, DONES_BASE + at as usize),

@@ -13,18 +13,14 @@ pub const AREA_WORDS: usize = 16384;
 pub fn zero(area: &mut [u32])
     ensures { area.new ≡ replicate (length area.old) 0 }
 {
-    let mut i = 0;
-    while i < area.len() {
-        area[i] = 0;
-        i += 1;
-    }
+    area.fill(0);
 }
 
 // 1 for yes, 0 for no.
 pub fn one_if(yes: bool) -> u32
     ensures { result ≡ cond yes 1 0 }
 {
-    if yes { 1 } else { 0 }
+    u32::from(yes)
 }
 
 // A word, or 0 for no.
@@ -42,21 +38,24 @@ pub fn wide(x: u32) -> usize
 }
 
 // The two halves of a number of 64 bits, and the number of two halves.
+#[tactic(auto, unfolding(crate::specs::Halves::half))]
 pub fn low(v: u64) -> u32
     ensures { result ≡ half 0 v }
 {
     (v % 4294967296) as u32
 }
 
+#[tactic(auto, unfolding(crate::specs::Halves::half))]
 pub fn high(v: u64) -> u32
     ensures { result ≡ half 1 v }
 {
-    (v / 4294967296) as u32
+    (v >> 32) as u32
 }
 
+#[tactic(auto, unfolding(crate::specs::Halves::half))]
 pub fn from_halves(low: u32, high: u32) -> u64
     ensures number { result ≡ from_halves low high }
     ensures halves { (half 0 result ≡ low) × (half 1 result ≡ high) }
 {
-    low as u64 + 4294967296 * high as u64
+    u64::from(low) + 4294967296 * u64::from(high)
 }

@@ -1,124 +1,123 @@
-// Writing text into a lent buffer: bytes, decimal numbers, and keys with their numbers. A function is given the place
-// of its first byte and answers that of the next; a full buffer takes no more (specs/Buffer). Assumes nothing.
+// Writing into a lent buffer, item after item: bytes, decimal numbers, and keys with their numbers; or numbers into a
+// slice of them. A full buffer takes no more (specs/Buffer). Assumes nothing.
 #![tactic(auto)]
 
 ghost use Rattle.std.specs.Prelude.{◌≡◌, [], ◌∷◌, ◌++◌, ◌+◌, ◌/◌, ◌%◌, ◌<◌, ◌≤◌, length, drop};
 ghost use Rattle.text.specs.Number.{decimal};
-ghost use Rattle.writer.specs.Inner.Puts.{Puts};
+ghost use Rattle.writer.specs.Inner.Sinks.{Takes};
 
-fn put(out: &mut [u8], at: usize, b: u8) -> usize
-    ensures { Puts (b ∷ []) out.old at out.new result }
-{
-    if at < out.len() {
-        out[at] = b;
-        return at + 1;
-    }
-    at
+// A lent buffer, and the place that the next item goes to: any place, also one past the buffer.
+#[derive(Drop)]
+pub struct Sink<'a, T> {
+    pub out: &'a mut [T],
+    pub next: usize,
 }
 
-// Bytes that all have room.
-fn copy(out: &mut [u8], at: usize, bytes: &[u8]) -> usize
-    requires { at + length bytes.now ≤ length out.old }
-    ensures { Puts bytes.now out.old at out.new result }
-{
-    let mut i: usize = 0;
-    while i < bytes.len() {
-        out[at + i] = bytes[i];
-        i += 1;
+impl<'a, T: Copy> Sink<'a, T> {
+    pub fn put(&mut self, item: T)
+        ensures { Takes (item ∷ []) self.old self.new }
+    {
+        if self.next < self.out.len() {
+            self.out[self.next] = item;
+            self.next += 1;
+        }
     }
-    at + i
+
+    // A full buffer is left as it is; where all items have room, one test serves for all of them.
+    pub fn put_all(&mut self, items: &[T])
+        ensures { Takes items.now self.old self.new }
+    {
+        if self.next >= self.out.len() {
+            return;
+        }
+        let room = self.out.len() - self.next;
+        if items.len() <= room {
+            self.out[self.next..self.next + items.len()].copy_from_slice(items);
+            self.next += items.len();
+        } else {
+            self.out[self.next..].copy_from_slice(&items[..room]);
+            self.next += room;
+        }
+    }
 }
 
-// Bytes of which perhaps not all have room.
-fn put_each(out: &mut [u8], at: usize, bytes: &[u8]) -> usize
-    ensures { Puts bytes.now out.old at out.new result }
-{
-    let mut next = at;
-    let mut k: usize = 0;
-    while k < bytes.len() {
-        next = put(out, next, bytes[k]);
-        k += 1;
+impl<'a> Sink<'a, u64> {
+    // Words, each as a number of 64 bits; where all have room, one test serves for all of them.
+    pub fn put_words(&mut self, words: &[u32])
+        ensures { Takes words.now self.old self.new }
+    {
+        if self.next >= self.out.len() {
+            return;
+        }
+        let count = words.len().min(self.out.len() - self.next);
+        for k in 0..count {
+            self.out[self.next + k] = u64::from(words[k]);
+        }
+        self.next += count;
     }
-    next
 }
 
-// A full buffer is left as it is; where all bytes have room, one test serves for all of them.
-pub fn put_bytes(out: &mut [u8], at: usize, bytes: &[u8]) -> usize
-    ensures { Puts bytes.now out.old at out.new result }
-{
-    if at >= out.len() {
-        return at;
+impl<'a> Sink<'a, u8> {
+    // The digit of a number below 10.
+    fn put_digit(&mut self, n: u64)
+        requires { n < 10 }
+        ensures { Takes ((48 + n) ∷ []) self.old self.new }
+    {
+        self.put((48 + n) as u8);
     }
-    if bytes.len() <= out.len() - at {
-        return copy(out, at, bytes);
+
+    // The last two digits of a number, a 0 in front where it has but one.
+    fn put_two(&mut self, n: u64)
+        ensures { Takes ((48 + n / 10 % 10) ∷ (48 + n % 10) ∷ []) self.old self.new }
+    {
+        self.put_digit(n / 10 % 10);
+        self.put_digit(n % 10);
     }
-    put_each(out, at, bytes)
-}
 
-// The digit of a number below 10.
-fn put_digit(out: &mut [u8], at: usize, n: u64) -> usize
-    requires { n < 10 }
-    ensures { Puts ((48 + n) ∷ []) out.old at out.new result }
-{
-    put(out, at, (48 + n) as u8)
-}
+    // A number of any length.
+    fn put_long(&mut self, n: u64)
+        ensures { Takes (decimal n) self.old self.new }
+    {
+        let mut digits = [0; 20];
+        let first = digits_of(n, &mut digits);
+        self.put_all(&digits[first..]);
+    }
 
-// The last two digits of a number, a 0 in front where it has but one.
-fn put_two(out: &mut [u8], at: usize, n: u64) -> usize
-    ensures { Puts ((48 + n / 10 % 10) ∷ (48 + n % 10) ∷ []) out.old at out.new result }
-{
-    let next = put_digit(out, at, n / 10 % 10);
-    put_digit(out, next, n % 10)
+    // Most numbers of a report are below 1,000: their digits go straight into the buffer.
+    pub fn put_number(&mut self, n: u64)
+        ensures { Takes (decimal n) self.old self.new }
+    {
+        match n {
+            0..10 => self.put_digit(n),
+            10..100 => self.put_two(n),
+            100..1000 => {
+                self.put_digit(n / 100);
+                self.put_two(n);
+            }
+            _ => self.put_long(n),
+        }
+    }
+
+    // A key and its number.
+    pub fn put_pair(&mut self, key: &[u8], n: u64)
+        ensures { Takes (key.now ++ decimal n) self.old self.new }
+    {
+        self.put_all(key);
+        self.put_number(n);
+    }
 }
 
 // The digits of a number stand at the end of `digits`, from the place answered on: 20 hold every number of 64 bits.
-fn digits_of(n: u64, digits: &mut [u8]) -> usize
-    requires { length digits.old ≡ 20 }
+fn digits_of(n: u64, digits: &mut [u8; 20]) -> usize
     ensures { (result ≤ 20) × (drop result digits.new ≡ decimal n) }
 {
     let mut v = n;
-    let mut i: usize = 20;
-    while i > 0 {
-        i -= 1;
+    for i in (0..20).rev() {
         digits[i] = (48 + v % 10) as u8;
         if v < 10 {
             return i;
         }
-        v = v / 10;
+        v /= 10;
     }
-    i
-}
-
-// A number of any length.
-fn put_long(out: &mut [u8], at: usize, n: u64) -> usize
-    ensures { Puts (decimal n) out.old at out.new result }
-{
-    let mut digits = [0u8; 20];
-    let first = digits_of(n, &mut digits);
-    put_bytes(out, at, &digits[first..])
-}
-
-// Most numbers of a report are below 1,000: their digits go straight into the buffer.
-pub fn put_number(out: &mut [u8], at: usize, n: u64) -> usize
-    ensures { Puts (decimal n) out.old at out.new result }
-{
-    if n < 10 {
-        return put_digit(out, at, n);
-    }
-    if n < 100 {
-        return put_two(out, at, n);
-    }
-    if n < 1000 {
-        let next = put_digit(out, at, n / 100);
-        return put_two(out, next, n);
-    }
-    put_long(out, at, n)
-}
-
-// A key and its number.
-pub fn put_pair(out: &mut [u8], at: usize, key: &[u8], n: u64) -> usize
-    ensures { Puts (key.now ++ decimal n) out.old at out.new result }
-{
-    let next = put_bytes(out, at, key);
-    put_number(out, next, n)
+    0
 }

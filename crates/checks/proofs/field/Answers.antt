@@ -1,13 +1,14 @@
-use mathlib.Core.Path.{refl}
+use Rattle.std.proofs.Common.{◌≡◌, refl, arith}
 use Rattle.checks.specs.Inner.Rows.{field_place}
 use Rattle.checks.proofs.Rows.{field_next}
-use native.Mathlib.Omega.{arith}
 use Rattle.checks.proofs.field.Goals as goal
 
-pub loop-i-init : goal.loop-i-init
+pub loop-init : goal.loop-init
 unfolding field_place
-loop-i-init c = (omega arith, refl)
+loop-init c = refl
 
-pub loop-i-preserved : goal.loop-i-preserved
-loop-i-preserved c =
-    (omega arith, field_next _ _ _ _ c.loop-i.invariant.1 c.find-at.ensures.is)
+pub loop-preserved : goal.loop-preserved
+loop-preserved c = field_next _ _ _ _ c.loop.invariant c.find-at.ensures.is
+
+pub returns : goal.returns
+returns c = let i : c.args.k ≡ c.loop.counter = omega arith in rw i c.loop.invariant

@@ -1,11 +1,7 @@
--- `checks::field` meets its contract: one more blank has been passed with each turn.
-use Prim.Native.Nat.{◌-◌, ◌≤◌}
-use mathlib.Core.Path.{◌≡◌}
+-- one more blank has been passed with each turn
+use Rattle.std.proofs.Common.{◌≡◌}
 use Rattle.checks.specs.Inner.Rows.{field_place}
 use Rattle.checks.proofs.field.Given as goal
 
-abbrev pub invariant-loop-i : goal.invariant-loop-i
-invariant-loop-i l = (l.i ≤ l.k) × (l.at ≡ field_place l.row l.i)
-
-abbrev pub decreases-loop-i : goal.decreases-loop-i
-decreases-loop-i l = l.k - l.i
+abbrev pub invariant-loop : goal.invariant-loop
+invariant-loop l = l.at ≡ field_place l.row l.counter

@@ -1,17 +1,14 @@
-use mathlib.Core.Path.{refl, ◌∙◌}
+use Rattle.std.proofs.Common.{refl, ◌∙◌, arith}
 use Rattle.checks.proofs.Filled.{rest_next, rest_end}
-use native.Mathlib.Omega.{arith}
 use Rattle.checks.proofs.put.Goals as goal
 
-pub loop-i-preserved : goal.loop-i-preserved
-loop-i-preserved c =
+pub loop-b-preserved : goal.loop-b-preserved
+loop-b-preserved c =
     record {
-      within = omega arith;
       values_most = omega arith;
-      size = c.put_piece-next.auto.out ∙ c.loop-i.invariant.size;
-      rest = rest_next _ _ _ _ _ _ _ _ _ _ _ _ _ c.loop-i-test.true refl c.value.ensures c.taken-k.ensures.0 c.put_piece-next.ensures c.loop-i.invariant.rest;
+      size = c.put_piece-next.auto.out ∙ c.loop-b.invariant.size;
+      rest = rest_next _ _ _ _ _ _ _ _ _ _ _ _ _ c.loop-b-test.true refl c.value.ensures c.taken-k.ensures.0 c.put_piece-next.ensures c.loop-b.invariant.rest;
     }
 
 pub returns : goal.returns
-returns c =
-    rest_end _ _ _ _ _ _ _ _ c.loop-i-test.false c.loop-i.invariant.rest
+returns c = rest_end _ _ _ _ _ _ _ _ c.loop-b-test.false c.loop-b.invariant.rest

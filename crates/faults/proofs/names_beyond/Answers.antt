@@ -2,6 +2,5 @@
 use Rattle.faults.proofs.Faults.{beyond_some}
 use Rattle.faults.proofs.names_beyond.Goals as goal
 
-pub returns : goal.returns
-returns c =
-    beyond_some c.args.set c.args.count
+pub returns-then-count-ne64 : goal.returns-then-count-ne64
+returns-then-count-ne64 c = beyond_some c.args.set c.args.count

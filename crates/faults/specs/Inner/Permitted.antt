@@ -9,5 +9,8 @@ usable_w finished n = leb 1 n && leb n finished
 abbrev pub may_stay_w : ℕ → ℕ → ℕ → Bool
 may_stay_w failed z n = eqb n 32 && not (in_set failed z)
 
+abbrev pub may_hold_w : ℕ → ℕ → ℕ → ℕ → Bool
+may_hold_w failed finished z n = usable_w finished n || may_stay_w failed z n
+
 abbrev pub may_w : ℕ → List ℕ → List ℕ → ℕ → Bool
-may_w failed finished numbers z = usable_w (get_or finished z 0) (get_or numbers z 0) || may_stay_w failed z (get_or numbers z 0)
+may_w failed finished numbers z = may_hold_w failed (get_or finished z 0) z (get_or numbers z 0)

@@ -1,9 +1,9 @@
 -- `printing::put_process` meets its contract: four pairs and the end of the line.
-use mathlib.Core.Path.{refl}
-use Rattle.writer.proofs.Buffers.{same_bytes}
-use Rattle.printing.proofs.Lines.{row_put, process_keys}
+use Rattle.printing.specs.Lines.{process_line}
+use Rattle.writer.proofs.Buffers.{takes_then}
 use Rattle.printing.proofs.put_process.Goals as goal
 
 pub returns : goal.returns
+unfolding process_line
 returns c =
-    same_bytes _ _ _ _ _ _ (process_keys _ _ _ _ c.args.z c.args.epoch c.args.number c.args.phase refl refl refl refl) (row_put _ _ _ _ _ _ _ _ _ _ _ _ _ _ _ _ _ _ _ _ c.put_pair-to_epoch.ensures c.put_pair-to_restart.ensures c.put_pair-to_phase.ensures c.put_pair-end.ensures c.put_bytes.ensures)
+    rw (← c.from.ensures, ← c.from-2.ensures, ← c.from-3.ensures) (takes_then c.put_pair.ensures (takes_then c.put_pair-2.ensures (takes_then c.put_pair-3.ensures (takes_then c.put_pair-4.ensures c.put_all.ensures))))

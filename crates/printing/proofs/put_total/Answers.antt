@@ -1,9 +1,9 @@
 -- `printing::put_total` meets its contract: four pairs and the end of the line.
-use mathlib.Core.Path.{refl}
-use Rattle.writer.proofs.Buffers.{same_bytes}
-use Rattle.printing.proofs.Lines.{row_put, total_keys}
+use Rattle.printing.specs.Lines.{total_line}
+use Rattle.writer.proofs.Buffers.{takes_then}
 use Rattle.printing.proofs.put_total.Goals as goal
 
 pub returns : goal.returns
+unfolding total_line
 returns c =
-    same_bytes _ _ _ _ _ _ (total_keys _ _ _ _ c.args.back c.args.orphans c.args.kept c.args.steps refl refl refl refl) (row_put _ _ _ _ _ _ _ _ _ _ _ _ _ _ _ _ _ _ _ _ c.put_pair-to_orphans.ensures c.put_pair-to_kept.ensures c.put_pair-to_steps.ensures c.put_pair-end.ensures c.put_bytes.ensures)
+    rw (← c.from.ensures) (takes_then c.put_pair.ensures (takes_then c.put_pair-2.ensures (takes_then c.put_pair-3.ensures (takes_then c.put_pair-4.ensures c.put_all.ensures))))

@@ -1,4 +1,13 @@
 -- `reader::read` meets its contract: 12 changes nothing; otherwise the first 16,384 words are lent on.
+use Prim.Native.Nat.{ℕ}
+use mathlib.Core.Path.{ap, ◌∙◌}
+use lib.ListN.{replicate}
+use lib.Seq.{length-take-le}
+use native.Mathlib.Omega.{arith}
+use Rattle.std.proofs.Common.{Err}
+use Rattle.words.specs.Area.{area_words}
+use Rattle.refusal.specs.declared.Refused.{Refused}
+use Rattle.reader.specs.Answer.{read_answered}
 use Rattle.reader.proofs.Claims.{read_means}
 use Rattle.reader.proofs.Verdicts.{short, long}
 use Rattle.reader.proofs.read.Goals as goal
@@ -6,12 +15,17 @@ use Rattle.reader.proofs.read.Goals as goal
 pub returns-then-table-lt-AREA_WORDS : goal.returns-then-table-lt-AREA_WORDS
 returns-then-table-lt-AREA_WORDS c =
     let (answer, words) = short _ _ c.if-table-lt-AREA_WORDS.true in
+    let same = ap (λ (r : Refused). read_answered (Err r)) c.at.ensures ∙ answer in
     record {
-      answer = answer;
+      answer = same;
       words = words;
-      accepts = (read_means _ _ _ answer).0;
-      refuses = (read_means _ _ _ answer).1;
+      accepts = (read_means _ _ _ same).0;
+      refuses = (read_means _ _ _ same).1;
     }
+
+pub read_in-requires : goal.read_in-requires
+read_in-requires c =
+    c.fill.ensures.after (λ y e. e) ∙ ap (λ (n : ℕ). replicate n 0) (length-take-le area_words c.args.table.now (omega arith))
 
 pub returns : goal.returns
 returns c =

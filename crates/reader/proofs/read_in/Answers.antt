@@ -1,19 +1,27 @@
 -- `reader::read_in` meets its contract, one law for each end of the scan: the one that is wanted, and the others.
-use mathlib.Core.Path.{◌∙◌}
-use Rattle.reader.proofs.Verdicts.{left_ended, left_other}
-use borrow.Enum.Refused.{opened}
+use mathlib.Core.Path.{refl, ap}
+use Rattle.std.proofs.Common.{Ok, Err}
+use Rattle.std.proofs.lemmas.Result.{err_from_is_err_and}
+use Rattle.refusal.specs.declared.Refused.{Refused}
+use Rattle.reader.specs.declared.Scanned.{Scanned}
+use Rattle.reader.specs.Answer.{read_answered}
+use Rattle.reader.specs.Inner.Reading.{scanned}
+use Rattle.reader.proofs.Verdicts.{left_unread, left_ended, left_stopped}
 use Rattle.reader.proofs.read_in.Goals as goal
 
-pub returns-in_default : goal.returns-in_default
-returns-in_default c =
-    record {
-      answer = (left_other _ _ _ c.scan_text-s.ensures (opened c.in_default.in_default-own.keys2) _ _ (c.refuse.ensures.answer ∙ c.refusal.ensures) c.refuse.ensures.words).0;
-      words = (left_other _ _ _ c.scan_text-s.ensures (opened c.in_default.in_default-own.keys2) _ _ (c.refuse.ensures.answer ∙ c.refusal.ensures) c.refuse.ensures.words).1;
-    }
+pub returns-in_err-scan : goal.returns-in_err-scan
+returns-in_err-scan c =
+    let p = err_from_is_err_and c.from_residual.result c.from_residual.ensures.1 in
+    let (answer, words) = left_unread _ _ _ c.in_err-scan.ensures.outcome _ _ refl c.in_err-scan.ensures.zeros in
+    record { answer = rw (p.1, p.2) answer; words = words }
 
-pub returns : goal.returns
-returns c =
-    record {
-      answer = (left_ended _ _ _ c.scan_text-s.ensures _ c.in-Ended.is).0;
-      words = (left_ended _ _ _ c.scan_text-s.ensures _ c.in-Ended.is).1;
-    }
+pub returns-in-Ended : goal.returns-in-Ended
+returns-in-Ended c =
+    let (answer, words) = left_ended _ _ _ c.in_ok-scan.ensures.outcome _ (ap (λ (x : Scanned). scanned (Ok x)) c.in-Ended.is) in
+    record { answer = answer; words = words }
+
+pub returns-in-Failure : goal.returns-in-Failure
+returns-in-Failure c =
+    let (answer, words) = left_stopped _ _ _ c.in_ok-scan.ensures.outcome _ _ _ _ _ _
+    (ap (λ (x : Scanned). scanned (Ok x)) c.in-Failure.is) (ap (λ (x : Refused). read_answered (Err x)) c.at.ensures) (c.fill.ensures.after (λ y e. e)) in
+    record { answer = answer; words = words }

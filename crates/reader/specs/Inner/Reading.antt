@@ -1,6 +1,6 @@
 -- What the reader's loop holds between two lines: the words it has stored, and how its outcome stands for a `Scan`; and
 -- what it makes of the first line. No public contract cites these.
-use Rattle.std.specs.Prelude.{ℕ, ◌+◌, ◌<◌, ◌≤◌, ◌≡◌, List, [], Bool, true, length, get_or, set, drop, replicate}
+use Rattle.std.specs.Prelude.{ℕ, ◌+◌, ◌<◌, ◌≤◌, ◌≡◌, List, [], length, get_or, set, drop, Result, Ok, Err}
 use Rattle.words.specs.Area.{area_words}
 use Rattle.trace.specs.declared.Event.{Event}
 use Rattle.trace.specs.Trace.{Trace, started}
@@ -8,18 +8,18 @@ use Rattle.trace.specs.Inner.Tally.{Tally}
 use Rattle.trace.specs.Table.{word_of, value_word, event_base, value_base, table_word}
 use Rattle.lines.specs.declared.Line.{Line}
 use Rattle.lines.specs.declared.Line.TheVariants.{Procs, Send, Recv, Save, Done, Failure, Malformed}
-use Rattle.reader.specs.declared.Judged.{Judged}
-use Rattle.reader.specs.declared.Judged.TheVariants.{Fit, Fails, Unfit}
-use Rattle.reader.specs.declared.Answer.{Answer}
-use Rattle.reader.specs.declared.FailureAnswer.{FailureAnswer}
-use Rattle.reader.specs.declared.Scanned.{Scanned}
-use Rattle.reader.specs.declared.Scanned.TheVariants.{Refused, Ended, Stopped}
-use Rattle.reader.specs.Verdict.{Scan, refused, ended, stopped, pieces}
+use Rattle.refusal.specs.declared.Refusal.{Refusal}
+use Rattle.refusal.specs.declared.Refused.{Refused}
+use Rattle.refusal.specs.Refusals.{number_of}
+use Rattle.reader.specs.Verdict.{Judged, Fit, Fails, Unfit, Scan, refused, ended, stopped, pieces, lines_from, scan}
+use Rattle.reader.specs.declared.Judged as code_judged
+use Rattle.reader.specs.declared.Scanned as code_scanned
 
--- a table of 16,384 words, which are zero where it is said to be clear
-pub record Lent (table : List ℕ) (clear : Bool) : Type 0 where
-  pub size : length table ≡ area_words
-  pub zero : clear ≡ true → table ≡ replicate (length table) 0
+-- what judging a line gives, as the definition has it
+abbrev pub judged : Result code_judged.Judged Refusal → Judged
+judged (Ok (code_judged.TheVariants.Event e)) = Fit e
+judged (Ok (code_judged.TheVariants.Failure f)) = Fails f.step f.set
+judged (Err r) = Unfit (number_of r)
 
 -- a process count, or none
 unfoldable pub count_only : Line → Line
@@ -54,23 +54,22 @@ abbrev pub appended : List ℕ → ℕ → Event → List ℕ
 appended table n e =
     set (set (set (set table 1 (n + 1)) (event_base + (n + 1)) (word_of e)) (value_base 0 + (n + 1)) (value_word 0 e)) (value_base 1 + (n + 1)) (value_word 1 e)
 
--- the number of a judged line: 0 of a fit event; 1 of a failure line where none is due ("The library's reader takes the
--- text without a failure line"); else what is wrong
-abbrev pub judged_number : Judged → ℕ
-judged_number (Fit e) = 0
-judged_number (Fails step set) = 1
-judged_number (Unfit n) = n
+-- what the first line comes to: its refusal, or the process count and the place where the lines after it begin
+abbrev pub FirstRead : List ℕ → Result (ℕ × ℕ) Refused → Type 0
+FirstRead text (Ok r) = (r.0 ≤ 64) × ((r.1 ≤ length text) × (lines_from (started r.0) 2 (pieces (drop r.1 text)) ≡ scan text))
+FirstRead text (Err r) = scan text ≡ refused (number_of r.refusal) r.place
 
--- The refusal by each way in which the lines end: a faulty line's own; 1 at the line after the last, where a failure
--- line is missing; 1 at a failure line, where none is due.
-abbrev pub refusal_of : Scanned → Answer
-refusal_of (Refused n k) = record { number = n; place = k }
-refusal_of (Ended k) = record { number = 1; place = k }
-refusal_of (Stopped step set k next) = record { number = 1; place = k }
+-- where the lines end: a refusal's number and line; the line after the last; or a failure line, its step, its set, its
+-- own line and the place after it
+pub data Scanned : Type 0 where
+  Unread : ℕ → ℕ → Scanned
+  Ended : ℕ → Scanned
+  Stopped : ℕ → ℕ → ℕ → ℕ → Scanned
 
--- "In a refused answer every other number is 0." (the requirements; MANUAL 6.1)
-abbrev pub failure_refusal : Answer → FailureAnswer
-failure_refusal a = record { number = a.number; place = a.place; step = 0; set = 0 }
+abbrev pub scanned : Result code_scanned.Scanned Refused → Scanned
+scanned (Ok (code_scanned.TheVariants.Ended k)) = Ended k
+scanned (Ok (code_scanned.TheVariants.Failure f k next)) = Stopped f.step f.set k next
+scanned (Err r) = Unread (number_of r.refusal) r.place
 
 -- the loop stopped at a failure line: its outcome with the place after that line, what follows there, and the table;
 -- the line is one of the first 2,050
@@ -83,6 +82,6 @@ pub record StoppedAt (text : List ℕ) (t : Trace) (step set k : ℕ) (rest : Li
 
 -- the loop's outcome and table are those of a scan
 unfoldable pub ScanOutcome : List ℕ → Scan → Scanned → List ℕ → Type 0
-ScanOutcome text (refused n k) r table = (r ≡ Refused n k) × (length table ≡ area_words)
+ScanOutcome text (refused n k) r table = (r ≡ Unread n k) × (length table ≡ area_words)
 ScanOutcome text (ended t k) r table = (r ≡ Ended k) × Holds table t
 ScanOutcome text (stopped t step set k rest) r table = StoppedAt text t step set k rest r table

@@ -10,7 +10,7 @@ use Rattle.recovery_line.proofs.back_set.Goals as goal
 pub returns : goal.returns
 returns c =
     let q : length c.args.line.epochs ≡ 64 = search rules in
-    let e = c.set_of.ensures ∙ ap (λ (n : ℕ). back_of (take n c.args.line.epochs)) c.places.ensures ∙ ap back_of (numbers_in_places c.args.line q) in
+    let e = c.set_of.ensures ∙ ap (λ (n : ℕ). back_of (take n c.args.line.epochs)) c.min.ensures ∙ ap back_of (numbers_in_places c.args.line q) in
     record {
       set = e;
       bits = back_bits c.args.line q _ e;

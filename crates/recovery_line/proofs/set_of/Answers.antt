@@ -3,7 +3,7 @@ use Prim.Native.Nat.{ℕ}
 use lib.ListN.{drop, take}
 use lib.Seq.{drop-length, length-take-le}
 use Rattle.recovery_line.specs.Given.{back_of}
-use Rattle.recovery_line.proofs.Sets.{back_fits, back_in, back_out}
+use Rattle.recovery_line.proofs.Sets.{back_fits, bit_few, back_next}
 use native.Mathlib.Omega.{arith}
 use Rattle.std.proofs.Common.{rules}
 use Rattle.recovery_line.proofs.set_of.Goals as goal
@@ -15,16 +15,13 @@ loop-i-init c =
 
 pub overflow_mul-set : goal.overflow_mul-set
 overflow_mul-set c =
-    omega (arith, back_fits _ _ _ _ (omega arith) c.loop-i.invariant.0 c.requires.0 c.loop-i.invariant.1 c.requires.1)
+    omega (arith, back_fits _ _ _ _ c.loop-i-test.true c.loop-i.invariant.0 c.requires.0 c.loop-i.invariant.1 c.requires.1)
 
 pub overflow_add-set : goal.overflow_add-set
 overflow_add-set c =
-    omega (arith, back_fits _ _ _ _ (omega arith) c.loop-i.invariant.0 c.requires.0 c.loop-i.invariant.1 c.requires.1)
-
-pub loop-i-preserved-then-numbers-i-ne-STAYS : goal.loop-i-preserved-then-numbers-i-ne-STAYS
-loop-i-preserved-then-numbers-i-ne-STAYS c =
-    (omega arith, back_in _ _ _ _ (omega arith) c.loop-i.invariant.0 c.requires.0 c.loop-i.invariant.1 c.if-numbers-i-ne-STAYS.true)
+    let few = bit_few _ _ _ _ c.loop-i-test.true c.loop-i.invariant.0 c.requires.0 c.loop-i.invariant.1 _ c.from.ensures in
+    omega (arith, back_fits _ _ _ _ c.loop-i-test.true c.loop-i.invariant.0 c.requires.0 c.loop-i.invariant.1 c.requires.1, few)
 
 pub loop-i-preserved : goal.loop-i-preserved
 loop-i-preserved c =
-    (omega arith, back_out _ _ _ _ (omega arith) c.loop-i.invariant.0 c.requires.0 c.loop-i.invariant.1 c.if-numbers-i-ne-STAYS.false)
+    (omega arith, back_next _ _ _ _ c.loop-i-test.true c.loop-i.invariant.0 c.requires.0 c.loop-i.invariant.1 _ c.from.ensures)

@@ -7,6 +7,3 @@ use Rattle.recovery_line.proofs.set_of.Given as goal
 
 abbrev pub invariant-loop-i : goal.invariant-loop-i
 invariant-loop-i l = (l.i ≤ l.count) × (l.set ≡ back_of (drop l.i (take l.count l.numbers)))
-
-abbrev pub decreases-loop-i : goal.decreases-loop-i
-decreases-loop-i l = l.i

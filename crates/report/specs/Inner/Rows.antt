@@ -3,7 +3,7 @@ use Rattle.std.specs.Prelude.{◌≡◌, Bool, List, ◌++◌, ℕ, ◌+◌, ◌
 use Rattle.std.proofs.Math.Seq.{slice}
 use Rattle.theory.specs.Answers.{gather}
 use Rattle.columns.specs.Inner.Full.{event_w, number_w, phase_w}
-use Rattle.restart.specs.declared.Restarted.{Restarted}
+use Rattle.restart.specs.Restart.{RestartAnswer}
 use Rattle.writer.specs.Buffer.{room, written}
 use Rattle.writer.specs.Inner.Puts.{Puts}
 use Rattle.text.specs.Bytes.{bytes_of}
@@ -23,7 +23,7 @@ unfoldable pub event_rows : List ℕ → List ℕ → List ℕ → List ℕ
 event_rows key full events = gather (λ i. event_row key full (get_or events i 0)) (length events)
 
 -- the whole report of a recovery
-unfoldable pub recovery_rows : Restarted → List ℕ → List ℕ → ℕ → ℕ → ℕ → List ℕ
+unfoldable pub recovery_rows : RestartAnswer → List ℕ → List ℕ → ℕ → ℕ → ℕ → List ℕ
 recovery_rows r full events orphans kept steps =
     gather (process_line_of r) r.line.count ++ event_rows (bytes_of key_orphan) full (slice 0 orphans events)
     ++ event_rows (bytes_of key_kept) full (slice orphans (orphans + kept) events) ++ total_line r.back orphans kept steps

@@ -1,29 +1,37 @@
-use mathlib.Core.Path.{◌≡◌, refl, ap, ◌∙◌}
+use Rattle.std.proofs.Common.{arith, refl, ◌≡◌, ◌∙◌, ◌<◌}
 use Rattle.theory.specs.Lists.{cnt}
-use Rattle.columns.specs.Inner.Full.{events_w}
 use Rattle.columns.proofs.Full.{size_most}
-use Rattle.steps.specs.Inner.Steps.{after_restart_w}
-use Rattle.steps.proofs.Counting.{counted_listed, one_more, no_more}
-use native.Mathlib.Omega.{arith}
-use Rattle.std.proofs.Common.{rules}
+use Rattle.steps.proofs.Counting.{turn_more, turn_none, at_end}
 use Rattle.steps.proofs.listed_events.Goals as goal
+use Rattle.steps.proofs.listed_events.Goals.{then-gates-z, else-gates-z}
 
 pub loop-e-init : goal.loop-e-init
-loop-e-init c =
-    (omega (arith, c.wide-events.ensures, size_most c.requires.0.trace c.args.full.now c.requires.1.tabled), search rules, search rules, unfold cnt in refl)
-
-pub loop-e-preserved-then-wide-e : goal.loop-e-preserved-then-wide-e
-loop-e-preserved-then-wide-e c =
-    (c.loop-e.invariant.0, omega arith, omega (arith, c.loop-e.invariant.2), one_more c.args.full.now c.args.gates.now _ _ _ _ c.loop-e.invariant.3 c.process-z.ensures.0 c.wide.ensures c.if-wide-e.true)
+loop-e-init c = record {
+  few = size_most c.requires.0.trace c.args.full.now c.requires.1.tabled;
+  to = omega arith;
+  below = omega arith;
+  counted = unfold cnt in refl;
+}
 
 pub loop-e-preserved : goal.loop-e-preserved
 loop-e-preserved c =
-    (c.loop-e.invariant.0, omega arith, omega (arith, c.loop-e.invariant.2), no_more c.args.full.now c.args.gates.now _ _ _ _ c.loop-e.invariant.3 c.process-z.ensures.0 c.wide.ensures c.if-wide-e.false)
+    let i = c.loop-e.invariant in
+    let h : 0 < c.loop-e.e = omega (arith, i.below) in
+    elim c.if-gates-z.branch [
+      | then-gates-z w ↦ record {
+        few = i.few;
+        to = omega (arith, c.loop-e-test.true);
+        below = omega (arith, i.below, w.count-is);
+        counted = w.count-is ∙ turn_more c.args.full.now c.args.gates.now c.loop-e.count c.loop-e.e _ _ h i.counted c.process-z.ensures.0 refl w.if-gates-z.true;
+      }
+      | else-gates-z w ↦ record {
+        few = i.few;
+        to = omega (arith, c.loop-e-test.true);
+        below = omega (arith, i.below, w.count-is);
+        counted = w.count-is ∙ turn_none c.args.full.now c.args.gates.now c.loop-e.count c.loop-e.e _ _ h i.counted c.process-z.ensures.0 refl w.if-gates-z.false;
+      }
+    ]
 
-pub returns : goal.returns
-returns c =
-    let all : c.loop-e.e ≡ events_w c.args.full.now = omega (arith, c.wide-events.ensures, c.loop-e.invariant.1, c.loop-e-test.false) in
-    record {
-      count = λ R T G. c.loop-e.invariant.3 ∙ ap (cnt (after_restart_w c.args.full.now c.args.gates.now)) all ∙ counted_listed R _ _ T G;
-      few = omega (arith, c.loop-e.invariant.0, c.loop-e.invariant.1, c.loop-e.invariant.2);
-    }
+pub returns-clause-count : goal.returns-clause-count
+returns-clause-count c = λ R T G.
+    at_end R c.args.full.now c.args.gates.now _ _ T G c.loop-e.invariant.counted (omega (arith, c.loop-e.invariant.to, c.loop-e.invariant.below, c.loop-e-test.false))

@@ -1,12 +1,14 @@
--- `steps::listed_events` meets its contract: after e turns the listed ones of the first e events are counted.
-use mathlib.Core.Path.{◌≡◌}
-use Prim.Native.Nat.{◌-◌, ◌≤◌}
+-- `steps::listed_events` meets its contract: before event e the listed ones of the earlier events are counted.
+use Rattle.std.proofs.Common.{◌≡◌, ◌<◌, ◌≤◌, ◌-◌, ◌+◌}
 use Rattle.theory.specs.Lists.{cnt}
+use Rattle.columns.specs.Inner.Full.{events_w}
 use Rattle.steps.specs.Inner.Steps.{after_restart_w}
 use Rattle.steps.proofs.listed_events.Given as goal
 
 abbrev pub invariant-loop-e : goal.invariant-loop-e
-invariant-loop-e l = (l.events ≤ 2048) × (l.e ≤ l.events) × (l.count ≤ l.e) × (l.count ≡ cnt (after_restart_w l.full l.gates) l.e)
-
-abbrev pub decreases-loop-e : goal.decreases-loop-e
-decreases-loop-e l = l.events - l.e
+invariant-loop-e l = record {
+  few : events_w l.full ≤ 2048;
+  to : l.e ≤ events_w l.full + 1;
+  below : l.count < l.e;
+  counted : l.count ≡ cnt (after_restart_w l.full l.gates) (l.e - 1);
+}

@@ -1,7 +1,6 @@
 -- Bytes that stand in a text between two places, for who looks at a text without knowing yet where its line ends.
-use Rattle.std.specs.Prelude.{ℕ, ◌+◌, ◌≤◌, ◌≡◌, List, ◌++◌, Bool, false, length, drop}
-use Rattle.text.specs.declared.Num.{Num}
-use Rattle.text.specs.declared.Num.TheVariants.{Value, Refused}
+use Rattle.std.specs.Prelude.{ℕ, ◌+◌, ◌≤◌, ◌≡◌, List, ◌++◌, Bool, false, length, drop, Option, Some, None}
+use Rattle.text.specs.declared.Numeral.{Numeral}
 use Rattle.text.specs.Number.{decimal}
 
 -- the bytes x stand from a place on, and end before the place `next`
@@ -14,6 +13,6 @@ abbrev pub NumberStands : List ℕ → ℕ → ℕ → ℕ → ℕ → ℕ → T
 NumberStands text at most room v p = Stands text at (decimal v) p × (v ≤ most) × (p ≤ at + room)
 
 -- a number that was found at a place stands there; none is found only where none begins
-abbrev pub Written : List ℕ → ℕ → ℕ → ℕ → Bool → Num → Type 0
-Written text at most room begins (Value v p) = NumberStands text at most room v p
-Written text at most room begins Refused = begins ≡ false
+abbrev pub Written : List ℕ → ℕ → ℕ → ℕ → Bool → Option Numeral → Type 0
+Written text at most room begins (Some n) = NumberStands text at most room n.value n.end
+Written text at most room begins None = begins ≡ false

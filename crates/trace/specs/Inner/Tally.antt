@@ -1,7 +1,9 @@
 -- Counters that events are judged by, one after another.
-use Rattle.std.specs.Prelude.{ℕ, ◌+◌, ◌-◌, ◌*◌, ◌<◌, ◌≤◌, ◌≡◌, List, length, get_or, set, leb, eqb, cond}
+use Rattle.std.specs.Prelude.{ℕ, ◌+◌, ◌-◌, ◌*◌, ◌<◌, ◌≤◌, ◌≡◌, List, length, get_or, set, leb, eqb, cond, Result, Ok, Err}
 use Rattle.trace.specs.declared.Event.{Event}
 use Rattle.trace.specs.declared.Event.TheVariants.{Send, Recv, Save, Done}
+use Rattle.trace.specs.declared.Unfit.{Unfit}
+use Rattle.trace.specs.declared.Unfit.TheVariants.{NoProcess, Itself, NothingInTransit, TooManySaves, NothingToFinish}
 use Rattle.trace.specs.Trace.{sends_in, recvs_in, saves_in, dones_in}
 use Rattle.trace.specs.Fit.{event_fault}
 
@@ -16,6 +18,18 @@ pub record Tally (counts : List ℕ) (es : List Event) : Type 0 where
   pub transit : (p q : ℕ) → p < 64 → q < 64 → get_or counts (64 * p + q) 0 + recvs_in p q es ≡ sends_in p q es
   pub saved : (z : ℕ) → z < 64 → get_or counts (4096 + z) 0 ≡ saves_in z es
   pub finished : (z : ℕ) → z < 64 → get_or counts (4160 + z) 0 ≡ dones_in z es
+
+-- the number of what is wrong with an event (MANUAL 2.4), and 0 where nothing is
+abbrev pub number_of : Unfit → ℕ
+number_of NoProcess = 3
+number_of Itself = 4
+number_of NothingInTransit = 5
+number_of TooManySaves = 6
+number_of NothingToFinish = 15
+
+abbrev pub number_or_zero : Result Unit Unfit → ℕ
+number_or_zero (Ok _) = 0
+number_or_zero (Err unfit) = number_of unfit
 
 -- what is wrong with an event, by the counters: 3, 4, 5, 6 or 15, or 0
 unfoldable pub fault_by : ℕ → List ℕ → Event → ℕ

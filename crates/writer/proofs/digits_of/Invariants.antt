@@ -1,13 +1,7 @@
 -- `writer::digits_of` meets its contract: the digits from place i on, and what is left of the number.
-use mathlib.Core.Path.{◌≡◌}
-use mathlib.Core.List.{◌++◌}
-use Prim.Native.Nat.{◌≤◌}
-use lib.ListN.{length, drop}
+use Rattle.std.proofs.Common.{◌≡◌, ◌++◌, length, drop}
 use Rattle.text.specs.Number.{last_digits, decimal}
 use Rattle.writer.proofs.digits_of.Given as goal
 
 abbrev pub invariant-loop-i : goal.invariant-loop-i
-invariant-loop-i l = (l.i ≤ 20) × (length l.digits ≡ 20) × (last_digits l.i l.v ++ drop l.i l.digits ≡ decimal l.n)
-
-abbrev pub decreases-loop-i : goal.decreases-loop-i
-decreases-loop-i l = l.i
+invariant-loop-i l = (length l.digits ≡ 20) × (last_digits l.i l.v ++ drop l.i l.digits ≡ decimal l.n)

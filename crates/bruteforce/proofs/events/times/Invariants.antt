@@ -1,10 +1,6 @@
--- `times` meets its contract: one event more is counted with each turn.
-use Rattle.std.proofs.Common.{◌≡◌, ◌-◌, ◌≤◌}
+use Rattle.std.proofs.Common.{◌≡◌, ◌≤◌}
 use Rattle.bruteforce.specs.Counts.{times_of}
 use Rattle.bruteforce.proofs.events.times.Given as goal
 
 abbrev pub invariant-loop-i : goal.invariant-loop-i
-invariant-loop-i l = (l.i ≤ l.upto) × (l.n ≤ l.i) × (l.n ≡ times_of l.events l.w l.i)
-
-abbrev pub decreases-loop-i : goal.decreases-loop-i
-decreases-loop-i l = l.upto - l.i
+invariant-loop-i l = (l.n ≤ l.i) × (l.n ≡ times_of l.events l.w l.i)
