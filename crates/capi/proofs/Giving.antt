@@ -21,13 +21,11 @@ use Rattle.restart.specs.declared.Restarted.{Restarted}
 use Rattle.restart.specs.Restart.{engine_line_of, restart_of, restart_answer, Restarts}
 use Rattle.messages.specs.declared.Counted.{Counted}
 use Rattle.messages.specs.Meaning.{Lists}
-use Rattle.writer.specs.Inner.Puts.{Puts}
 use Rattle.writer.specs.Buffer.{room, written}
-use Rattle.writer.proofs.Buffers.{same_bytes, whole}
 use Rattle.capi.specs.Answers.{restart_numbers, messages_numbers, replay_numbers, lowest_answer, ExactIn, LowestExactIn, AtMostIn, CarriesOutIn, CompletedIn, restart_given, RestartsIn, ListsIn, LowestEqualIn, EqualIn}
 
-pub answer_is : (vs ws before after : List ℕ) (next : ℕ) → vs ≡ ws → Puts vs before 0 after next → after ≡ written ws before
-answer_is vs ws before after next e h = (whole ws before after next (same_bytes vs ws before after 0 next e h)).0
+pub answer_is : (vs ws before after : List ℕ) → vs ≡ ws → after ≡ written vs before → after ≡ written ws before
+answer_is vs ws before after e h = rw e at h
 
 -- ---- Steps in a slice
 

@@ -4,7 +4,7 @@ use Rattle.std.specs.Prelude.{ℕ, ◌≤◌, ◌≡◌, ◌↔◌, List, [], �
 use Rattle.words.specs.Area.{area_words, words_from}
 use Rattle.reader.specs.declared.Answer.{Answer}
 use Rattle.reader.specs.declared.FailureAnswer.{FailureAnswer}
-use Rattle.rendering.specs.declared.WriteAnswer.{WriteAnswer}
+use Rattle.rendering.specs.Write.{WriteAnswer}
 use Rattle.recovery_line.specs.declared.Line.{Line}
 use Rattle.table.specs.Held.{held}
 use Rattle.orders.specs.Record.{faultless_at, list_in}

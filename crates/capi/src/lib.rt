@@ -3,8 +3,7 @@
 // room (specs/Answers). No function has a `requires`. Assumes nothing.
 #![tactic(auto)]
 
-ghost use Rattle.std.specs.Prelude.{◌≡◌, ◌+◌, ◌≤◌, [], ◌∷◌, length, get_or, cond};
-ghost use Rattle.writer.specs.Inner.Puts.{Puts};
+ghost use Rattle.std.specs.Prelude.{◌≡◌, ◌≤◌, length};
 ghost use Rattle.writer.specs.Buffer.{room, written};
 ghost use Rattle.reader.specs.Answer.{read_answer, read_area};
 ghost use Rattle.reader.specs.Failure.{failure_answer, failure_area};
@@ -23,102 +22,29 @@ ghost use Rattle.capi.specs.Answers.{line_given, read_numbers, failure_numbers, 
 use orders::Replayed;
 use recovery_line::Line;
 use restart::Restarted;
+use writer::Sink;
 
-// As `writer::put`, for numbers: a full slice takes no more.
-fn put(answer: &mut [u64], at: usize, v: u64) -> usize
-    ensures { Puts (v ∷ []) answer.old at answer.new result }
+// Numbers into the slice of an answer, from its front.
+fn put_numbers(answer: &mut [u64], numbers: &[u64])
+    ensures { answer.new ≡ written numbers.now answer.old }
 {
-    if at < answer.len() {
-        answer[at] = v;
-        return at + 1;
-    }
-    at
-}
-
-fn wide(x: u32) -> u64
-    ensures { result ≡ x }
-{
-    x as u64
-}
-
-// Words that all have room.
-fn copy_words(answer: &mut [u64], at: usize, words: &[u32]) -> usize
-    requires { at + length words.now ≤ length answer.old }
-    ensures { Puts words.now answer.old at answer.new result }
-{
-    let mut i: usize = 0;
-    while i < words.len() {
-        answer[at + i] = wide(words[i]);
-        i += 1;
-    }
-    at + i
-}
-
-// Words of which perhaps not all have room.
-fn put_each(answer: &mut [u64], at: usize, words: &[u32]) -> usize
-    ensures { Puts words.now answer.old at answer.new result }
-{
-    let mut next = at;
-    let mut i: usize = 0;
-    while i < words.len() {
-        next = put(answer, next, wide(words[i]));
-        i += 1;
-    }
-    next
-}
-
-// A full slice is left as it is; where all words have room, one test serves for all of them.
-fn put_words(answer: &mut [u64], at: usize, words: &[u32]) -> usize
-    ensures { Puts words.now answer.old at answer.new result }
-{
-    if at >= answer.len() {
-        return at;
-    }
-    if words.len() <= answer.len() - at {
-        return copy_words(answer, at, words);
-    }
-    put_each(answer, at, words)
-}
-
-fn put_three(answer: &mut [u64], a: u64, b: u64, c: u64) -> usize
-    ensures { Puts (a ∷ b ∷ c ∷ []) answer.old 0 answer.new result }
-{
-    let second = put(answer, 0, a);
-    let third = put(answer, second, b);
-    put(answer, third, c)
-}
-
-fn put_four(answer: &mut [u64], a: u64, b: u64, c: u64, d: u64) -> usize
-    ensures { Puts (a ∷ b ∷ c ∷ d ∷ []) answer.old 0 answer.new result }
-{
-    let fourth = put_three(answer, a, b, c);
-    put(answer, fourth, d)
-}
-
-fn one_if(yes: bool) -> u64
-    ensures { result ≡ cond yes 1 0 }
-{
-    if yes { 1 } else { 0 }
-}
-
-fn number_at(numbers: &[u32], z: usize) -> u32
-    ensures { result ≡ get_or numbers.now z 0 }
-{
-    if z < numbers.len() { numbers[z] } else { 0 }
+    let mut sink = Sink {
+        out: answer,
+        next: 0,
+    };
+    sink.put_all(numbers);
 }
 
 // A line from the slice of its numbers.
 fn line_from(numbers: &[u32]) -> Line
     ensures { result ≡ line_given numbers.now }
 {
-    let mut epochs = [0u32; 64];
-    let mut z: usize = 0;
-    while z < 64 {
-        epochs[z] = number_at(numbers, z);
-        z += 1;
+    let mut epochs = [0; 64];
+    for (z, epoch) in epochs.iter_mut().enumerate() {
+        *epoch = numbers.get(z).copied().unwrap_or(0);
     }
     Line {
-        epochs: epochs,
+        epochs,
         count: numbers.len(),
     }
 }
@@ -133,7 +59,7 @@ pub extern "C" fn hallback_read(text: &[u8], table: &mut [u32], answer: &mut [u6
     ensures refuses { ReadRefusesIn text.now (length table.old) result answer.new }
 {
     let a = reader::read(text, table);
-    put(answer, 0, a.place as u64);
+    put_numbers(answer, &[a.place as u64]);
     a.number
 }
 
@@ -148,7 +74,7 @@ pub extern "C" fn hallback_read_failure(text: &[u8], table: &mut [u32], answer: 
     ensures refuses { FailureRefusesIn text.now (length table.old) result answer.new }
 {
     let a = reader::read_failure(text, table);
-    put_three(answer, a.place as u64, a.step, a.set);
+    put_numbers(answer, &[a.place as u64, a.step, a.set]);
     a.number
 }
 
@@ -160,28 +86,34 @@ pub extern "C" fn hallback_write(table: &[u32], out: &mut [u8], answer: &mut [u6
     ensures numbers { answer.new ≡ written (write_numbers (write_answer table.now (length out.old))) answer.old }
     ensures trip { RoundTrip table.now out.old (write_answer table.now (length out.old)) out.new }
 {
-    let w = rendering::write(table, out);
-    let second = put(answer, 0, w.place as u64);
-    put(answer, second, w.length as u64);
-    w.number
+    match rendering::write(table, out) {
+        Ok(length) => {
+            put_numbers(answer, &[0, length as u64]);
+            0
+        }
+        Err(refused) => {
+            put_numbers(answer, &[refused.place as u64, 0]);
+            refused.refusal.number()
+        }
+    }
 }
 
-fn put_restart(answer: &mut [u64], r: Restarted) -> usize
-    ensures { Puts (restart_numbers r) answer.old 0 answer.new result }
+fn put_restart(answer: &mut [u64], r: Restarted)
+    ensures { answer.new ≡ written (restart_numbers r) answer.old }
 {
-    let numbers = r.line.epochs;
-    let epochs = r.epochs;
-    let phases = r.phases;
-    let to_numbers = put_four(
-        answer,
+    let mut sink = Sink {
+        out: answer,
+        next: 0,
+    };
+    sink.put_all(&[
         r.place as u64,
         r.line.count as u64,
-        wide(r.back),
+        u64::from(r.back),
         r.going,
-    );
-    let to_epochs = put_words(answer, to_numbers, &numbers);
-    let to_phases = put_words(answer, to_epochs, &epochs);
-    put_words(answer, to_phases, &phases)
+    ]);
+    sink.put_words(&r.line.epochs);
+    sink.put_words(&r.epochs);
+    sink.put_words(&r.phases);
 }
 
 // The greatest line without a lost message. Answer: place, count, back, the set of those that go back; then 64 words
@@ -213,20 +145,25 @@ pub extern "C" fn hallback_messages(
     ensures means { ListsIn (run_of table.now step (line_given line.now)) result answer.new run.new }
 {
     let c = messages::messages(table, step, set, line_from(line), run);
-    put_four(
+    put_numbers(
         answer,
-        c.place as u64,
-        wide(c.orphans),
-        wide(c.kept),
-        wide(c.lost),
+        &[
+            c.place as u64,
+            u64::from(c.orphans),
+            u64::from(c.kept),
+            u64::from(c.lost),
+        ],
     );
     c.number
 }
 
-fn put_replayed(answer: &mut [u64], r: Replayed) -> usize
-    ensures { Puts (replay_numbers r) answer.old 0 answer.new result }
+fn put_replayed(answer: &mut [u64], r: Replayed)
+    ensures { answer.new ≡ written (replay_numbers r) answer.old }
 {
-    put_three(answer, r.place as u64, r.steps as u64, one_if(r.complete))
+    put_numbers(
+        answer,
+        &[r.place as u64, r.steps as u64, u64::from(r.complete)],
+    );
 }
 
 // An order carried out from a line, its delivery record in the run area. Answer: place, steps, 1 if complete.

@@ -12,274 +12,248 @@
 // what `libc` assumes.
 #![tactic(auto)]
 
-ghost use Rattle.std.specs.Prelude.{◌<◌, ◌≤◌};
+ghost use Rattle.std.specs.Prelude.{◌≤◌};
 ghost use Rattle.bruteforce.specs.Counts.{SmallRun};
 
 use answers::{right_replay, same_answer, widened};
 use bestline::Best;
 use bruteforce::Failure;
 use sequences::{put_trace, sequence};
+use words::AREA_WORDS;
+
+// How many bytes hold the text of every trace here.
+const TEXT_BYTES: usize = 192;
+
+// A trace of few events.
+#[derive(Clone, Copy)]
+struct Trace {
+    count: u32,
+    events: [u32; 7],
+    size: u32,
+    ghost few_processes: { count ≤ 3 },
+    ghost few_events: { size ≤ 7 },
+}
+
+impl Trace {
+    // Whether traces of so many events are many: more than 5 of two processes, more than 4 of three.
+    fn is_long(&self) -> bool {
+        self.count + self.size > 7
+    }
+
+    // The set of all processes, which is also the last of the sets.
+    fn everyone(&self) -> u64
+        ensures { result ≤ 7 }
+    {
+        if self.count == 2 { 3 } else { 7 }
+    }
+
+    // The first cut that is looked at: the cuts before the last are those of shorter traces.
+    fn first_cut(&self) -> u32 {
+        if self.is_long() { self.size } else { 0 }
+    }
+
+    // Its text, and how many bytes that has.
+    fn text(&self) -> ([u8; TEXT_BYTES], usize)
+        ensures { result.1 ≤ TEXT_BYTES }
+    {
+        let mut text = [0; TEXT_BYTES];
+        let n = put_trace(&mut text, self.count, &self.events, self.size);
+        (text, n)
+    }
+
+    // The failure of the processes of a set right after event `cut`.
+    fn failure(&self, cut: u32, set: u64) -> Failure
+        requires { cut ≤ 7 }
+        ensures { SmallRun result }
+    {
+        Failure {
+            count: self.count,
+            events: self.events,
+            size: self.size,
+            cut,
+            set,
+        }
+    }
+}
 
 // What is counted: traces that are fit, sequences that the reader is to refuse, failures whose answer was compared,
-// lines judged for them, orders replayed, and comparisons in which the engine and brute force differ.
-const TRACES: usize = 0;
-
-const REFUSED: usize = 1;
-
-const FAILURES: usize = 2;
-
-const LINES: usize = 3;
-
-const REPLAYS: usize = 4;
-
-const DIFFER: usize = 5;
-
-// No count reaches 2^64.
-fn add(tally: &mut [u64; 6], which: usize, n: u32)
-    requires { which < 6 }
-{
-    tally[which] = std::num::wrapping_add_u64(tally[which], n as u64);
+// lines judged for them, orders replayed, and comparisons in which the engine and brute force differ. None reaches
+// 2^64.
+#[derive(Clone, Copy, Default)]
+struct Tally {
+    traces: u64,
+    refused: u64,
+    failures: u64,
+    lines: u64,
+    replays: u64,
+    differ: u64,
 }
 
-// A comparison: what is not right is counted.
-fn expect(tally: &mut [u64; 6], right: bool) {
-    if !right {
-        add(tally, DIFFER, 1);
+impl Tally {
+    // A comparison: what is not right is counted.
+    fn expect(&mut self, right: bool) {
+        self.differ = self.differ.wrapping_add(u64::from(!right));
     }
 }
 
-// The engine's answer beside the best line, which must itself be one that is permitted and loses nothing.
-fn compare(f: Failure, table: &[u32; 16384], tally: &mut [u64; 6]) -> Best
-    requires { SmallRun f }
-{
-    let b = bestline::best_line(f);
-    add(tally, LINES, b.judged);
-    expect(tally, b.reached);
-    let r = restart::restart(table, f.cut as u64, f.set);
-    add(tally, FAILURES, 1);
-    expect(tally, same_answer(f.count, b, r));
-    b
+// The table area of a trace, the record of its run without failure, a run area, and what was counted.
+#[derive(Drop)]
+struct Bench {
+    table: [u32; AREA_WORDS],
+    faultless: [u32; AREA_WORDS],
+    run: [u32; AREA_WORDS],
+    tally: Tally,
 }
 
-// Replays the lowest order from a line. No record has a first word other than 0: an area that the replay leaves as it
-// was is told by it.
-fn replay(
-    f: Failure,
-    line: &[u32; 4],
-    table: &[u32; 16384],
-    faultless: &[u32; 16384],
-    run: &mut [u32; 16384],
-    tally: &mut [u64; 6],
-)
-    requires { SmallRun f }
-{
-    run[0] = 7;
-    let r = recovery::lowest(table, f.cut as u64, f.set, widened(f.count, line), run);
-    let same = checks::same_words(faultless, run);
-    add(tally, REPLAYS, 1);
-    expect(tally, right_replay(f, line, r, same));
-}
+impl Bench {
+    // The engine's answer beside the best line, which must itself be one that is permitted and loses nothing.
+    fn compare(&mut self, f: Failure) -> Best
+        requires { SmallRun f }
+    {
+        let b = bestline::best_line(f);
+        self.tally.lines = self.tally.lines.wrapping_add(u64::from(b.judged));
+        self.tally.expect(b.reached);
+        let r = restart::restart(&self.table, u64::from(f.cut), f.set);
+        self.tally.failures = self.tally.failures.wrapping_add(1);
+        self.tally.expect(same_answer(f.count, b, r));
+        b
+    }
 
-// From every line of two processes.
-fn replay_all(
-    f: Failure,
-    table: &[u32; 16384],
-    faultless: &[u32; 16384],
-    run: &mut [u32; 16384],
-    tally: &mut [u64; 6],
-)
-    requires { SmallRun f }
-{
-    let mut line = [0u32; 4];
-    let end = bestline::codes(f.count);
-    let mut x = 0;
-    while x < end {
-        if bestline::may_replay(f, x, &mut line) {
-            replay(f, &line, table, faultless, run, tally);
+    // Replays the lowest order from a line. No record has a first word other than 0: an area that the replay leaves as
+    // it was is told by it.
+    fn replay(&mut self, f: Failure, line: &[u32; 4])
+        requires { SmallRun f }
+    {
+        self.run[0] = 7;
+        let from = widened(f.count, line);
+        let r = recovery::lowest(&self.table, u64::from(f.cut), f.set, from, &mut self.run);
+        self.tally.replays = self.tally.replays.wrapping_add(1);
+        self.tally
+            .expect(right_replay(f, line, r, self.faultless == self.run));
+    }
+
+    // From every line of two processes.
+    fn replay_all(&mut self, f: Failure)
+        requires { SmallRun f }
+    {
+        let mut line = [0; 4];
+        for x in 0..bestline::codes(f.count) {
+            if bestline::may_replay(f, x, &mut line) {
+                self.replay(f, &line);
+            }
         }
-        x += 1;
     }
-}
 
-// The set of all processes, which is also the last of the sets.
-fn everyone(count: u32) -> u64
-    ensures { result ≤ 7 }
-{
-    if count == 2 { 3 } else { 7 }
-}
-
-// Three processes have too many lines: from the best line, from the highest where it loses a message, and from the
-// lowest where all failed.
-fn replay_some(
-    f: Failure,
-    best: &[u32; 4],
-    table: &[u32; 16384],
-    faultless: &[u32; 16384],
-    run: &mut [u32; 16384],
-    tally: &mut [u64; 6],
-)
-    requires { SmallRun f }
-{
-    replay(f, best, table, faultless, run, tally);
-    let mut line = [0u32; 4];
-    bestline::highest(f, &mut line);
-    if bruteforce::loses(f, &line) {
-        replay(f, &line, table, faultless, run, tally);
+    // Three processes have too many lines: from the best line, from the highest where it loses a message, and from the
+    // lowest where all failed.
+    fn replay_some(&mut self, f: Failure, best: &[u32; 4], all: u64)
+        requires { SmallRun f }
+    {
+        self.replay(f, best);
+        let mut line = [0; 4];
+        bestline::highest(f, &mut line);
+        if bruteforce::loses(f, &line) {
+            self.replay(f, &line);
+        }
+        if f.set == all {
+            self.replay(f, &[1, 1, 1, 0]);
+        }
     }
-    if f.set == everyone(f.count) {
-        replay(f, &[1, 1, 1, 0], table, faultless, run, tally);
-    }
-}
 
-// Whether sequences of so many events are many: more than 5 of two processes, more than 4 of three.
-fn long(count: u32, size: u32) -> bool
-    requires { (count ≤ 3) × (size ≤ 7) }
-{
-    count + size > 7
-}
-
-// One failure.
-fn check_failure(
-    f: Failure,
-    table: &[u32; 16384],
-    faultless: &[u32; 16384],
-    run: &mut [u32; 16384],
-    tally: &mut [u64; 6],
-)
-    requires { SmallRun f }
-{
-    let b = compare(f, table, tally);
-    if long(f.count, f.size) {
-        return;
-    }
-    if f.count == 2 {
-        replay_all(f, table, faultless, run, tally);
-    } else {
-        let best = b.line;
-        replay_some(f, &best, table, faultless, run, tally);
-    }
-}
-
-// Every failed set at a cut.
-fn check_sets(
-    count: u32,
-    events: &[u32; 7],
-    size: u32,
-    cut: u32,
-    table: &[u32; 16384],
-    faultless: &[u32; 16384],
-    run: &mut [u32; 16384],
-    tally: &mut [u64; 6],
-)
-    requires { (count ≤ 3) × (size ≤ 7) × (cut ≤ 7) }
-{
-    let all = everyone(count);
-    let mut set: u64 = 0;
-    while set < all {
-        set += 1;
-        let f = Failure {
-            count: count,
-            events: *events,
-            size: size,
-            cut: cut,
-            set: set,
-        };
-        check_failure(f, table, faultless, run, tally);
-    }
-}
-
-// The first cut that is looked at: the cuts before the last are those of shorter traces.
-fn first_cut(count: u32, size: u32) -> u32
-    requires { (count ≤ 3) × (size ≤ 7) }
-    ensures { result ≤ size }
-{
-    if long(count, size) { size } else { 0 }
-}
-
-// The cuts of a trace.
-fn check_cuts(count: u32, events: &[u32; 7], size: u32, table: &[u32; 16384], tally: &mut [u64; 6])
-    requires { (count ≤ 3) × (size ≤ 7) }
-{
-    let mut faultless = [0u32; 16384];
-    bruteforce::record(events, size, &mut faultless);
-    let mut run = [0u32; 16384];
-    let mut cut = first_cut(count, size);
-    while cut <= size {
-        check_sets(count, events, size, cut, table, &faultless, &mut run, tally);
-        cut += 1;
-    }
-}
-
-// Writes the text of a sequence of events and reads it.
-fn read(count: u32, events: &[u32; 7], size: u32, table: &mut [u32; 16384]) -> reader::Answer
-    requires { size ≤ 7 }
-{
-    let mut text = [0u8; 192];
-    let n = put_trace(&mut text, count, events, size);
-    reader::read(&text[..n], table)
-}
-
-// Whether the text of a sequence of events is what writing the area that it was read into gives.
-fn comes_back(count: u32, events: &[u32; 7], size: u32, table: &[u32; 16384]) -> bool
-    requires { size ≤ 7 }
-{
-    let mut text = [0u8; 192];
-    let n = put_trace(&mut text, count, events, size);
-    let mut out = [roundtrip::BEFORE; 192];
-    roundtrip::comes_back(table, &text[..n], &mut out)
-}
-
-// A trace that is fit: its text is to come back.
-fn check_trace(count: u32, events: &[u32; 7], size: u32, table: &[u32; 16384], tally: &mut [u64; 6])
-    requires { (count ≤ 3) × (size ≤ 7) }
-{
-    add(tally, TRACES, 1);
-    expect(tally, comes_back(count, events, size, table));
-    check_cuts(count, events, size, table, tally);
-}
-
-// One sequence of events: the reader is to accept it, or to refuse it, with 5 or 15 at the line of the first event that
-// is unfit. Of long ones, those that are unfit are passed over.
-fn check_sequence(count: u32, x: u32, table: &mut [u32; 16384], tally: &mut [u64; 6])
-    requires { (2 ≤ count) × (count ≤ 3) }
-{
-    let mut events = [0u32; 7];
-    let size = sequence(count, x, &mut events);
-    let v = bruteforce::verdict(&events, size);
-    if v.number != 0 {
-        if long(count, size) {
+    // One failure.
+    fn check_failure(&mut self, trace: Trace, cut: u32, set: u64)
+        requires { cut ≤ 7 }
+    {
+        let f = trace.failure(cut, set);
+        let b = self.compare(f);
+        if trace.is_long() {
             return;
         }
-        add(tally, REFUSED, 1);
+        if f.count == 2 {
+            self.replay_all(f);
+        } else {
+            self.replay_some(f, &b.line, trace.everyone());
+        }
     }
-    let r = read(count, &events, size, table);
-    expect(tally, r.number == v.number);
-    expect(tally, r.place == v.place as usize);
-    if v.number == 0 {
-        check_trace(count, &events, size, table, tally);
+
+    // Whether writing the area that a trace was read into gives its text.
+    fn comes_back(&self, trace: Trace) -> bool {
+        let (text, n) = trace.text();
+        let mut out = [roundtrip::BEFORE; TEXT_BYTES];
+        roundtrip::comes_back(&self.table, &text[..n], &mut out)
+    }
+
+    // A trace that is fit: its text is to come back; and every failed set at its cuts.
+    fn check_trace(&mut self, trace: Trace) {
+        self.tally.traces = self.tally.traces.wrapping_add(1);
+        let back = self.comes_back(trace);
+        self.tally.expect(back);
+        self.faultless.fill(0);
+        bruteforce::record(&trace.events, trace.size, &mut self.faultless);
+        self.run.fill(0);
+        for cut in trace.first_cut()..trace.size + 1 {
+            for set in 1..trace.everyone() + 1 {
+                self.check_failure(trace, cut, set);
+            }
+        }
+    }
+
+    // The reader is to accept a trace, or to refuse it, with 5 or 15 at the line of the first event that is unfit. Of
+    // long ones, those that are unfit are passed over.
+    fn check(&mut self, trace: Trace) {
+        let verdict = bruteforce::verdict(&trace.events, trace.size);
+        if verdict.is_some() && trace.is_long() {
+            return;
+        }
+        let (text, n) = trace.text();
+        let r = reader::read(&text[..n], &mut self.table);
+        match verdict {
+            Some(refusal) => {
+                self.tally.refused = self.tally.refused.wrapping_add(1);
+                self.tally.expect(r.number == refusal.fault as u32);
+                self.tally.expect(r.place == refusal.place as usize);
+            }
+            None => {
+                self.tally.expect(r.number == 0);
+                self.tally.expect(r.place == 0);
+                self.check_trace(trace);
+            }
+        }
     }
 }
 
-fn print_tally(tally: &[u64; 6]) {
-    checks::print(
-        b" traces=# refused=# failures=# lines=# replays=# differ=#\n",
-        tally,
-    );
-}
-
-// The sequences with numbers below `end`, and a line with what was counted.
+// The sequences of events with numbers below `end`, and a line with what was counted.
 fn check_processes(count: u32, end: u32)
     requires { (2 ≤ count) × (count ≤ 3) }
 {
-    let mut tally = [0u64; 6];
-    let mut table = [0u32; 16384];
-    let mut x = 0;
-    while x < end {
-        check_sequence(count, x, &mut table, &mut tally);
-        x += 1;
+    let mut bench = Bench {
+        table: [0; AREA_WORDS],
+        faultless: [0; AREA_WORDS],
+        run: [0; AREA_WORDS],
+        tally: Tally::default(),
+    };
+    for x in 0..end {
+        let mut events = [0; 7];
+        let size = sequence(count, x, &mut events);
+        bench.check(Trace {
+            count,
+            events,
+            size,
+        });
     }
-    checks::print(b"procs=#", &[count as u64]);
-    print_tally(&tally);
+    let tally = bench.tally;
+    checks::print(
+        b"procs=# traces=# refused=# failures=# lines=# replays=# differ=#\n",
+        &[
+            u64::from(count),
+            tally.traces,
+            tally.refused,
+            tally.failures,
+            tally.lines,
+            tally.replays,
+            tally.differ,
+        ],
+    );
 }
 
 // Two processes can do 8 things: 1 + 8 + .. + 8^7 sequences; three can do 18: 1 + 18 + .. + 18^4.

@@ -12,30 +12,14 @@ use words::AREA_WORDS;
 // What every area holds before a reading.
 const BEFORE: u32 = 7;
 
-// 1 where word i of an area is there and is not v.
-fn differs(area: &[u32], i: usize, v: u32) -> u64
-    ensures { result ≤ 1 }
-{
-    if i >= area.len() {
-        return 0;
-    }
-    if area[i] == v { 0 } else { 1 }
-}
-
 // How many words of an area, from a place to another, are not v.
 fn others(area: &[u32], from: usize, to: usize, v: u32) -> u64 {
-    let mut n: u64 = 0;
-    let mut i = from;
-    while i < to {
-        n += differs(area, i, v);
-        i += 1;
-    }
-    n
+    area.iter().take(to).skip(from).filter(|w| **w != v).count() as u64
 }
 
 fn print_answer(name: &[u8], a: reader::Answer) {
     io::write_all(1, name);
-    checks::print(b" # #", &[a.number as u64, a.place as u64]);
+    checks::print(b" # #", &[u64::from(a.number), a.place as u64]);
 }
 
 // Reads a text into an area of 16,400 words.
@@ -43,8 +27,8 @@ fn case(name: &[u8], text: &[u8]) {
     let mut area = [BEFORE; 16400];
     let a = reader::read(text, &mut area);
     print_answer(name, a);
-    let left = others(&area, 0, 16384, 0);
-    let past = others(&area, 16384, 16400, BEFORE);
+    let left = others(&area, 0, AREA_WORDS, 0);
+    let past = others(&area, AREA_WORDS, 16400, BEFORE);
     checks::print(b" # #\n", &[left, past]);
     print_back(text);
 }
@@ -67,18 +51,12 @@ fn print_back(text: &[u8]) {
     }
 }
 
-fn print_word(i: usize, w: u32) {
-    if w != 0 {
-        checks::print(b"word # #\n", &[i as u64, w as u64]);
-    }
-}
-
 // The words of an area from a place on that are not 0.
 fn print_words(area: &[u32], from: usize) {
-    let mut i = from;
-    while i < area.len() {
-        print_word(i, area[i]);
-        i += 1;
+    for (i, w) in area.iter().enumerate().skip(from) {
+        if *w != 0 {
+            checks::print(b"word # #\n", &[i as u64, u64::from(*w)]);
+        }
     }
 }
 
@@ -98,10 +76,8 @@ fn repeat(text: &mut [u8], from: usize, piece: &[u8], times: usize) -> usize
     ensures { IsPrefixLen result text.new }
 {
     let mut at = from;
-    let mut i = 0;
-    while i < times {
+    for _ in 0..times {
         at = checks::put(text, at, piece, &[]);
-        i += 1;
     }
     at
 }
@@ -116,15 +92,10 @@ fn joined(name: &[u8], first: &[u8], lines: &[u8]) {
 
 // A case for each row `NAME:LINES;`: the first lines and then its own.
 fn rows(first: &[u8], list: &[u8]) {
-    let mut at = 0;
-    while at < list.len() {
-        let c = checks::find(list, at, b':');
-        if c >= list.len() {
-            return;
+    for row in list.split(|b| *b == b';') {
+        if let Some(c) = row.iter().position(|b| *b == b':') {
+            joined(&row[..c], first, &row[c + 1..]);
         }
-        let e = checks::find(list, c + 1, b';');
-        joined(&list[at..c], first, &list[c + 1..e]);
-        at = e + 1;
     }
 }
 

@@ -31,7 +31,8 @@ fn print_back(text: &[u8]) {
 fn print_report(text: &[u8]) {
     let mut out = [0u8; program::REPORT_BYTES];
     let r = report::report(text, &mut out);
-    io::write_all(1, &out[..checks::most(&out, r.length)]);
+    let n = r.length.min(out.len());
+    io::write_all(1, &out[..n]);
     print_back(text);
     io::write_all(1, b"-\n");
 }
@@ -51,9 +52,8 @@ fn print_zeros(count: usize) {
     let read = [0u8; program::READ_BYTES];
     let mut out = [0u8; program::REPORT_BYTES];
     let r = program::respond(&read, count, &mut out);
-    let n = r.length;
-    io::write_all(1, &out[..n]);
-    checks::print(b"status=#\n-\n", &[r.status as u64]);
+    io::write_all(1, &out[..r.length]);
+    checks::print(b"status=#\n-\n", &[u64::from(r.status)]);
 }
 
 // The program's own limit: of 65,537 bytes nothing is read, and of 65,536 the first line is. The library's report has

@@ -81,19 +81,6 @@ pair_tested n a b c rest h =
     (λ m. rw (lt-ltb a n l, lt-leb n a l, le-ltb b n m, le-leb n b m)))
     (λ l. rw (le-ltb a n l, le-leb n a l))
 
-pub pair_within : (n a b : ℕ) → pair_fits n a b ≡ true → (a < n) × (b < n)
-pair_within n a b h =
-    let r = and_right (ltb a n) _ h in
-    (ltb-true a n (and_left (ltb a n) _ h), ltb-true b n (and_left (ltb b n) _ r))
-
--- the ways out of `done_noted`, of a process
-module _ (n : ℕ) (work : List ℕ) (a : ℕ) (l : a < n) where
-  pub all_finished : get_or work a 0 ≤ get_or work (128 + a) 0 → false ≡ fit_in n work (Done a)
-  all_finished h = rw (lt-ltb a n l, le-ltb (get_or work (128 + a) 0) (get_or work a 0) h)
-
-  pub one_unfinished : get_or work (128 + a) 0 < get_or work a 0 → fit_in n work (Done a) ≡ true
-  one_unfinished h = rw (lt-ltb a n l, lt-ltb (get_or work (128 + a) 0) (get_or work a 0) h)
-
 module _ (n : ℕ) (es : List Event) (full work : List ℕ) (N : Noted n es full work) where
   abbrev t : Trace
   t = so_far n es

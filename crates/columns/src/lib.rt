@@ -12,6 +12,8 @@ ghost use Rattle.columns.specs.Inner.Columns.{full_words};
 ghost use Rattle.columns.specs.Inner.Full.{procs_w, match_w};
 ghost use Rattle.columns.specs.Inner.Filling.{work_words, placed, stored, or_new, send_full, send_work, recv_full, recv_work, local_full, local_work, note_full, note_work, oldest_of, pair_fits, fit_in, LocalNotable, Notable, Storable, Awaits};
 
+use trace::Event;
+
 // Where the columns of the full table begin: the word of event e is at the base + e.
 pub const NUMBER_BASE: usize = 6163;
 
@@ -75,7 +77,15 @@ fn event_no(words: &[u16], k: usize) -> usize
     requires { (k < length words.now) × (get_or words.now k 0 ≤ 2048) }
     ensures { (result ≡ get_or words.now k 0) × (result ≤ 2048) }
 {
-    words[k] as usize
+    usize::from(words[k])
+}
+
+// The oldest send in transit to a from b, 0 where there is none.
+fn oldest(work: &[u16], a: usize, b: usize) -> u16
+    requires { (a < 64) × (b < 64) × (length work.now ≡ work_words) }
+    ensures { result ≡ oldest_of work.now a b }
+{
+    work[OLDEST + (64 * b + a)]
 }
 
 // Stores the columns of event e, all but its number.
@@ -97,18 +107,6 @@ fn store(full: &mut [u32], e: usize, number: u32, epoch: u32, phase: u32, mate: 
     place(full, e, epoch, phase, mate);
 }
 
-fn or_new(old: u16, e: u16) -> u16
-    ensures { result ≡ or_new old e }
-{
-    if old == 0 { e } else { old }
-}
-
-fn larger(a: u32, b: u32) -> u32
-    ensures { result ≡ max a b }
-{
-    if a < b { b } else { a }
-}
-
 // Is a message logged that was sent in one epoch and received in another: it is decided here, and every layer above
 // reads what this says.
 fn is_logged(sent: u32, received: u32) -> bool
@@ -123,11 +121,7 @@ fn joined_phase(logged: bool, own: u32, carried: u32) -> u32
     ensures phase { result ≡ joined logged own carried }
     ensures bound { result < 65536 }
 {
-    if logged {
-        larger(own, carried + 1)
-    } else {
-        larger(own, carried)
-    }
+    own.max(carried + u32::from(logged))
 }
 
 // Event e, a send of a to b.
@@ -138,12 +132,20 @@ fn note_send(full: &mut [u32], work: &mut [u16], e: usize, a: usize, b: usize)
 {
     let c = 64 * a + b;
     let latest = event_no(work, LATEST + c);
-    let oldest = or_new(work[OLDEST + c], e as u16);
+    let waiting = oldest(work, b, a);
+    let first = if waiting == 0 { e as u16 } else { waiting };
     let number = full[NUMBER_BASE + latest] + 1;
-    store(full, e, number, work[a] as u32, work[PHASES + a] as u32, 0);
+    store(
+        full,
+        e,
+        number,
+        u32::from(work[a]),
+        u32::from(work[PHASES + a]),
+        0,
+    );
     work[NEXT + latest] = e as u16;
     work[LATEST + c] = e as u16;
-    work[OLDEST + c] = oldest;
+    work[OLDEST + c] = first;
 }
 
 // Event e, a receive of a from b: the channel's oldest send d is matched with it.
@@ -155,12 +157,12 @@ fn note_recv(full: &mut [u32], work: &mut [u16], e: usize, a: usize, b: usize)
     let c = 64 * b + a;
     let d = event_no(work, OLDEST + c);
     let next = work[NEXT + d];
-    let epoch = work[a] as u32;
+    let epoch = u32::from(work[a]);
     let logged = is_logged(full[EPOCH_BASE + d], epoch);
-    let phase = joined_phase(logged, work[PHASES + a] as u32, full[PHASE_BASE + d]);
+    let phase = joined_phase(logged, u32::from(work[PHASES + a]), full[PHASE_BASE + d]);
     place(full, e, epoch, phase, d as u32);
     full[MATCH_BASE + d] = e as u32;
-    full[LOGGED_BASE + e] = words::one_if(logged);
+    full[LOGGED_BASE + e] = u32::from(logged);
     work[PHASES + a] = phase as u16;
     work[OLDEST + c] = next;
 }
@@ -174,7 +176,7 @@ fn note_local(full: &mut [u32], work: &mut [u16], e: usize, a: usize, up: u16)
     let epoch = work[a] + up;
     let phase = work[PHASES + a] + up;
     let finished = work[FINISHED + a] + (1 - up);
-    store(full, e, 0, epoch as u32, phase as u32, 0);
+    store(full, e, 0, u32::from(epoch), u32::from(phase), 0);
     work[a] = epoch;
     work[PHASES + a] = phase;
     work[FINISHED + a] = finished;
@@ -184,104 +186,49 @@ fn note_local(full: &mut [u32], work: &mut [u16], e: usize, a: usize, up: u16)
 fn pair_fits(procs: usize, a: usize, b: usize) -> bool
     ensures { result ≡ pair_fits procs a b }
 {
-    if a >= procs {
-        return false;
-    }
-    if b >= procs {
-        return false;
-    }
-    a != b
+    a < procs && b < procs && a != b
 }
 
-// Notes event e, a send of a to b, if it is fit after those that were noted; whether that is so. Where it is not,
-// nothing changes.
-pub fn send_noted(
-    full: &mut [u32],
-    work: &mut [u16],
-    procs: usize,
-    e: usize,
-    a: usize,
-    b: usize,
-) -> bool
+// Is an event fit after those that were noted: there is a message to take where one is in transit; a process's 31st
+// checkpoint would begin epoch 32; and there is one to finish where a later epoch than the latest finished one has
+// begun.
+fn fits(work: &[u16], procs: usize, event: Event) -> bool
+    requires { (procs ≤ 64) × (length work.now ≡ work_words) }
+    ensures { result ≡ fit_in procs work.now event }
+{
+    match event {
+        Event::Send { at, to, val: _ } => pair_fits(procs, at as usize, to as usize),
+        Event::Recv { at, from } => {
+            let (a, b) = (at as usize, from as usize);
+            pair_fits(procs, a, b) && oldest(work, a, b) != 0
+        }
+        Event::Save { at } => {
+            let a = at as usize;
+            a < procs && work[a] < 31
+        }
+        Event::Done { at } => {
+            let a = at as usize;
+            a < procs && work[FINISHED + a] < work[a]
+        }
+    }
+}
+
+// Notes event e, if it is fit after those that were noted; whether that is so. Where it is not, nothing changes.
+pub fn note(full: &mut [u32], work: &mut [u16], procs: usize, e: usize, event: Event) -> bool
     requires { Awaits procs full.old work.old e }
-    ensures answer { result ≡ fit_in procs work.old (Send a b 0) }
+    ensures answer { result ≡ fit_in procs work.old event }
     ensures refused { result ≡ false → (full.new ≡ full.old) × (work.new ≡ work.old) }
-    ensures columns { result ≡ true → full.new ≡ note_full full.old work.old e (Send a b 0) }
-    ensures working { result ≡ true → work.new ≡ note_work full.old work.old e (Send a b 0) }
+    ensures columns { result ≡ true → full.new ≡ note_full full.old work.old e event }
+    ensures working { result ≡ true → work.new ≡ note_work full.old work.old e event }
 {
-    if !pair_fits(procs, a, b) {
+    if !fits(work, procs, event) {
         return false;
     }
-    note_send(full, work, e, a, b);
-    true
-}
-
-// The oldest send in transit to a from b, 0 where there is none.
-fn oldest(work: &[u16], a: usize, b: usize) -> u16
-    requires { (a < 64) × (b < 64) × (length work.now ≡ work_words) }
-    ensures { result ≡ oldest_of work.now a b }
-{
-    work[OLDEST + (64 * b + a)]
-}
-
-// Event e, a receive of a from b, likewise: there is one to take where a message is in transit.
-pub fn recv_noted(
-    full: &mut [u32],
-    work: &mut [u16],
-    procs: usize,
-    e: usize,
-    a: usize,
-    b: usize,
-) -> bool
-    requires { Awaits procs full.old work.old e }
-    ensures answer { result ≡ fit_in procs work.old (Recv a b) }
-    ensures refused { result ≡ false → (full.new ≡ full.old) × (work.new ≡ work.old) }
-    ensures columns { result ≡ true → full.new ≡ note_full full.old work.old e (Recv a b) }
-    ensures working { result ≡ true → work.new ≡ note_work full.old work.old e (Recv a b) }
-{
-    if !pair_fits(procs, a, b) {
-        return false;
+    match event {
+        Event::Send { at, to, val: _ } => note_send(full, work, e, at as usize, to as usize),
+        Event::Recv { at, from } => note_recv(full, work, e, at as usize, from as usize),
+        Event::Save { at } => note_local(full, work, e, at as usize, 1),
+        Event::Done { at } => note_local(full, work, e, at as usize, 0),
     }
-    if oldest(work, a, b) == 0 {
-        return false;
-    }
-    note_recv(full, work, e, a, b);
-    true
-}
-
-// Event e, a checkpoint of a, likewise: its 31st would begin epoch 32.
-pub fn save_noted(full: &mut [u32], work: &mut [u16], procs: usize, e: usize, a: usize) -> bool
-    requires { Awaits procs full.old work.old e }
-    ensures answer { result ≡ fit_in procs work.old (Save a) }
-    ensures refused { result ≡ false → (full.new ≡ full.old) × (work.new ≡ work.old) }
-    ensures columns { result ≡ true → full.new ≡ note_full full.old work.old e (Save a) }
-    ensures working { result ≡ true → work.new ≡ note_work full.old work.old e (Save a) }
-{
-    if a >= procs {
-        return false;
-    }
-    if work[a] >= 31 {
-        return false;
-    }
-    note_local(full, work, e, a, 1);
-    true
-}
-
-// Event e, the end of a checkpoint of a, likewise: there is one to finish where a later epoch than the latest finished
-// one has begun.
-pub fn done_noted(full: &mut [u32], work: &mut [u16], procs: usize, e: usize, a: usize) -> bool
-    requires { Awaits procs full.old work.old e }
-    ensures answer { result ≡ fit_in procs work.old (Done a) }
-    ensures refused { result ≡ false → (full.new ≡ full.old) × (work.new ≡ work.old) }
-    ensures columns { result ≡ true → full.new ≡ note_full full.old work.old e (Done a) }
-    ensures working { result ≡ true → work.new ≡ note_work full.old work.old e (Done a) }
-{
-    if a >= procs {
-        return false;
-    }
-    if work[FINISHED + a] >= work[a] {
-        return false;
-    }
-    note_local(full, work, e, a, 0);
     true
 }

@@ -11,9 +11,9 @@ use lib.ListN.{length, length-append, drop, get_or}
 use lib.Seq.{get_or-drop}
 use borrow.Author.Tests.{le-leb, eq-eqb, ne_eqb}
 use Rattle.words.proofs.Cases.{by_bool, by_lt, by_eq}
-use Rattle.text.specs.declared.Num.{Num}
-use Rattle.text.specs.declared.Num.TheVariants.{Value, Refused}
-use Rattle.text.specs.Number.{is_digit, pushed, digit_step, digits_from, number_step, number_at, last_digits, decimal}
+use Rattle.std.specs.Prelude.{Option, Some, None}
+use Rattle.text.specs.declared.Numeral.{Numeral}
+use Rattle.text.specs.Number.{read_to, is_digit, pushed, digit_step, digits_from, number_step, number_at, last_digits, decimal}
 use Rattle.text.proofs.Numbers.{digit_low, digit_high, pushed_fits, pushed_over, last_small, last_more, last_push}
 
 pub last_none : (v : ℕ) → last_digits 0 v ≡ []
@@ -23,12 +23,12 @@ last_none v = refl
 -- ---- from reading to text
 
 -- a number read from the bytes x at a place: its decimal stands there, and it is at most the bound
-abbrev pub Reads : ℕ → ℕ → List ℕ → Num → Type 0
-Reads bound at x (Value v p) = (rest : List ℕ) × (x ≡ decimal v ++ rest) × (p ≡ at + length (decimal v)) × (v ≤ bound)
-Reads bound at x Refused = Unit
+abbrev pub Reads : ℕ → ℕ → List ℕ → Option Numeral → Type 0
+Reads bound at x (Some n) = (rest : List ℕ) × (x ≡ decimal n.value ++ rest) × (n.end ≡ at + length (decimal n.value)) × (n.value ≤ bound)
+Reads bound at x None = Unit
 
 -- a digit c after the bytes `before`, whose value is v: with it the value is w
-digit_reads : (bound v c w at p : ℕ) (before x : List ℕ) (stop : Num) → w ≡ v * 10 + (c - 48) → p ≡ at + length before + 1
+digit_reads : (bound v c w at p : ℕ) (before x : List ℕ) (stop : Option Numeral) → w ≡ v * 10 + (c - 48) → p ≡ at + length before + 1
     → (w ≤ bound → (decimal w ≡ before ++ c ∷ []) × Reads bound at (decimal w ++ x) (digits_from bound w (at + length (decimal w)) x))
     → Reads bound at (before ++ c ∷ x) (digit_step true (pushed v c bound) stop (λ u. digits_from bound u p x))
 digit_reads bound v c w at p before x stop ew ep more =
@@ -56,7 +56,7 @@ digits_reads bound v at (c ∷ x) r z h =
     (λ n. rw n (c ∷ x, refl, refl, h))
 
 -- `number_at` over the bytes x that stand at the place
-abbrev pub number_of : ℕ → ℕ → List ℕ → Num
+abbrev pub number_of : ℕ → ℕ → List ℕ → Option Numeral
 number_of bound at x = number_step (is_digit (get_or x 0 256)) (eqb (get_or x 0 256) 48) (is_digit (get_or x 1 256)) at (digits_from bound 0 at x)
 
 pub number_drop : (text : List ℕ) (at bound : ℕ) → number_at text at bound ≡ number_of bound at (drop at text)
@@ -126,13 +126,13 @@ leading (suc r) v rest z h =
     (λ l. rw (last_small r v l) (omega arith))
     (λ g. rw (last_more r v g, append_assoc) (leading r (v / 10) ((48 + v % 10) ∷ rest) (omega arith) (omega arith)))
 
-digits_stop : (bound v at : ℕ) (rest : List ℕ) → is_digit (get_or rest 0 256) ≡ false → digits_from bound v at rest ≡ Value v at
+digits_stop : (bound v at : ℕ) (rest : List ℕ) → is_digit (get_or rest 0 256) ≡ false → digits_from bound v at rest ≡ read_to v at
 unfolding digits_from
 digits_stop bound v at [] h = refl
 digits_stop bound v at (c ∷ rest) h = rw h
 
 pub decimal_read : (bound at v : ℕ) (rest : List ℕ) → bound < 10 ^ 20 → v ≤ bound → is_digit (get_or rest 0 256) ≡ false
-    → number_of bound at (decimal v ++ rest) ≡ Value v (at + length (decimal v))
+    → number_of bound at (decimal v ++ rest) ≡ read_to v (at + length (decimal v))
 decimal_read bound at v rest r h n =
     by_eq v 0
     (λ e. rw (e, last_small 19 0 (omega arith), digit_of 48 (omega arith) (omega arith), n))

@@ -10,8 +10,8 @@ use lib.ListN.{length, length-append, drop, drop_of_length-le, get_or}
 use lib.Seq.{drop-drop, drop-append_seam}
 use borrow.Author.Tests.{ltb-true, eq-eqb, ne_eqb}
 use Rattle.words.proofs.Cases.{by_bool, by_eq}
-use Rattle.text.specs.declared.Num.{Num}
-use Rattle.text.specs.declared.Num.TheVariants.{Value, Refused}
+use Rattle.std.specs.Prelude.{Option, Some, None}
+use Rattle.text.specs.declared.Numeral.{Numeral}
 use Rattle.text.specs.Number.{is_digit, decimal}
 use Rattle.text.specs.Key.{starts_with, field_at}
 use Rattle.text.proofs.Keys.{key_split}
@@ -47,15 +47,15 @@ module _ (bound : ℕ) (room : ltb bound (10 ^ 20) ≡ true) (l : List ℕ) wher
   field_number at key y s =
       rw (s.bytes, split_key key y) (number_drop l (at + length key) bound ∙ ap (number_of bound (at + length key)) (behind_more key y s).bytes)
 
-  no_field : (at : ℕ) (key x : List ℕ) → Behind l at x → starts_with x key ≡ false → field_at l at key bound ≡ Refused
+  no_field : (at : ℕ) (key x : List ℕ) → Behind l at x → starts_with x key ≡ false → field_at l at key bound ≡ None
   unfolding field_at
   no_field at key x s f = rw (s.bytes, f)
 
   read_number : (P : Line → Type 0) (at : ℕ) (y : List ℕ) (next : ℕ → ℕ → Line) → Behind l at y → P Malformed
       → ((v p : ℕ) (rest : List ℕ) → y ≡ decimal v ++ rest → Behind l p rest → v ≤ bound → P (next v p))
-      → (n : Num) → Reads bound at y n → P (then_line n next)
-  read_number P at y next s wrong good (Value v p) r = good v p r.0 r.1 (rw r.2 (behind_more (decimal v) r.0 (rw r.1 at s))) r.3
-  read_number P at y next s wrong good Refused r = wrong
+      → (n : Option Numeral) → Reads bound at y n → P (then_line n next)
+  read_number P at y next s wrong good (Some n) r = good n.value n.end r.0 r.1 (rw r.2 (behind_more (decimal n.value) r.0 (rw r.1 at s))) r.3
+  read_number P at y next s wrong good None r = wrong
 
   -- to show P of what is read from here on: for a malformed line, and for what follows a field that stands here
   pub read_field : (P : Line → Type 0) (at : ℕ) (key x : List ℕ) (next : ℕ → ℕ → Line) → Behind l at x → P Malformed

@@ -9,7 +9,7 @@ use lib.ListN.{length}
 use borrow.Author.Tests.{ne_eqb, not-true}
 use Rattle.words.proofs.Cases.{by_lt, and_left, and_right, and_both}
 use Rattle.text.specs.Number.{last_digits, decimal}
-use Rattle.text.specs.declared.LineEnd.TheVariants.{At}
+use Rattle.std.specs.Prelude.{Some}
 use Rattle.text.specs.Inner.Line.{lf_from}
 use Rattle.text.proofs.Numbers.{last_small, last_more}
 use Rattle.trace.specs.declared.Event.{Event}
@@ -25,12 +25,12 @@ plain [] = true
 plain (b ∷ l) = not (eqb b 10) && plain l
 
 -- the first LF behind bytes without one
-pub plain_end : (at : ℕ) (l rest : List ℕ) → plain l ≡ true → lf_from at (l ++ 10 ∷ rest) ≡ At (at + length l)
+pub plain_end : (at : ℕ) (l rest : List ℕ) → plain l ≡ true → lf_from at (l ++ 10 ∷ rest) ≡ Some (at + length l)
 unfolding lf_from plain
-plain_end at [] rest h = ap At (omega arith)
+plain_end at [] rest h = ap Some (omega arith)
 plain_end at (b ∷ l) rest h =
     rw (not-true (eqb b 10) (and_left (not (eqb b 10)) (plain l) h))
-    (plain_end (at + 1) l rest (and_right (not (eqb b 10)) (plain l) h) ∙ ap At (omega arith))
+    (plain_end (at + 1) l rest (and_right (not (eqb b 10)) (plain l) h) ∙ ap Some (omega arith))
 
 plain_append : (a b : List ℕ) → plain a ≡ true → plain b ≡ true → plain (a ++ b) ≡ true
 unfolding plain

@@ -1,8 +1,7 @@
 -- What a line of the text says. A line is its bytes without the LF that ends it. Quotations are from the requirements
 -- (MANUAL 2).
-use Rattle.std.specs.Prelude.{ℕ, List, Bool, true, false, cond, length, eqb}
-use Rattle.text.specs.declared.Num.{Num}
-use Rattle.text.specs.declared.Num.TheVariants.{Value, Refused}
+use Rattle.std.specs.Prelude.{ℕ, List, Bool, true, false, cond, length, eqb, Option, Some, None}
+use Rattle.text.specs.declared.Numeral.{Numeral}
 use Rattle.text.specs.Number.{number_at}
 use Rattle.text.specs.Bytes.{bytes_of}
 use Rattle.text.specs.Key.{key_at, field_at}
@@ -52,9 +51,9 @@ abbrev pub most_set : ℕ
 most_set = 18446744073709551615
 
 -- what follows a number that was read, or no line
-abbrev pub then_line : Num → (ℕ → ℕ → Line) → Line
-then_line (Value v p) next = next v p
-then_line Refused next = Malformed
+abbrev pub then_line : Option Numeral → (ℕ → ℕ → Line) → Line
+then_line (Some n) next = next n.value n.end
+then_line None next = Malformed
 
 -- the line ends here
 abbrev pub when_end : Bool → Line → Line

@@ -1,8 +1,8 @@
 -- The latest finished epochs, counted one event after another: `finished_at`.
-use mathlib.Core.Path.{◌≡◌, sym, ◌∙◌}
+use mathlib.Core.Path.{◌≡◌, sym, ap, ◌∙◌}
 use mathlib.Core.Bool.{true, false}
 use mathlib.Core.List.{List}
-use Prim.Native.Nat.{ℕ, suc, ◌+◌, ◌≤◌, ◌<◌}
+use Prim.Native.Nat.{ℕ, suc, ◌+◌, ◌-◌, ◌≤◌, ◌<◌}
 use native.Mathlib.Omega.{arith}
 use native.Mathlib.Numerals.{add-one}
 use lib.ListN.{length, get_or, set, replicate, length-replicate, get_or-replicate}
@@ -42,7 +42,7 @@ finished_most t full G x f F l z lz = omega (arith, F.counts t G l z lz, cnt_bou
 
 module _ (full : List ℕ) (x : ℕ) (f : List ℕ) (F : FinishedEpochs full x f) (k : ℕ) (ek : k ≡ kind_w full (x + 1)) where
   -- an event that finishes no checkpoint
-  pub next_unfinished : (k ≡ 0 → ⊥) → FinishedEpochs full (x + 1) f
+  next_unfinished : (k ≡ 0 → ⊥) → FinishedEpochs full (x + 1) f
   next_unfinished n = record {
     counts = λ t G l z lz.
         let no : eqb (kind_w full (x + 1)) 0 ≡ false = ne_eqb (kind_w full (x + 1)) 0 (λ q. n (ek ∙ q)) in
@@ -51,7 +51,7 @@ module _ (full : List ℕ) (x : ℕ) (f : List ℕ) (F : FinishedEpochs full x f
   }
 
   -- one that finishes a checkpoint of y
-  pub next_finished : k ≡ 0 → (y : ℕ) → y ≡ at_w full (x + 1) → length f ≡ 64 → FinishedEpochs full (x + 1) (set f y (get_or f y 0 + 1))
+  next_finished : k ≡ 0 → (y : ℕ) → y ≡ at_w full (x + 1) → length f ≡ 64 → FinishedEpochs full (x + 1) (set f y (get_or f y 0 + 1))
   next_finished e y ey len = record {
     counts = λ t G l z lz.
         let yes : eqb (kind_w full (x + 1)) 0 ≡ true = eq-eqb (kind_w full (x + 1)) 0 (sym ek ∙ e) in
@@ -62,3 +62,21 @@ module _ (full : List ℕ) (x : ℕ) (f : List ℕ) (F : FinishedEpochs full x f
         (λ n. let v : finishes t z (suc x) ≡ false = s ∙ ne_eqb z y n in
         rw (get_or-set_other f y z (get_or f y 0 + 1) 0 n, add-one x) (omega (arith, F.counts t G (omega arith) z lz, cnt_skip (finishes t z) x v)));
   }
+
+-- ---- A turn of the loop, at event e
+
+module _ (full : List ℕ) (e : ℕ) (p : 0 < e) (f : List ℕ) (F : FinishedEpochs full (e - 1) f) (k : ℕ) (ek : k ≡ kind_w full e) where
+  before : e - 1 + 1 ≡ e
+  before = omega (arith, p)
+
+  next : e + 1 - 1 ≡ e
+  next = omega arith
+
+  kind_before : k ≡ kind_w full (e - 1 + 1)
+  kind_before = ek ∙ ap (λ (x : ℕ). kind_w full x) (sym before)
+
+  pub turn_unfinished : (k ≡ 0 → ⊥) → FinishedEpochs full (e + 1 - 1) f
+  turn_unfinished n = rw next (rw before at (next_unfinished full (e - 1) f F k kind_before n))
+
+  pub turn_finished : k ≡ 0 → (y : ℕ) → y ≡ at_w full e → length f ≡ 64 → FinishedEpochs full (e + 1 - 1) (set f y (get_or f y 0 + 1))
+  turn_finished z y ey len = rw next (rw before at (next_finished full (e - 1) f F k kind_before z y (ey ∙ ap (λ (x : ℕ). at_w full x) (sym before)) len))

@@ -1,7 +1,7 @@
 -- Events linked one after another: `link`.
 use mathlib.Core.Path.{◌≡◌, sym, ◌∙◌, ap}
 use mathlib.Core.List.{List}
-use Prim.Native.Nat.{ℕ, ◌+◌, ◌<◌}
+use Prim.Native.Nat.{ℕ, ◌+◌, ◌-◌, ◌≤◌, ◌<◌}
 use native.Mathlib.Omega.{arith}
 use lib.ListN.{length, get_or, set, length-set}
 use lib.Seq.{get_or-set_same, get_or-set_other}
@@ -21,7 +21,7 @@ linked_none t earlier latest a b h = record {
   };
 }
 
-pub linked_next : (t earlier latest : List ℕ) (x z : ℕ) → x < 2048 → z ≡ at_w t (x + 1) → Linked t x earlier latest
+linked_next : (t earlier latest : List ℕ) (x z : ℕ) → x < 2048 → z ≡ at_w t (x + 1) → Linked t x earlier latest
     → Linked t (x + 1) (set earlier (x + 1) (get_or latest z 0)) (set latest z (x + 1))
 linked_next t earlier latest x z few ez L = record {
   long = simp length-set L.long;
@@ -47,3 +47,11 @@ linked_next t earlier latest x z few ez L = record {
         others = λ w p q j. by_eq w (x + 1) (λ k. i (sym j ∙ ap (λ (v : ℕ). at_w t v) k ∙ sym ez)) (λ k. n.others w p (omega arith) j);
       }));
 }
+
+-- a turn of the loop, at event e
+pub linked_turn : (t earlier latest : List ℕ) (e z : ℕ) → 0 < e → e ≤ 2048 → z ≡ at_w t e → Linked t (e - 1) earlier latest
+    → Linked t (e + 1 - 1) (set earlier e (get_or latest z 0)) (set latest z e)
+linked_turn t earlier latest e z p few ez L =
+    let a : e - 1 + 1 ≡ e = omega (arith, p) in
+    let b : e + 1 - 1 ≡ e = omega arith in
+    rw b (rw a at (linked_next t earlier latest (e - 1) z (omega (arith, p, few)) (ez ∙ ap (λ (k : ℕ). at_w t k) (sym a)) L))

@@ -23,9 +23,7 @@ pub fn link(full: &[u32], cut: usize, earlier: &mut [u16], latest: &mut [u16])
     requires { Unlinked full.now cut earlier.old latest.old }
     ensures { Linked full.now cut earlier.new latest.new }
 {
-    let mut e: usize = 0;
-    while e < cut {
-        e += 1;
+    for e in 1..cut + 1 {
         let z = trace::process(full[EVENT_BASE + e]);
         earlier[e] = latest[z];
         latest[z] = e as u16;
@@ -37,11 +35,10 @@ pub fn finished_at(full: &[u32], cut: usize, finished: &mut [u32])
     requires { (t : Trace) × Uncounted t full.now cut finished.old }
     ensures { FinishedEpochs full.now cut finished.new }
 {
-    let mut e: usize = 0;
-    while e < cut {
-        e += 1;
+    for e in 1..cut + 1 {
         let w = full[EVENT_BASE + e];
-        if trace::kind(w) == DONE {
+        let done = trace::kind(w) == DONE;
+        if done {
             finished[trace::process(w)] += 1;
         }
     }
@@ -59,16 +56,30 @@ fn after(full: &[u32], base: usize, e: usize) -> u32
     full[base + e]
 }
 
+// What is read of the first processes at their newest events, by a function of a process and its newest event; 0 past
+// the last.
+fn at_newest<F: Fn(usize, usize) -> u32>(latest: &[u16], count: usize, out: &mut [u32], read: F)
+    requires long { length out.old ≡ 64 }
+    requires wide { length latest.now ≡ 64 }
+    requires readable { (z : ℕ) → z < 64 → F.pre read z (get_or latest.now z 0) }
+    ensures first { (z : ℕ) → z < 64 → z < count → F.post read z (get_or latest.now z 0) (get_or out.new z 0) }
+    ensures others { (z : ℕ) → z < 64 → count ≤ z → get_or out.new z 0 ≡ 0 }
+{
+    for (z, word) in out.iter_mut().enumerate() {
+        *word = if z < count {
+            read(z, usize::from(latest[z]))
+        } else {
+            0
+        };
+    }
+}
+
 // The epochs of the first processes after their newest events; 0 past the last.
 pub fn epochs_at(full: &[u32], latest: &[u16], count: usize, epochs: &mut [u32])
     requires { NewestRanged full.now epochs.old latest.now }
     ensures { (z : ℕ) → z < 64 → get_or epochs.new z 0 ≡ cond (ltb z count) (after_w full.now epoch_base (get_or latest.now z 0)) 0 }
 {
-    let mut z: usize = 0;
-    while z < 64 {
-        epochs[z] = words::or_zero(z < count, after(full, EPOCH_BASE, latest[z] as usize));
-        z += 1;
-    }
+    at_newest(latest, count, epochs, |_, e| after(full, EPOCH_BASE, e));
 }
 
 // The phase of a process at its restart, from its newest event e before that: the checkpoint that it goes back to has
@@ -78,10 +89,7 @@ pub fn restart_phase(full: &[u32], number: u32, e: usize) -> u32
     ensures { result ≡ restart_phase full.now number e }
 {
     let phase = after(full, PHASE_BASE, e);
-    if number == STAYS {
-        return phase;
-    }
-    if number == 1 {
+    if number == STAYS || number == 1 {
         return phase;
     }
     phase + 1
@@ -98,19 +106,17 @@ pub fn restart_phases(
     requires { NewestRanged full.now phases.old latest.now × (length numbers.now ≡ 64) × PhasesFew full.now latest.now }
     ensures { (z : ℕ) → z < 64 → get_or phases.new z 0 ≡ cond (ltb z count) (restart_phase full.now (get_or numbers.now z 0) (get_or latest.now z 0)) 0 }
 {
-    let mut z: usize = 0;
-    while z < 64 {
-        phases[z] = words::or_zero(
-            z < count,
-            restart_phase(full, numbers[z], latest[z] as usize),
-        );
-        z += 1;
-    }
+    at_newest(
+        latest,
+        count,
+        phases,
+        |z, e| restart_phase(full, numbers[z], e),
+    );
 }
 
 // Of a process that goes back: its newest event before its restart, and its first event after that one; 0 where there
 // is none.
-#[derive(Clone, Copy)]
+#[derive(Clone, Copy, Debug, PartialEq, Eq)]
 pub struct Back {
     pub before: usize,
     pub first: usize,
@@ -124,19 +130,13 @@ pub fn go_back(full: &[u32], earlier: &[u16], number: u32, newest: usize) -> Bac
         → Walked full.now cut z number result.before result.first }
 {
     let mut e = newest;
-    let mut first: usize = 0;
+    let mut first = 0;
     while e != 0 {
         if full[EPOCH_BASE + e] < number {
-            return Back {
-                before: e,
-                first: first,
-            };
+            return Back { before: e, first };
         }
         first = e;
-        e = earlier[e] as usize;
+        e = usize::from(earlier[e]);
     }
-    Back {
-        before: 0,
-        first: first,
-    }
+    Back { before: 0, first }
 }

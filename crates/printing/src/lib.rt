@@ -1,5 +1,5 @@
-// The lines that the program prints, each from its numbers into a lent buffer, byte for byte by specs/Lines. (By `write!`
-// and `Display` the same lines take 1.6 to 2.4 times the instructions.) Assumes nothing.
+// The lines that the program prints, each from its numbers into a lent buffer, byte for byte by specs/Lines. (Tried by
+// `write!` and `Display`: the same lines take 1.6 to 2.4 times the instructions.) Assumes nothing.
 #![tactic(auto)]
 
 ghost use Rattle.std.specs.Prelude.{◌≡◌};

@@ -110,45 +110,44 @@ module _ (t : Trace) (a : List ℕ) (F : Fillable t a) where
 
 -- ---- `events_noted`
 
--- After e of n events that a table's words say: those are noted, and what is tested from here says what all tests say.
+-- Before event e of the n events that a table's words say: the earlier ones are noted, and what is tested from here says
+-- what all tests say.
 pub record Judged (a : List ℕ) (procs n : ℕ) (full work : List ℕ) (e : ℕ) : Type 0 where
-  pub most : e ≤ n
+  pub most : e ≤ n + 1
   pub few : n ≤ 2048
   pub events : List Event
-  pub count : length events ≡ e
+  pub count : length events + 1 ≡ e
   pub noted : Noted procs events full work
-  pub rest : fit_from procs events a (e + 1) (n + 1 - (e + 1)) ≡ fit_from procs [] a 1 n
-  pub all : events ++ held_events a (e + 1) (n - e) ≡ held_events a 1 n
+  pub rest : fit_from procs events a e (n + 1 - e) ≡ fit_from procs [] a 1 n
+  pub all : events ++ held_events a e (n + 1 - e) ≡ held_events a 1 n
   pub same : (k : ℕ) → k < 6163 → get_or full k 0 ≡ get_or a k 0
 
 module _ (a : List ℕ) (procs n : ℕ) where
-  pub none_judged : (work : List ℕ) → n ≤ 2048 → Noted procs [] a work → Judged a procs n a work 0
+  pub none_judged : (work : List ℕ) → n ≤ 2048 → Noted procs [] a work → Judged a procs n a work 1
   none_judged work few N =
       let q : n + 1 - 1 ≡ n = omega arith in
-      let r : n - 0 ≡ n = omega arith in
-      record { most = omega arith; few = few; events = []; count = refl; noted = N; rest = rw q; all = rw r; same = λ k h. refl }
+      record { most = omega arith; few = few; events = []; count = refl; noted = N; rest = rw q; all = rw q; same = λ k h. refl }
 
-  module _ (full work : List ℕ) (e : ℕ) (J : Judged a procs n full work e) (l : e < n) where
-    pub judged_awaits : Awaits procs full work (e + 1)
+  module _ (full work : List ℕ) (e : ℕ) (J : Judged a procs n full work e) (l : e ≤ n) where
+    pub judged_awaits : Awaits procs full work e
     judged_awaits = rw J.count at (noted_awaits procs J.events full work J.noted (omega (arith, J.count, J.few)))
 
     abbrev v : Event
-    v = held_event a (e + 1)
+    v = held_event a e
 
-    here : held_event full (e + 1) ≡ v
-    here = front_event a full J.same (e + 1) (omega (arith, J.few))
+    here : held_event full e ≡ v
+    here = front_event a full J.same e (omega (arith, J.few))
 
     -- the value's halves are words
-    module _ (low : get_or a (2065 + (e + 1)) 0 < 4294967296) (high : get_or a (4114 + (e + 1)) 0 < 4294967296)
-        (r : Bool) (er : r ≡ word_fits (fit_in procs work) (get_or full (16 + (e + 1)) 0) (held_value full (e + 1))) where
-      answer : r ≡ word_fits (fit_in procs work) (get_or a (16 + (e + 1)) 0) (held_value a (e + 1))
-      answer = er
-          ∙ rw (J.same (16 + (e + 1)) (omega (arith, J.few)), J.same (2065 + (e + 1)) (omega (arith, J.few)), J.same (4114 + (e + 1)) (omega (arith, J.few)))
+    module _ (low : get_or a (2065 + e) 0 < 4294967296) (high : get_or a (4114 + e) 0 < 4294967296)
+        (r : Bool) (er : r ≡ word_fits (fit_in procs work) (get_or full (16 + e) 0) (held_value full e)) where
+      answer : r ≡ word_fits (fit_in procs work) (get_or a (16 + e) 0) (held_value a e)
+      answer = er ∙ rw (J.same (16 + e) (omega (arith, J.few)), J.same (2065 + e) (omega (arith, J.few)), J.same (4114 + e) (omega (arith, J.few)))
 
-      turn : (r && fit_from procs (J.events ++ v ∷ []) a (e + 1 + 1) (n + 1 - (e + 1 + 1))) ≡ fit_from procs [] a 1 n
+      turn : (r && fit_from procs (J.events ++ v ∷ []) a (e + 1) (n + 1 - (e + 1))) ≡ fit_from procs [] a 1 n
       turn =
           rw answer
-          (sym (events_turn procs J.events a (e + 1) n (omega arith) (fit_in procs work) (noted_fit procs J.events full work J.noted v)
+          (sym (events_turn procs J.events a e n l (fit_in procs work) (noted_fit procs J.events full work J.noted v)
           (half_low _ _ low high) (half_high _ _ low high)) ∙ J.rest)
 
       pub judged_none : r ≡ false → false ≡ fit_from procs [] a 1 n
@@ -158,20 +157,20 @@ module _ (a : List ℕ) (procs n : ℕ) where
         fault : event_fault procs J.events v ≡ 0
         fault =
             eqb-true _ 0
-            (sym (noted_fit procs J.events full work J.noted v) ∙ fits_fit (fit_in procs work) (get_or a (16 + (e + 1)) 0) (held_value a (e + 1)) (sym answer ∙ yes))
+            (sym (noted_fit procs J.events full work J.noted v) ∙ fits_fit (fit_in procs work) (get_or a (16 + e) 0) (held_value a e) (sym answer ∙ yes))
 
         value_64 : value_fits v ≡ true
-        value_64 = value_fits_lem (get_or a (16 + (e + 1)) 0) (held_value a (e + 1)) (omega (arith, low, high))
+        value_64 = value_fits_lem (get_or a (16 + e) 0) (held_value a e) (omega (arith, low, high))
 
-        pub judged_one : (full' work' : List ℕ) → full' ≡ note_full full work (e + 1) (held_event full (e + 1)) → work' ≡ note_work full work (e + 1) (held_event full (e + 1))
+        pub judged_one : (full' work' : List ℕ) → full' ≡ note_full full work e (held_event full e) → work' ≡ note_work full work e (held_event full e)
             → Judged a procs n full' work' (e + 1)
         unfolding held_events
         judged_one full' work' ef ew =
             let A = judged_awaits in
-            let left : n - e ≡ suc (n - (e + 1)) = omega arith in
-            let after : e + 1 + 1 ≡ suc (e + 1) = omega arith in
-            let more : J.events ++ v ∷ held_events a (suc (e + 1)) (n - (e + 1)) ≡ held_events a 1 n
-            = subst (λ (m : ℕ). J.events ++ held_events a (e + 1) m ≡ held_events a 1 n) left J.all in
+            let left : n + 1 - e ≡ suc (n + 1 - (e + 1)) = omega arith in
+            let after : e + 1 ≡ suc e = omega arith in
+            let more : J.events ++ v ∷ held_events a (suc e) (n + 1 - (e + 1)) ≡ held_events a 1 n
+            = subst (λ (m : ℕ). J.events ++ held_events a e m ≡ held_events a 1 n) left J.all in
             record {
               most = omega arith;
               few = J.few;
@@ -179,21 +178,21 @@ module _ (a : List ℕ) (procs n : ℕ) where
               count = omega (arith, length-append J.events (v ∷ []), J.count);
               noted = noted_next procs J.events full work J.noted (omega (arith, J.count, J.few)) v fault value_64 full' work' (ef ∙ rw (here, J.count)) (ew ∙ rw (here, J.count));
               rest = rw yes at turn;
-              all = append_assoc J.events (v ∷ []) (held_events a (e + 1 + 1) (n - (e + 1))) ∙ rw after more;
+              all = append_assoc J.events (v ∷ []) (held_events a (e + 1) (n + 1 - (e + 1))) ∙ rw after more;
               same = λ k h. ap (λ (x : List ℕ). get_or x k 0) ef
-                  ∙ note_below full work (e + 1) A.storable.full_long A.storable.event_most (held_event full (e + 1)) k h ∙ J.same k h;
+                  ∙ note_below full work e A.storable.full_long A.storable.event_most (held_event full e) k h ∙ J.same k h;
             }
 
-  module _ (full work : List ℕ) (e : ℕ) (J : Judged a procs n full work e) (l : n ≤ e) where
+  module _ (full work : List ℕ) (e : ℕ) (J : Judged a procs n full work e) (l : n + 1 ≤ e) where
     pub judged_all : true ≡ fit_from procs [] a 1 n
-    judged_all = sym (events_end procs J.events a (e + 1) n (omega arith)) ∙ J.rest
+    judged_all = sym (events_end procs J.events a e n (omega arith)) ∙ J.rest
 
     pub judged_columns : n ≡ get_or a 1 0 → (t : Trace) → Fillable t a → Columns t full × Flagged t (logged_by t (rule_of t)) full
     unfolding held_events
     judged_columns c t F =
-        let none : n - e ≡ 0 = omega arith in
+        let none : n + 1 - e ≡ 0 = omega arith in
         let es : J.events ≡ t.events
-        = sym (append-nil J.events) ∙ subst (λ (m : ℕ). J.events ++ held_events a (e + 1) m ≡ held_events a 1 n) none J.all ∙ ap (held_events a 1) c ∙ fillable_events t a F in
+        = sym (append-nil J.events) ∙ subst (λ (m : ℕ). J.events ++ held_events a e m ≡ held_events a 1 n) none J.all ∙ ap (held_events a 1) c ∙ fillable_events t a F in
         noted_columns procs full work t F.formed (subst (λ (x : List Event). Noted procs x full work) es J.noted) (λ k h. J.same k h ∙ F.words k h)
 
 -- ---- `fill`: the number of event 0 is cleared, and the working words begin

@@ -14,66 +14,21 @@ ghost use Rattle.columns.specs.Inner.Filling.{note_full, note_work, fit_in, Note
 ghost use Rattle.protocol.specs.Inner.Fillable.{Fillable};
 
 use columns::{FULL_WORDS, NUMBER_BASE, ONES, TRACE_WORDS, WORK_WORDS};
-use table::{CHECKPOINT_WORD, DONE_WORD};
-use trace::{EVENT_BASE, HIGH_BASE, RECEIVE, SEND, VALUE_BASE};
-
-// Copies the first n words of an area.
-fn copy(area: &[u32], full: &mut [u32], n: usize)
-    requires { (n ≤ length area.now) × (n ≤ length full.old) }
-    ensures { (k : ℕ) → k < n → get_or full.new k 0 ≡ get_or area.now k 0 }
-{
-    let mut i = 0;
-    while i < n {
-        full[i] = area[i];
-        i += 1;
-    }
-}
-
-// Every process begins with epoch 1 and phase 1, and epoch 1 is finished.
-fn begin(work: &mut [u16])
-    requires { 192 ≤ length work.old }
-    ensures first { (k : ℕ) → k < 192 → get_or work.new k 0 ≡ 1 }
-    ensures others { (k : ℕ) → 192 ≤ k → get_or work.new k 0 ≡ get_or work.old k 0 }
-{
-    let mut i = 0;
-    while i < ONES {
-        work[i] = 1;
-        i += 1;
-    }
-}
+use trace::{EVENT_BASE, HIGH_BASE, VALUE_BASE};
 
 // Whether the word and the value of event e are those of an event that is fit after those that were noted; then notes
-// it. One test for each kind of word, so that the event's kind is asked once; a send alone has a value.
+// it.
 fn word_noted(full: &mut [u32], work: &mut [u16], procs: usize, e: usize) -> bool
     requires { Awaits procs full.old work.old e }
     ensures answer { result ≡ word_fits (fit_in procs work.old) (event_w full.old e) (held_value full.old e) }
     ensures columns { result ≡ true → full.new ≡ note_full full.old work.old e (held_event full.old e) }
     ensures working { result ≡ true → work.new ≡ note_work full.old work.old e (held_event full.old e) }
 {
-    let w = full[EVENT_BASE + e];
-    let top = trace::top(w);
-    let a = trace::process(w);
-    let b = trace::peer(w);
-    if top == SEND {
-        return columns::send_noted(full, work, procs, e, a, b);
-    }
-    if full[VALUE_BASE + e] != 0 {
+    let value = words::from_halves(full[VALUE_BASE + e], full[HIGH_BASE + e]);
+    let Some(event) = table::read_event(full[EVENT_BASE + e], value) else {
         return false;
-    }
-    if full[HIGH_BASE + e] != 0 {
-        return false;
-    }
-    if top == RECEIVE {
-        return columns::recv_noted(full, work, procs, e, a, b);
-    }
-    let above = trace::above(w);
-    if above == CHECKPOINT_WORD {
-        return columns::save_noted(full, work, procs, e, a);
-    }
-    if above != DONE_WORD {
-        return false;
-    }
-    columns::done_noted(full, work, procs, e, a)
+    };
+    columns::note(full, work, procs, e, event)
 }
 
 // Judges and notes each event that the words of a trace in the full table say, until one is not fit; whether all are.
@@ -84,9 +39,7 @@ fn events_noted(full: &mut [u32], work: &mut [u16]) -> bool
 {
     let procs = full[0] as usize;
     let n = full[1] as usize;
-    let mut e: usize = 0;
-    while e < n {
-        e += 1;
+    for e in 1..n + 1 {
         if !word_noted(full, work, procs, e) {
             return false;
         }
@@ -94,7 +47,7 @@ fn events_noted(full: &mut [u32], work: &mut [u16]) -> bool
     true
 }
 
-// The same with working words of its own.
+// The same with working words of its own: every process begins with epoch 1 and phase 1, and epoch 1 is finished.
 fn fill(full: &mut [u32]) -> bool
     requires { (length full.old ≡ full_words) × (2 ≤ procs_w full.old) × (procs_w full.old ≤ 64) × (events_w full.old ≤ 2048) }
     ensures answer { result ≡ fit_from (procs_w full.old) [] full.old 1 (events_w full.old) }
@@ -102,7 +55,7 @@ fn fill(full: &mut [u32]) -> bool
 {
     full[NUMBER_BASE] = 0;
     let mut work = [0u16; WORK_WORDS];
-    begin(&mut work);
+    work[..ONES].fill(1);
     events_noted(full, &mut work)
 }
 
@@ -122,7 +75,7 @@ pub fn tabulate(area: &[u32], full: &mut [u32]) -> bool
     if !table::frame_fits(area) {
         return false;
     }
-    copy(area, full, TRACE_WORDS);
+    full[..TRACE_WORDS].copy_from_slice(&area[..TRACE_WORDS]);
     fill(full)
 }
 

@@ -29,29 +29,28 @@ use Rattle.recovery_line.specs.Given.{line_in}
 use Rattle.orders.specs.Record.{record_at, list_in}
 use Rattle.orders.proofs.Records.{complete_record}
 use Rattle.orders.proofs.Told.{told}
-use Rattle.orders.specs.declared.Replayed.{Replayed}
-use Rattle.orders.specs.Answer.{answer_of, words_of}
+use Rattle.orders.specs.Answer.{Answered, answer_of, words_of}
 use Rattle.preparing.specs.Faults.{run_of, line_fault_of}
-use Rattle.recovery.specs.Answers.{refusal, replay_answer, replay_area, Equal, Recorded, SameLists, CarriesOut, StepsExact, StepsAtMost, Completed}
+use Rattle.recovery.specs.Answers.{refusal, replay_answer, replay_area, Equal, Recorded, SameLists, CarriesOut, StepsExact, StepsAtMost, Completed, Replays}
 
 module _ (a area : List ℕ) (step set : ℕ) (l : Line) (order : List ℕ) where
-  abbrev pub Answered : Replayed → List ℕ → Type 0
-  Answered r w =
-      (r ≡ replay_answer a area step set l order)
-      × ((w ≡ replay_area a area step set l order)
-      × (Equal a step l r w
-      × (StepsExact a step l r × (StepsAtMost a step l r × (CarriesOut a step l order r × (Recorded a step l order r.number w × SameLists a step l r w))))))
-
   -- a refusal changes nothing
-  pub refuses : (n : ℕ) (r : Replayed) → n ≡ line_fault_of a (length area) step set l → (n ≡ 0 → ⊥) → r ≡ refusal n → Answered r area
+  pub refuses : (n : ℕ) → n ≡ line_fault_of a (length area) step set l → (n ≡ 0 → ⊥) → Replays a area step set l order (refusal n) area
   unfolding replay_answer replay_area
-  refuses n r f z e =
-      let not_0 : r.number ≡ 0 → ⊥ = λ h. z (sym (ap (λ (x : Replayed). x.number) e) ∙ h) in
-      let none : r.steps ≡ 0 = ap (λ (x : Replayed). x.steps) e in
-      (e ∙ rw (← f, ne_eqb n 0 z), (rw (← f, ne_eqb n 0 z), (λ h c. absurd (not_0 h), (λ h c k. absurd (not_0 h), ((omega arith, omega arith), (λ h. absurd (not_0 h), (λ h. absurd (not_0 h), λ h c. absurd (not_0 h))))))))
+  refuses n f z =
+      record {
+        answer = rw (← f, ne_eqb n 0 z);
+        words = rw (← f, ne_eqb n 0 z);
+        equal = λ h c. absurd (z h);
+        exact = λ h c k. absurd (z h);
+        at_most = (omega arith, omega arith);
+        carried = λ h. absurd (z h);
+        recorded = λ h. absurd (z h);
+        same_lists = λ h c. absurd (z h);
+      }
 
-  pub not_completed : (n : ℕ) (r : Replayed) → n ≡ line_fault_of a (length area) step set l → (n ≡ 0 → ⊥) → Completed a (length area) step set l r
-  not_completed n r f z h = absurd (z (f ∙ h))
+  pub not_completed : (n : ℕ) → n ≡ line_fault_of a (length area) step set l → (n ≡ 0 → ⊥) → Completed a (length area) step set l (refusal n)
+  not_completed n f z h = absurd (z (f ∙ h))
 
   module _ (holds : holds_trace a ≡ true) (cl : step ≤ size (held a)) where
     abbrev R : Run
@@ -104,15 +103,24 @@ module _ (a area : List ℕ) (step set : ℕ) (l : Line) (order : List ℕ) wher
     carries_out (refused i) e n = absurd (let y : ⊥ = omega arith in y)
 
     -- the lowest order is carried out, and no choice is left
-    pub completed : (r : Replayed) → r ≡ answer_of R (run R (lowest_order R)) (length (lowest_order R)) → Completed a (length area) step set l r
+    pub completed : (r : Answered) → r ≡ answer_of R (run R (lowest_order R)) (length (lowest_order R)) → Completed a (length area) step set l r
     unfolding answer_of
     completed r e h =
         let (s, c, d) = lowest_order_lem R L in
         rw (e, c) (refl, (complete_iff R s).1 d, refl)
 
-    pub carried : (n : ℕ) (r : Replayed) (w : List ℕ) → n ≡ line_fault_of a (length area) step set l → n ≡ 0 → r ≡ answer_of R (run R order) (length order)
-        → w ≡ words_of R (run R order) → Answered r (w ++ drop area_words area)
+    pub carried : (r : Answered) (w : List ℕ) → 0 ≡ line_fault_of a (length area) step set l → r ≡ answer_of R (run R order) (length order)
+        → w ≡ words_of R (run R order) → Replays a area step set l order r (w ++ drop area_words area)
     unfolding replay_answer replay_area
-    carried n r w f z e q =
+    carried r w f e q =
         let steps = steps_counted (run R order) refl in
-        (e ∙ rw (← f, z), (ap (λ (x : List ℕ). x ++ drop 16384 area) q ∙ rw (← f, z), rw e (equal (run R order) refl w q, (steps.0, (steps.1, (carries_out (run R order) refl, (recorded (run R order) refl w q, same_lists (run R order) refl w q)))))))
+        rw e (record {
+          answer = rw (← f);
+          words = ap (λ (x : List ℕ). x ++ drop 16384 area) q ∙ rw (← f);
+          equal = equal (run R order) refl w q;
+          exact = steps.0;
+          at_most = steps.1;
+          carried = carries_out (run R order) refl;
+          recorded = recorded (run R order) refl w q;
+          same_lists = same_lists (run R order) refl w q;
+        })

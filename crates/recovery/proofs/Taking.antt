@@ -7,13 +7,13 @@ use Rattle.table.specs.Held.{held}
 use Rattle.theory.specs.Refusals.{line_fault}
 use Rattle.theory.proofs.Refusals.{failure_fit, line_fit}
 use Rattle.recovery_line.specs.Given.{line_in}
-use Rattle.restart.specs.declared.Restarted.{Restarted}
+use Rattle.restart.specs.Restart.{RestartAnswer}
 use Rattle.preparing.specs.Faults.{line_fault_of}
 use Rattle.protocol.proofs.Passes.{held_long}
 use Rattle.preparing.proofs.Preparing.{areas_fit}
 use Rattle.restart.proofs.Restarting.{Ready, count_in}
 
-module _ (a : List ℕ) (step set : ℕ) (r : Restarted) (G : Ready a step set r) where
+module _ (a : List ℕ) (step set : ℕ) (r : RestartAnswer) (G : Ready a step set r) where
   -- nothing is wrong with the engine's line, so that neither `messages` nor `lowest` refuses it
   pub not_refused : (room : ℕ) → area_words ≤ room → line_fault_of a room step set r.line ≡ 0
   unfolding line_fault_of

@@ -24,8 +24,7 @@ use Rattle.table.specs.Held.{held, holds_trace}
 use Rattle.table.specs.Inner.Held.{held_trace}
 use Rattle.table.proofs.Holding.{told, held_self, same_front}
 use Rattle.table.proofs.Claims.{held_iff, read_held, failing_held}
-use Rattle.rendering.specs.declared.WriteAnswer.{WriteAnswer}
-use Rattle.rendering.specs.Write.{text_of, write_fault, write_answer, write_buffer}
+use Rattle.rendering.specs.Write.{WriteAnswer, text_of, write_fault, write_answer, write_buffer}
 use Rattle.rendering.specs.Meaning.{SameArea, Restores, RestoresFailing, ComesBack, RoundTrip}
 use Rattle.rendering.proofs.Lengths.{text_few}
 

@@ -3,51 +3,19 @@ use Prim.Native.Nat.{ℕ, zero, suc, ◌+◌}
 use mathlib.Core.Path.{◌≡◌, refl, sym, ap, ◌∙◌}
 use mathlib.Core.List.{List, [], ◌∷◌, ◌++◌, append_assoc}
 use native.Mathlib.Omega.{arith}
-use native.Mathlib.Numerals.{add-one}
-use lib.ListN.{get_or}
-use Rattle.text.specs.Number.{decimal}
 use Rattle.trace.specs.declared.Event.{Event}
-use Rattle.trace.specs.declared.Event.TheVariants.{Send, Recv}
-use Rattle.words.specs.Halves.{from_halves}
-use Rattle.trace.specs.Table.{event_base, value_base}
-use Rattle.lines.specs.Line.{k_procs, k_send, k_to, k_val, k_recv, k_from}
 use Rattle.lines.specs.Render.{render_event}
-use Rattle.reader.specs.Render.{render_events, render}
-use Rattle.table.specs.Held.{event_of, held_event, held_events, held}
-use Rattle.writer.specs.Inner.Puts.{Puts}
-use Rattle.writer.proofs.Buffers.{none, then, same_bytes}
-use Rattle.rendering.specs.Write.{text_of}
+use Rattle.reader.specs.Render.{render_events}
+use Rattle.table.specs.Held.{held_event, held_events}
+use Rattle.writer.specs.declared.Sink.{Sink}
+use Rattle.writer.specs.Inner.Sinks.{Takes}
+use Rattle.writer.proofs.Buffers.{takes_none, takes_then, takes_same}
 
 -- ---- One line
 
-abbrev lf : List ℕ
-lf = 10 ∷ []
-
--- a key and its number after what stands before them
-then_pair : (xs k d o₀ o₁ o₂ : List ℕ) (p₀ p₁ p₂ : ℕ) → Puts xs o₀ p₀ o₁ p₁ → Puts (k ++ d) o₁ p₁ o₂ p₂ → Puts (xs ++ k ++ d) o₀ p₀ o₂ p₂
-then_pair xs k d o₀ o₁ o₂ p₀ p₁ p₂ g h = same_bytes _ _ o₀ o₂ p₀ p₂ (sym (append_assoc xs k d)) (then xs (k ++ d) o₀ o₁ o₂ p₀ p₁ p₂ g h)
-
-pub send_put : (a b v : ℕ) (o₀ o₁ o₂ o₃ o₄ : List ℕ) (p₀ p₁ p₂ p₃ p₄ : ℕ)
-    → Puts (k_send ++ decimal a) o₀ p₀ o₁ p₁ → Puts (k_to ++ decimal b) o₁ p₁ o₂ p₂ → Puts (k_val ++ decimal v) o₂ p₂ o₃ p₃ → Puts lf o₃ p₃ o₄ p₄
-    → Puts (render_event (Send a b v) ++ lf) o₀ p₀ o₄ p₄
-unfolding render_event
-send_put a b v o₀ o₁ o₂ o₃ o₄ p₀ p₁ p₂ p₃ p₄ ha hb hv he =
-    let tb = then_pair (k_send ++ decimal a) k_to (decimal b) o₀ o₁ o₂ p₀ p₁ p₂ ha hb in
-    let tv = then_pair (k_send ++ decimal a ++ k_to ++ decimal b) k_val (decimal v) o₀ o₂ o₃ p₀ p₂ p₃ tb hv in
-    then _ lf o₀ o₃ o₄ p₀ p₃ p₄ tv he
-
-pub recv_put : (a b : ℕ) (o₀ o₁ o₂ o₃ : List ℕ) (p₀ p₁ p₂ p₃ : ℕ)
-    → Puts (k_recv ++ decimal a) o₀ p₀ o₁ p₁ → Puts (k_from ++ decimal b) o₁ p₁ o₂ p₂ → Puts lf o₂ p₂ o₃ p₃
-    → Puts (render_event (Recv a b) ++ lf) o₀ p₀ o₃ p₃
-unfolding render_event
-recv_put a b o₀ o₁ o₂ o₃ p₀ p₁ p₂ p₃ ha hb he =
-    let tb = then_pair (k_recv ++ decimal a) k_from (decimal b) o₀ o₁ o₂ p₀ p₁ p₂ ha hb in
-    then _ lf o₀ o₂ o₃ p₀ p₂ p₃ tb he
-
--- a line with a process only, of a checkpoint or of the end of one, by its key
-pub process_put : (key : List ℕ) (a : ℕ) (o₀ o₁ o₂ : List ℕ) (p₀ p₁ p₂ : ℕ)
-    → Puts (key ++ decimal a) o₀ p₀ o₁ p₁ → Puts lf o₁ p₁ o₂ p₂ → Puts ((key ++ decimal a) ++ lf) o₀ p₀ o₂ p₂
-process_put key a o₀ o₁ o₂ p₀ p₁ p₂ ha he = then (key ++ decimal a) lf o₀ o₁ o₂ p₀ p₁ p₂ ha he
+-- a key and a number after what stands before them
+pub then_pair : {xs : List ℕ} {s₀ s₁ s₂ : Sink ℕ} (k d : List ℕ) → Takes xs s₀ s₁ → Takes (k ++ d) s₁ s₂ → Takes (xs ++ k ++ d) s₀ s₂
+then_pair {xs} k d g h = takes_same (sym (append_assoc xs k d)) (takes_then g h)
 
 -- ---- Line after line
 
@@ -58,33 +26,20 @@ events_snoc a i (suc n) =
     let q : suc i + n ≡ i + suc n = omega arith in
     ap (λ (es : List Event). held_event a i ∷ es) (events_snoc a (suc i) n ∙ rw q)
 
-render_snoc : (es : List Event) (e : Event) → render_events (es ++ e ∷ []) ≡ render_events es ++ (render_event e ++ lf)
+render_snoc : (es : List Event) (e : Event) → render_events (es ++ e ∷ []) ≡ render_events es ++ (render_event e ++ 10 ∷ [])
 unfolding render_events
 render_snoc [] e = refl
-render_snoc (x ∷ es) e = rw (render_snoc es e) (sym (append_assoc (render_event x) (10 ∷ render_events es) (render_event e ++ lf)))
+render_snoc (x ∷ es) e = rw (render_snoc es e) (sym (append_assoc (render_event x) (10 ∷ render_events es) (render_event e ++ 10 ∷ [])))
 
-pub lines_none : (a out : List ℕ) (at : ℕ) → Puts (render_events (held_events a 1 0)) out at out at
+-- the lines of the events before e, and its own
+pub lines_next : (a : List ℕ) (k e : ℕ) {s₀ s₁ s₂ : Sink ℕ} → e ≡ suc k → Takes (render_events (held_events a 1 k)) s₀ s₁
+    → Takes (render_event (held_event a e) ++ 10 ∷ []) s₁ s₂ → Takes (render_events (held_events a 1 e)) s₀ s₂
+lines_next a k e q g h =
+    let r : 1 + k ≡ e = omega arith in
+    let s : render_events (held_events a 1 (suc k)) ≡ render_events (held_events a 1 k) ++ (render_event (held_event a e) ++ 10 ∷ []) =
+    rw (events_snoc a 1 k, r) (render_snoc (held_events a 1 k) (held_event a e)) in
+    rw q (takes_same (sym s) (takes_then g h))
+
+pub lines_none : (a : List ℕ) (s : Sink ℕ) → Takes (render_events (held_events a 1 0)) s s
 unfolding render_events held_events
-lines_none a out at = none out at
-
-pub lines_next : (a : List ℕ) (i : ℕ) (out o₁ o₂ : List ℕ) (at p₁ p₂ : ℕ) → Puts (render_events (held_events a 1 i)) out at o₁ p₁
-    → Puts (render_event (event_of (get_or a (event_base + 1 + i) 0) (from_halves (get_or a (value_base 0 + 1 + i) 0) (get_or a (value_base 1 + 1 + i) 0))) ++ lf) o₁ p₁ o₂ p₂
-    → Puts (render_events (held_events a 1 (i + 1))) out at o₂ p₂
-lines_next a i out o₁ o₂ at p₁ p₂ g h =
-    let e = held_event a (1 + i) in
-    let w : event_base + 1 + i ≡ event_base + (1 + i) = omega arith in
-    let low : value_base 0 + 1 + i ≡ value_base 0 + (1 + i) = omega arith in
-    let high : value_base 1 + 1 + i ≡ value_base 1 + (1 + i) = omega arith in
-    let line : Puts (render_event e ++ lf) o₁ p₁ o₂ p₂ = rw (w, low, high) at h in
-    let s : render_events (held_events a 1 i) ++ (render_event e ++ lf) ≡ render_events (held_events a 1 (i + 1)) =
-    sym (rw (add-one i, events_snoc a 1 i) (render_snoc (held_events a 1 i) e)) in
-    same_bytes _ _ out o₂ at p₂ s (then (render_events (held_events a 1 i)) (render_event e ++ lf) out o₁ o₂ at p₁ p₂ g line)
-
--- ---- The whole text
-
-pub text_put : (a o₀ o₁ o₂ o₃ : List ℕ) (p₁ p₂ p₃ : ℕ) → Puts (k_procs ++ decimal (get_or a 0 0)) o₀ 0 o₁ p₁ → Puts lf o₁ p₁ o₂ p₂
-    → Puts (render_events (held_events a 1 (get_or a 1 0))) o₂ p₂ o₃ p₃ → Puts (text_of a) o₀ 0 o₃ p₃
-unfolding text_of render held
-text_put a o₀ o₁ o₂ o₃ p₁ p₂ p₃ hp he hs =
-    let es = render_events (held_events a 1 (get_or a 1 0)) in
-    then (k_procs ++ decimal (get_or a 0 0)) (10 ∷ es) o₀ o₁ o₃ 0 p₁ p₃ hp (then lf es o₁ o₂ o₃ p₁ p₂ p₃ he hs)
+lines_none a s = takes_none s

@@ -13,8 +13,7 @@ use Rattle.table.proofs.Testing.{holds_facts}
 use Rattle.writer.specs.Inner.Puts.{Puts}
 use Rattle.writer.specs.Buffer.{room, written}
 use Rattle.writer.proofs.Buffers.{whole}
-use Rattle.rendering.specs.declared.WriteAnswer.{WriteAnswer}
-use Rattle.rendering.specs.Write.{text_of, write_fault, write_answer, write_buffer, text_bytes}
+use Rattle.rendering.specs.Write.{WriteAnswer, text_of, write_fault, write_answer, write_buffer, text_bytes}
 use Rattle.rendering.specs.Meaning.{RoundTrip}
 use Rattle.rendering.proofs.Claims.{area_short, area_unheld, buffer_short, all_fit, round_trip}
 use Rattle.rendering.proofs.Lengths.{text_few}
@@ -51,9 +50,6 @@ module _ (a : List ℕ) (h : holds_trace a ≡ true) (own text : List ℕ) (n : 
   own_front : take n text ≡ text_of a
   own_front = rw (own_count, own_whole.0) (take-append_seam (text_of a) (drop (length (text_of a)) own))
 
-  pub own_length : n ≡ length (take n text)
-  own_length = own_count ∙ ap length (sym own_front)
-
 -- the contract
 abbrev Promised : List ℕ → List ℕ → WriteAnswer → List ℕ → Type 0
 Promised a out r after =
@@ -77,27 +73,28 @@ module _ (a out : List ℕ) (r : WriteAnswer) where
   no_trace l h e = refused_way 13 (omega arith) e (area_unheld a (length out) l h)
 
   module _ (l : area_words ≤ length a) (h : holds_trace a ≡ true) where
-    -- the text has been written from the first place of a buffer that has room for it
-    pub all_written : (after : List ℕ) (n : ℕ) → length (text_of a) ≤ length out → Puts (text_of a) out 0 after n
-        → r ≡ record { number = 0; place = 0; length = length (text_of a) } → Promised a out r after
+    -- the text stands at the front of a buffer that has room for it
+    written_whole : (after : List ℕ) (n : ℕ) → length (text_of a) ≤ length out → after ≡ text_of a ++ drop (length (text_of a)) out → n ≡ length (text_of a)
+        → r ≡ record { number = 0; place = 0; length = n } → Promised a out r after
     unfolding write_answer write_buffer
-    all_written after n s p e =
+    written_whole after n s w q e =
         let f = all_fit a (length out) l h s in
-        by_definition a out r after (e ∙ rw f) ((text_at a out after n s p).0 ∙ rw f)
+        by_definition a out r after (e ∙ rw (f, q)) (w ∙ rw f)
 
     -- straight, into a buffer that holds every text
     pub straight : (after : List ℕ) (n : ℕ) → text_bytes ≤ length out → Puts (text_of a) out 0 after n
         → r ≡ record { number = 0; place = 0; length = n } → Promised a out r after
     straight after n s p e =
         let m : length (text_of a) ≤ length out = omega (arith, text_few a h) in
-        all_written after n m p (rw (sym (text_at a out after n m p).1) e)
+        let t = text_at a out after n m p in
+        written_whole after n m t.0 t.1 e
 
     -- through a buffer of its own
     module _ (own text : List ℕ) (n : ℕ) (big : length own ≡ text_bytes) (p : Puts (text_of a) own 0 text n) where
       pub no_room : length out < n → r ≡ record { number = 14; place = 0; length = 0 } → Promised a out r out
       no_room s e = refused_way 14 (omega arith) e (buffer_short a (length out) l h (rw (sym (own_count a h own text n big p)) s))
 
-      pub copied : (after : List ℕ) (m : ℕ) → n ≤ length out → Puts (take n text) out 0 after m → r ≡ record { number = 0; place = 0; length = n } → Promised a out r after
-      copied after m s q e =
-          let c = sym (own_count a h own text n big p) in
-          all_written after m (rw c s) (rw (own_front a h own text n big p) at q) (rw c e)
+      pub copied : (after : List ℕ) → n ≤ length out → after ≡ take n text ++ drop n out → r ≡ record { number = 0; place = 0; length = n } → Promised a out r after
+      copied after s w e =
+          let c = own_count a h own text n big p in
+          written_whole after n (rw c at s) (w ∙ rw (own_front a h own text n big p, c)) c e

@@ -5,8 +5,7 @@ use Rattle.lines.specs.Line.{most, most_set}
 use Rattle.lines.specs.Render.{render_failure}
 use Rattle.reader.specs.Answer.{read_answer, read_area}
 use Rattle.reader.specs.Failure.{failure_answer, failure_area}
-use Rattle.rendering.specs.declared.WriteAnswer.{WriteAnswer}
-use Rattle.rendering.specs.Write.{text_bytes}
+use Rattle.rendering.specs.Write.{WriteAnswer, text_bytes}
 
 -- two areas have the same first 16,384 words
 abbrev pub SameArea : List ℕ → List ℕ → Type 0

@@ -1,10 +1,23 @@
 -- What writing the trace of a table area answers, and what it leaves in the byte buffer (MANUAL 7.3; quotations are
 -- from the requirements): "From a table area we need the text, in a lent byte buffer, and its length in the answer".
-use Rattle.std.specs.Prelude.{ℕ, not, cond, List, ◌++◌, length, drop, ltb, eqb}
+use Rattle.std.specs.Prelude.{ℕ, not, cond, List, ◌++◌, length, drop, ltb, eqb, Result, Ok, Err}
 use Rattle.words.specs.Area.{area_words}
 use Rattle.reader.specs.Render.{render}
 use Rattle.table.specs.Held.{held, holds_trace}
-use Rattle.rendering.specs.declared.WriteAnswer.{WriteAnswer}
+use Rattle.refusal.specs.Refusals.{number_of}
+use Rattle.refusal.specs.declared.Refused.{Refused}
+
+-- an answer: the number of the refusal, 0 if accepted; a place, which is always 0; and how many bytes the text has,
+-- 0 in a refusal
+pub record WriteAnswer : Type 0 where
+  pub number : ℕ
+  pub place : ℕ
+  pub length : ℕ
+
+-- what the function answers, as these numbers
+abbrev pub answer_of : Result ℕ Refused → WriteAnswer
+answer_of (Ok n) = record { number = 0; place = 0; length = n }
+answer_of (Err e) = record { number = number_of e.refusal; place = e.place; length = 0 }
 
 -- the text of the trace that a table area holds
 unfoldable pub text_of : List ℕ → List ℕ

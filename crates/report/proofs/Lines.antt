@@ -8,8 +8,9 @@ use lib.ListN.{length, get_or, take, drop, length-drop}
 use lib.Seq.{slice, take-nil, length-take-le, get_or-take, get_or-drop}
 use Rattle.theory.specs.Answers.{gather}
 use Rattle.restart.specs.Restart.{RestartAnswer}
-use Rattle.writer.specs.Inner.Puts.{Puts}
-use Rattle.writer.proofs.Buffers.{none, then}
+use Rattle.writer.specs.declared.Sink.{Sink}
+use Rattle.writer.specs.Inner.Sinks.{Takes}
+use Rattle.writer.proofs.Buffers.{takes_none, takes_then}
 use Rattle.text.specs.Bytes.{bytes_of}
 use Rattle.printing.specs.Lines.{total_line, key_orphan, key_kept}
 use Rattle.report.specs.Report.{process_line_of}
@@ -17,14 +18,13 @@ use Rattle.report.specs.Inner.Rows.{Sends, event_rows, recovery_rows}
 
 -- ---- Lines f 0, f 1, ..
 
-pub lines_none : (f : ℕ → List ℕ) (out : List ℕ) (at : ℕ) → Puts (gather f 0) out at out at
+pub lines_none : (f : ℕ → List ℕ) (s : Sink ℕ) → Takes (gather f 0) s s
 unfolding gather
-lines_none f out at = none out at
+lines_none f s = takes_none s
 
-pub lines_next : (f : ℕ → List ℕ) (z : ℕ) (before out after : List ℕ) (at next end : ℕ)
-    → Puts (gather f z) before at out next → Puts (f z) out next after end → Puts (gather f (z + 1)) before at after end
+pub lines_next : (f : ℕ → List ℕ) (z : ℕ) {s₀ s₁ s₂ : Sink ℕ} → Takes (gather f z) s₀ s₁ → Takes (f z) s₁ s₂ → Takes (gather f (z + 1)) s₀ s₂
 unfolding gather
-lines_next f z before out after at next end g h = rw (add-one z) (then (gather f z) (f z) before out after at next end g h)
+lines_next f z g h = rw (add-one z) (takes_then g h)
 
 -- ---- A part of some events, as the code lends it
 
@@ -55,14 +55,12 @@ middle_sends events a n s = (
 
 -- ---- The whole report of a recovery
 
-pub recovery_put : (r : RestartAnswer) (full events : List ℕ) (orphans kept steps : ℕ) (out o₁ o₂ o₃ o₄ : List ℕ) (p₁ p₂ p₃ p₄ : ℕ)
-    → Puts (gather (process_line_of r) r.line.count) out 0 o₁ p₁
-    → Puts (event_rows (bytes_of key_orphan) full (take orphans events)) o₁ p₁ o₂ p₂
-    → Puts (event_rows (bytes_of key_kept) full (take (orphans + kept - orphans) (drop orphans events))) o₂ p₂ o₃ p₃
-    → Puts (total_line r.back orphans kept steps) o₃ p₃ o₄ p₄
-    → Puts (recovery_rows r full events orphans kept steps) out 0 o₄ p₄
+pub recovery_put : (r : RestartAnswer) (full events : List ℕ) (orphans kept steps : ℕ) {s₀ s₁ s₂ s₃ s₄ : Sink ℕ}
+    → Takes (gather (process_line_of r) r.line.count) s₀ s₁
+    → Takes (event_rows (bytes_of key_orphan) full (take orphans events)) s₁ s₂
+    → Takes (event_rows (bytes_of key_kept) full (take (orphans + kept - orphans) (drop orphans events))) s₂ s₃
+    → Takes (total_line r.back orphans kept steps) s₃ s₄
+    → Takes (recovery_rows r full events orphans kept steps) s₀ s₄
 unfolding recovery_rows
-recovery_put r full events orphans kept steps out o₁ o₂ o₃ o₄ p₁ p₂ p₃ p₄ h₁ h₂ h₃ h₄ =
-    let t₂ = then _ _ out o₁ o₂ 0 p₁ p₂ h₁ h₂ in
-    let t₃ = then _ _ out o₂ o₃ 0 p₂ p₃ t₂ (rw (middle orphans kept events) at h₃) in
-    then _ _ out o₃ o₄ 0 p₃ p₄ t₃ h₄
+recovery_put r full events orphans kept steps h₁ h₂ h₃ h₄ =
+    takes_then (takes_then (takes_then h₁ h₂) (rw (middle orphans kept events) at h₃)) h₄

@@ -12,8 +12,8 @@ ghost use Rattle.columns.specs.Inner.Columns.{full_words};
 ghost use Rattle.columns.specs.Inner.Given.{Marked};
 ghost use Rattle.protocol.specs.Inner.Fillable.{Fillable};
 ghost use Rattle.writer.specs.Inner.Puts.{Puts};
+ghost use Rattle.writer.specs.Inner.Sinks.{Takes};
 ghost use Rattle.writer.specs.Buffer.{room, written};
-ghost use Rattle.printing.specs.Inner.Rows.{message_key};
 ghost use Rattle.restart.specs.Restart.{restart_found};
 ghost use Rattle.report.specs.Report.{process_line_of, is_refusal, recovery, reported, StepsPrinted, report_bytes};
 ghost use Rattle.report.specs.Inner.Rows.{Sends, event_row, event_rows, recovery_rows, Recounts, ReportOf};
@@ -24,6 +24,7 @@ use listing::ENTRIES;
 use restart::Restarted;
 use trace::EVENT_BASE;
 use words::AREA_WORDS;
+use writer::Sink;
 
 // How many bytes of a report were written, and whether it is a refusal.
 #[derive(Clone, Copy)]
@@ -33,51 +34,38 @@ pub struct Reported {
 }
 
 // A line for each process of the recovery line.
-fn put_processes(out: &mut [u8], r: Restarted) -> usize
+fn put_processes(sink: &mut Sink<'_, u8>, r: Restarted)
     requires { r.line.count ≤ 64 }
-    ensures { Puts (gather (process_line_of (restart_found r)) r.line.count) out.old 0 out.new result }
+    ensures { Takes (gather (process_line_of (restart_found r)) r.line.count) sink.old sink.new }
 {
-    let epochs = r.epochs;
-    let numbers = r.line.epochs;
-    let phases = r.phases;
-    let count = r.line.count;
-    let mut next: usize = 0;
-    let mut z: usize = 0;
-    while z < count {
-        next = printing::put_process(out, next, z as u64, epochs[z], numbers[z], phases[z]);
-        z += 1;
+    for z in 0..r.line.count {
+        printing::put_process(sink, z as u64, r.epochs[z], r.line.epochs[z], r.phases[z]);
     }
-    next
 }
 
-// The line of the message, kept or an orphan, that an event sends, from the event's words.
-fn put_sent(out: &mut [u8], at: usize, kept: bool, full: &[u32], event: u16) -> usize
+// The line of the message that an event sends, by its first key and from the event's words.
+fn put_sent(sink: &mut Sink<'_, u8>, key: &[u8], full: &[u32], event: u16)
     requires { (length full.now ≡ full_words) × (event ≤ 2048) }
-    ensures { Puts (event_row (message_key kept) full.now event) out.old at out.new result }
+    ensures { Takes (event_row key.now full.now event) sink.old sink.new }
 {
-    let e = event as usize;
+    let e = usize::from(event);
     printing::put_message(
-        out,
-        at,
-        kept,
+        sink,
+        key,
         full[EVENT_BASE + e],
         full[NUMBER_BASE + e],
         full[PHASE_BASE + e],
-    )
+    );
 }
 
-// A line for each of some messages, all kept or all orphans, by the events that send them.
-fn put_messages(out: &mut [u8], at: usize, kept: bool, full: &[u32], events: &[u16]) -> usize
+// A line for each of some messages, by their first key and the events that send them.
+fn put_messages(sink: &mut Sink<'_, u8>, key: &[u8], full: &[u32], events: &[u16])
     requires { (length full.now ≡ full_words) × Sends events.now (length events.now) }
-    ensures { Puts (event_rows (message_key kept) full.now events.now) out.old at out.new result }
+    ensures { Takes (event_rows key.now full.now events.now) sink.old sink.new }
 {
-    let mut next = at;
-    let mut i: usize = 0;
-    while i < events.len() {
-        next = put_sent(out, next, kept, full, events[i]);
-        i += 1;
+    for event in events {
+        put_sent(sink, key, full, *event);
     }
-    next
 }
 
 // The lines of a recovery: of its processes, of its orphans and of its kept messages, by the events that send them,
@@ -94,10 +82,17 @@ fn put_recovery(
     requires { (length full.now ≡ full_words) × (r.line.count ≤ 64) × Sends events.now (orphans + kept) }
     ensures { Puts (recovery_rows (restart_found r) full.now events.now orphans kept steps) out.old 0 out.new result }
 {
-    let to_orphans = put_processes(out, r);
-    let to_kept = put_messages(out, to_orphans, false, full, &events[..orphans]);
-    let to_total = put_messages(out, to_kept, true, full, &events[orphans..orphans + kept]);
-    printing::put_total(out, to_total, r.back, orphans, kept, steps)
+    let mut sink = Sink { out, next: 0 };
+    put_processes(&mut sink, r);
+    put_messages(&mut sink, b"out=orphan from=", full, &events[..orphans]);
+    put_messages(
+        &mut sink,
+        b"out=kept from=",
+        full,
+        &events[orphans..orphans + kept],
+    );
+    printing::put_total(&mut sink, r.back, orphans, kept, steps);
+    sink.next
 }
 
 // The report of a failure that is not refused, from the full table. The engine's line loses no message, so that its

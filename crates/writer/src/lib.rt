@@ -1,5 +1,5 @@
 // Writing into a lent buffer, item after item: bytes, decimal numbers, and keys with their numbers; or numbers into a
-// slice of them. A full buffer takes no more (specs/Buffer). Assumes nothing.
+// slice of them. A full buffer takes no more (specs/Buffer), and no place of one is refused. Assumes nothing.
 #![tactic(auto)]
 
 ghost use Rattle.std.specs.Prelude.{◌≡◌, [], ◌∷◌, ◌++◌, ◌+◌, ◌/◌, ◌%◌, ◌<◌, ◌≤◌, length, drop};
@@ -42,7 +42,8 @@ impl<'a, T: Copy> Sink<'a, T> {
 }
 
 impl<'a> Sink<'a, u64> {
-    // Words, each as a number of 64 bits; where all have room, one test serves for all of them.
+    // Words, each as a number of 64 bits; one test of the room serves for all of them. (Beside `put_all`, since one
+    // method for both would have to say by the law of a `From` what each word becomes.)
     pub fn put_words(&mut self, words: &[u32])
         ensures { Takes words.now self.old self.new }
     {

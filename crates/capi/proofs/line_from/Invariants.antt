@@ -1,12 +1,6 @@
 -- `capi::line_from` meets its contract: after z turns the first z numbers are there.
-use mathlib.Core.Path.{◌≡◌}
-use Prim.Native.Nat.{◌-◌, ◌≤◌}
-use lib.ListN.{length, get_or}
-use Rattle.words.proofs.Written.{Written}
+use Rattle.std.proofs.Common.{◌≡◌, ℕ, ◌<◌, length, get_or}
 use Rattle.capi.proofs.line_from.Given as goal
 
 abbrev pub invariant-loop-z : goal.invariant-loop-z
-invariant-loop-z l = (l.z ≤ 64) × (length l.epochs ≡ 64) × Written (λ k. get_or l.numbers k 0) l.initial.epochs l.z l.epochs
-
-abbrev pub decreases-loop-z : goal.decreases-loop-z
-decreases-loop-z l = 64 - l.z
+invariant-loop-z l = (length l.epoch-items ≡ 64) × ((k : ℕ) → k < l.z → get_or l.epoch-items k 0 ≡ get_or l.numbers k 0)

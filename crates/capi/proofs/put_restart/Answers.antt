@@ -1,7 +1,11 @@
 -- `capi::put_restart` meets its contract: four numbers, then three arrays.
-use Rattle.capi.proofs.Putting.{restart_put}
+use mathlib.Core.Path.{sym}
+use Rattle.std.proofs.Common.{rules}
+use Rattle.writer.proofs.Buffers.{takes_then, lent, whole}
 use Rattle.capi.proofs.put_restart.Goals as goal
 
 pub returns : goal.returns
 returns c =
-    restart_put c.args.r _ _ _ _ _ _ _ _ _ _ c.wide.ensures c.put_four-to_numbers.ensures c.put_words-to_epochs.ensures c.put_words-to_phases.ensures c.put_words.ensures
+    let four = rw c.from.ensures at c.put_all.ensures in
+    let t = takes_then (takes_then (takes_then four c.put_words.ensures) c.put_words-2.ensures) c.put_words-3.ensures in
+    (whole _ _ _ _ (lent t (search (rules, sym t.same)))).0

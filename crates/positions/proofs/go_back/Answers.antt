@@ -33,7 +33,7 @@ loop-e-smaller c =
 
 pub loop-e-preserved : goal.loop-e-preserved
 loop-e-preserved c =
-    λ cut z latest L N. walk_goes_on _ _ _ _ c.loop-e.e _ _ latest L (omega (arith, c.loop-e-test.true)) c.if-full-e.false (c.loop-e.invariant cut z latest L N)
+    λ cut z latest L N. rw c.from-e.ensures (walk_goes_on _ _ _ _ c.loop-e.e _ _ latest L (omega (arith, c.loop-e-test.true)) c.if-full-e.false (c.loop-e.invariant cut z latest L N))
 
 pub returns : goal.returns
 returns c =

@@ -1,10 +1,10 @@
--- `positions::link` meets its contract: after e turns the events up to e are linked.
-use Prim.Native.Nat.{◌-◌, ◌≤◌}
+-- `positions::link` meets its contract: before event e the earlier ones are linked.
+use Rattle.std.proofs.Common.{◌≡◌, ◌-◌, ◌+◌, ◌≤◌}
 use Rattle.positions.specs.Inner.Positions.{Linked}
 use Rattle.positions.proofs.link.Given as goal
 
 abbrev pub invariant-loop-e : goal.invariant-loop-e
-invariant-loop-e l = (l.e ≤ l.cut) × Linked l.full l.e l.earlier l.latest
-
-abbrev pub decreases-loop-e : goal.decreases-loop-e
-decreases-loop-e l = l.cut - l.e
+invariant-loop-e l = record {
+  to : l.e ≤ l.cut + 1;
+  linked : Linked l.full (l.e - 1) l.earlier l.latest;
+}

@@ -1,17 +1,12 @@
 -- The same lines from the words that the code has. No public contract cites these.
-use Rattle.std.specs.Prelude.{Bool, cond, List, [], ◌∷◌, ◌++◌, ℕ, ◌/◌, ◌%◌}
+use Rattle.std.specs.Prelude.{List, [], ◌∷◌, ◌++◌, ℕ, ◌/◌, ◌%◌}
 use Rattle.text.specs.Number.{decimal}
 use Rattle.text.specs.Bytes.{bytes_of}
-use Rattle.printing.specs.Lines.{key_orphan, key_kept}
 
 -- four keys with their numbers
 unfoldable pub row_bytes : List ℕ → ℕ → List ℕ → ℕ → List ℕ → ℕ → List ℕ → ℕ → List ℕ
 row_bytes key a second b third c fourth d = key ++ decimal a ++ (second ++ decimal b ++ (third ++ decimal c ++ (fourth ++ decimal d ++ (10 ∷ []))))
 
--- the first key of a message's line
-abbrev pub message_key : Bool → List ℕ
-message_key kept = bytes_of (cond kept key_kept key_orphan)
-
--- the line of a message, from its three words
+-- the line of a message, from its first key and its three words
 unfoldable pub words_row : List ℕ → ℕ → ℕ → ℕ → List ℕ
 words_row key w number phase = row_bytes key (w % 64) (bytes_of " to=") (w / 64 % 64) (bytes_of " no=") number (bytes_of " phase=") phase

@@ -1,7 +1,7 @@
 -- `recovery::recover_from` meets its contract: the line that was found goes through the counts and the list.
 use mathlib.Core.Path.{sym, ap}
 use lib.Seq.{length-take-le}
-use Rattle.messages.specs.declared.Counted.{Counted}
+use Rattle.messages.specs.Messages.{MessagesAnswer}
 use Rattle.recovery.proofs.Clearing.{trace_cleared}
 use Rattle.recovery.proofs.Recovering.{lowest_counted}
 use Rattle.restart.proofs.Restarting.{engine_takeable}
@@ -17,14 +17,16 @@ pub listed_events-listed-requires : goal.listed_events-listed-requires
 listed_events-listed-requires c =
     let g = c.gates_of.ensures c.requires.1.0 (engine_takeable c.requires.1.0 _ c.requires.1.1 c.args.cut c.args.set c.requires.1.2 _ (c.restart_from-restarted.ensures.answer c.requires.1.0 c.requires.1.1 c.requires.1.2) (c.restart_from-restarted.ensures.means c.requires.1.0 c.requires.1.1 c.requires.1.2)) in (_, g.tells, g.gated)
 
-pub slice_bounds-zero-end-2 : goal.slice_bounds-zero-end-2
-slice_bounds-zero-end-2 c =
-    sym (length-take-le _ c.args.area.now (omega (arith, c.requires.0.0)))
+pub slice_bounds-fill-end : goal.slice_bounds-fill-end
+slice_bounds-fill-end c = omega (arith, c.requires.0.0)
+
+pub slice_bounds-fill-end-2 : goal.slice_bounds-fill-end-2
+slice_bounds-fill-end-2 c = sym (length-take-le _ c.args.area.now (omega (arith, c.requires.0.0)))
 
 pub list_from-counted-requires : goal.list_from-counted-requires
 list_from-counted-requires c =
-    let g = c.gates_of.ensures c.requires.1.0 (engine_takeable c.requires.1.0 _ c.requires.1.1 c.args.cut c.args.set c.requires.1.2 _ (c.restart_from-restarted.ensures.answer c.requires.1.0 c.requires.1.1 c.requires.1.2) (c.restart_from-restarted.ensures.means c.requires.1.0 c.requires.1.1 c.requires.1.2)) in (trace_cleared c.args.area.now _ c.requires.0 c.zero.ensures, (_, g))
+    let g = c.gates_of.ensures c.requires.1.0 (engine_takeable c.requires.1.0 _ c.requires.1.1 c.args.cut c.args.set c.requires.1.2 _ (c.restart_from-restarted.ensures.answer c.requires.1.0 c.requires.1.1 c.requires.1.2) (c.restart_from-restarted.ensures.means c.requires.1.0 c.requires.1.1 c.requires.1.2)) in (trace_cleared c.args.area.now _ c.requires.0 (c.fill.ensures.after (λ y e. e)), (_, g))
 
 pub returns : goal.returns
 returns c =
-    λ t M h. let e = c.restart_from-restarted.ensures.answer t M h in let m = c.restart_from-restarted.ensures.means t M h in let g = c.gates_of.ensures t (engine_takeable t _ M c.args.cut c.args.set h _ e m) in let counts = c.list_from-counted.ensures.answer _ g in record { restarted = e; restarts = m; replayed = lowest_counted _ g.tells.laws m.greatest.loss_free _ _ (c.listed_events-listed.ensures.count _ g.tells g.gated) (ap (λ (x : Counted). x.kept) counts); counted = counts; words = c.list_from-counted.ensures.words _ g; few = c.list_from-counted.ensures.few }
+    λ t M h. let e = c.restart_from-restarted.ensures.answer t M h in let m = c.restart_from-restarted.ensures.means t M h in let g = c.gates_of.ensures t (engine_takeable t _ M c.args.cut c.args.set h _ e m) in let counts = c.list_from-counted.ensures.answer _ g in record { restarted = e; restarts = m; replayed = lowest_counted _ g.tells.laws m.greatest.loss_free _ _ (c.listed_events-listed.ensures.count _ g.tells g.gated) (ap (λ (x : MessagesAnswer). x.kept) counts); counted = counts; words = c.list_from-counted.ensures.words _ g; few = c.list_from-counted.ensures.few }

@@ -1,11 +1,13 @@
+use mathlib.Core.Path.{◌≡◌}
+use Prim.Native.Nat.{◌+◌, ◌-◌}
 use native.Mathlib.Omega.{arith}
-use mathlib.Core.Path.{refl, ◌∙◌}
 use Rattle.rendering.proofs.Lines.{lines_none, lines_next}
 use Rattle.rendering.proofs.put_events.Goals as goal
 
-pub loop-i-init : goal.loop-i-init
-loop-i-init c = (omega arith, refl, lines_none _ _ _)
+pub loop-e-init : goal.loop-e-init
+loop-e-init c = lines_none _ _
 
-pub loop-i-preserved : goal.loop-i-preserved
-loop-i-preserved c =
-    (omega arith, c.put_event-next.auto.out ∙ c.loop-i.invariant.1, lines_next _ _ _ _ _ _ _ _ c.loop-i.invariant.2 (rw (c.event-e.ensures, c.from_halves-value.ensures.number) at c.put_event-next.ensures))
+pub loop-e-preserved : goal.loop-e-preserved
+loop-e-preserved c =
+    let z : c.loop-e.e + 1 - 1 ≡ c.loop-e.e = omega arith in
+    rw z (lines_next _ _ c.loop-e.e (omega arith) c.loop-e.invariant (rw (c.event.ensures, c.from_halves-value.ensures.number) at c.put_event.ensures))
