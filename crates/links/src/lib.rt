@@ -13,7 +13,8 @@ ghost use Rattle.links.specs.Inner.Shapes.{SendReadable, SlotLinkable, Placed, K
 use classes::Class;
 use columns::{PHASE_BASE, RESTART_BASE};
 use machine::{CURRENT_BASE, LOW_PLACE, ORPHAN_BASE, PUT_BASE, TAKE_BASE};
-use trace::{EVENT_BASE, RECEIVE, SEND};
+use trace::EVENT_BASE;
+use trace::kinds::Kind;
 
 // Words of the links: word 4 e is the next event of the process of event e, 4 e + 1 the next send whose message goes
 // through its channel, 4 e + 2 the next orphan's send of its process, 4 e + 3 the next kept message of its phase. They
@@ -29,10 +30,10 @@ fn class_sent(full: &[u32], gates: &[u32], cut: usize, e: usize, w: u32, restart
     requires { SendReadable full.now gates.now e × (w ≡ event_w full.now e) × (restart ≡ get_or gates.now (64 + at_w full.now e) 0) }
     ensures { number_of_class result ≡ sent_class full.now gates.now cut e }
 {
-    if trace::kind(w) == SEND {
-        return classes::class_at(full, gates, cut, e, w, restart);
+    match Kind::of(w) {
+        Kind::Send => classes::class_at(full, gates, cut, e, w, restart),
+        _ => Class::None,
     }
-    Class::None
 }
 
 // Event e becomes the pointer at word k of the area, and what was there the link in its slot.
@@ -103,7 +104,7 @@ fn link_event(
     }
     let class = class_sent(full, gates, cut, e, w, restart);
     link_sent(links, area, z, 64 * z + trace::peer(w), e, class);
-    if trace::kind(w) == RECEIVE {
+    if let Kind::Receive = Kind::of(w) {
         machine::note_taken(full, area, e, columns::matched(full, e));
     }
     class

@@ -1,5 +1,5 @@
 -- One law for each way out of the functions that test a choice or take it, over the values that the code has there.
-use mathlib.Core.Path.{◌≡◌, sym, ◌∙◌}
+use mathlib.Core.Path.{◌≡◌, refl, sym, ◌∙◌}
 use mathlib.Core.Bool.{Bool, true, false, not}
 use mathlib.Core.List.{List}
 use Prim.Native.Nat.{ℕ, ◌+◌, ◌-◌, ◌*◌, ◌/◌, ◌≤◌, ◌<◌}
@@ -9,12 +9,28 @@ use lib.ListN.{get_or}
 use lib.Dec.{ltb, eqb}
 use borrow.Author.Tests.{lt-ltb, le-ltb, eq-eqb, ne_eqb}
 use Rattle.words.proofs.Cases.{by_bool}
+use Rattle.trace.specs.Kind.{number_of_kind}
+use Rattle.trace.specs.declared.kinds.Kind.{Kind}
+use Rattle.trace.specs.declared.kinds.Kind.TheVariants.{Done, Send, Receive, Save}
 use Rattle.machine.specs.Inner.Words.{kept_phase, current_base, low_place, no_phase, cur_w, orp_w, take_w, put_w, low_w, send_ok, event_ok, process_ok, hand_ok, allowed_w, least_with, low_of, Bounded}
 use Rattle.columns.specs.Inner.Full.{kind_w, peer_w, phase_w}
 
 pub bound : (a : List ℕ) (k : ℕ) → Bounded a → current_base ≤ k → k < low_place → get_or a k 0 < 2049
 unfolding Bounded
 bound a k b h j = b k h j
+
+-- a kind by its number
+pub kind_send : (k : Kind) → number_of_kind k ≡ 1 → k ≡ Send
+kind_send Done h = absurd (omega (arith, h))
+kind_send Send h = refl
+kind_send Receive h = absurd (omega (arith, h))
+kind_send Save h = absurd (omega (arith, h))
+
+pub kind_receive : (k : Kind) → number_of_kind k ≡ 2 → k ≡ Receive
+kind_receive Done h = absurd (omega (arith, h))
+kind_receive Send h = absurd (omega (arith, h))
+kind_receive Receive h = refl
+kind_receive Save h = absurd (omega (arith, h))
 
 module _ (t g a : List ℕ) (z e k p : ℕ) (ek : k ≡ kind_w t e) (ep : p ≡ peer_w t e) where
   pub event_send : (m : ℕ) (r : Bool) → k ≡ 1 → m ≡ put_w a (64 * z + p) → r ≡ send_ok (get_or g (64 + z) 0) m → r ≡ event_ok t g a z e

@@ -14,7 +14,8 @@ ghost use Rattle.machine.specs.Inner.Shapes.{FullLong, Pointed, Ranged, Readable
 ghost use Rattle.machine.specs.Inner.Tree.{Tree, Treed, Leafed};
 
 use columns::{NUMBER_BASE, PHASE_BASE, RESTART_BASE};
-use trace::{EVENT_BASE, HIGH_BASE, RECEIVE, SEND, VALUE_BASE};
+use trace::kinds::Kind;
+use trace::{EVENT_BASE, HIGH_BASE, VALUE_BASE};
 
 // Words of the run area. Word e is the number of the message that receive e took, word TAKEN_BASE + e the low half of
 // its value, word TAKEN_HIGH_BASE + e the high half; the working words come after: of each process its next event and
@@ -87,18 +88,15 @@ fn event_ok(full: &[u32], gates: &[u32], area: &[u32], z: usize, e: usize) -> bo
     ensures { result ≡ event_ok full.now gates.now area.now z e }
 {
     let w = full[EVENT_BASE + e];
-    let kind = trace::kind(w);
     let peer = trace::peer(w);
-    if kind == SEND {
-        return send_ok(
+    match Kind::of(w) {
+        Kind::Send => send_ok(
             gates[RESTART_BASE + z],
             pointer(area, PUT_BASE + (64 * z + peer)),
-        );
+        ),
+        Kind::Receive => area[TAKE_BASE + (64 * peer + z)] != area[PUT_BASE + (64 * peer + z)],
+        _ => true,
     }
-    if kind == RECEIVE {
-        return area[TAKE_BASE + (64 * peer + z)] != area[PUT_BASE + (64 * peer + z)];
-    }
-    true
 }
 
 // May process z do its next event: there is one, and the phase of its gate is ready.
@@ -217,9 +215,9 @@ fn hands(full: &[u32], gates: &[u32], area: &[u32], e: usize) -> bool
     ensures { result ≡ hands_at full.now gates.now area.now e }
 {
     let w = full[EVENT_BASE + e];
-    if trace::kind(w) != SEND {
+    let Kind::Send = Kind::of(w) else {
         return false;
-    }
+    };
     let p = trace::process(w);
     let c = 64 * p + trace::peer(w);
     if pointer(area, PUT_BASE + c) != e {

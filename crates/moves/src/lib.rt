@@ -13,7 +13,8 @@ ghost use Rattle.moves.specs.Inner.Tried.{Tried};
 
 use columns::RESTART_BASE;
 use machine::{CHOICES, CURRENT_BASE, HANDS, LOW_PLACE, ORPHAN_BASE, PUT_BASE, TAKE_BASE};
-use trace::{EVENT_BASE, RECEIVE, SEND};
+use trace::EVENT_BASE;
+use trace::kinds::Kind;
 
 // The message that event m sends goes into channel c, whose next one to put in it is.
 fn put_next(links: &[u16], area: &mut [u32], c: usize, m: usize)
@@ -117,15 +118,12 @@ fn try_event(
     ensures leaves { Treed full.now area.new tree.new }
 {
     let w = full[EVENT_BASE + e];
-    let kind = trace::kind(w);
     let peer = trace::peer(w);
-    if kind == SEND {
-        return try_send(full, links, gates, tree, area, z, e, peer);
+    match Kind::of(w) {
+        Kind::Send => try_send(full, links, gates, tree, area, z, e, peer),
+        Kind::Receive => try_receive(full, links, area, z, e, peer),
+        _ => Some(sets::with(0, z)),
     }
-    if kind == RECEIVE {
-        return try_receive(full, links, area, z, e, peer);
-    }
-    Some(sets::with(0, z))
 }
 
 // Process z does its next event and moves on, if it may: none where it may not, else the set of the one process whom that
