@@ -12,7 +12,7 @@ use Rattle.report.proofs.report.Goals as goal
 
 pub returns-then-read-ne0 : goal.returns-then-read-ne0
 returns-then-read-ne0 c =
-    let (refused, (length, (bytes, (exact, few)))) = answered _ c.args.text.now _ _ _ true (text_refused c.args.text.now (replicate area_words 0) (length-replicate {A = ℕ} area_words 0) c.read_failure_clear-read.result c.read_failure_clear-read.ensures.answer c.if-read-ne0.true) c.put_refusal-length.ensures in
+    let (refused, (length, (bytes, (exact, few)))) = answered _ c.args.text.now _ _ _ true (text_refused c.args.text.now (replicate area_words 0) (length-replicate {A = ℕ} area_words 0) c.read_failure_clear-read.result c.read_failure_clear-read.ensures.answer c.if-read-ne0.true) c.put_refusal.ensures in
     record {
       refused = refused;
       length = length;
