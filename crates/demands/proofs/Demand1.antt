@@ -24,7 +24,7 @@ use Rattle.theory.specs.Inner.Orders.{Allowed}
 use Rattle.theory.specs.Inner.Refusals.{FitFailure, FitLine}
 use Rattle.recovery_line.specs.declared.Line.{Line}
 use Rattle.recovery_line.specs.Given.{line_in}
-use Rattle.orders.specs.declared.Replayed.{Replayed}
+use Rattle.orders.specs.Answer.{Answered}
 use Rattle.preparing.specs.Faults.{run_of}
 use Rattle.restart.specs.Restart.{restart_answer}
 use Rattle.messages.specs.Messages.{messages_answer, messages_area}
@@ -94,7 +94,7 @@ module _ (a area : List ℕ) (step set : ℕ) (l : Line) (order : List ℕ) wher
   abbrev R : Run
   R = run_of a step l
 
-  abbrev answer : Replayed
+  abbrev answer : Answered
   answer = replay_answer a area step set l order
 
   -- and each choice is "allowed where it comes"

@@ -110,8 +110,8 @@ module _ (a area : List ℕ) (step set : ℕ) (l : Line) (order : List ℕ) wher
   -- "Steps is the length of the order carried out, and is at most twice the number of events."; whatever the line,
   -- complete or not; a refusal has none (the contract of `replay` has the same clauses)
   pub at_most_twice : StepsAtMost a step l (replay_answer a area step set l order)
-  at_most_twice = (promised a area step set l order).1.1.1.1.0
+  at_most_twice = (promised a area step set l order).at_most
 
   -- MANUAL 5.8: exactly so many, where the order is complete and the line loses nothing
   pub exactly : StepsExact a step l (replay_answer a area step set l order)
-  exactly = (promised a area step set l order).1.1.1.0
+  exactly = (promised a area step set l order).exact

@@ -42,11 +42,11 @@ module _ (a area : List ℕ) (step set : ℕ) (l : Line) (order : List ℕ) wher
   -- "Equal is the same numbers and values in the same order on every channel.": the lists read from the run area after
   -- a complete order are those of the run without failure exactly if the line loses no message
   pub demand_3_lists : SameLists a step l (replay_answer a area step set l order) after
-  demand_3_lists = (promised a area step set l order).1.1.1.1.1.1.1
+  demand_3_lists = (promised a area step set l order).same_lists
 
   -- the same by the words of the area (the contracts of `replay` and `lowest` have both clauses)
   pub demand_3_words : Equal a step l (replay_answer a area step set l order) after
-  demand_3_words = (promised a area step set l order).1.1.0
+  demand_3_words = (promised a area step set l order).equal
 
   -- "In the run without failure these are its receives in the whole trace, those after the cut too.": so `Equal`'s
   -- words are words of these lists

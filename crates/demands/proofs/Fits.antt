@@ -25,7 +25,7 @@ use Rattle.protocol.proofs.Passes.{held_valid}
 use Rattle.recovery_line.specs.declared.Line.{Line}
 use Rattle.recovery_line.specs.Given.{line_in}
 use Rattle.listing.specs.Listing.{list_word}
-use Rattle.orders.specs.declared.Replayed.{Replayed}
+use Rattle.orders.specs.Answer.{Answered}
 use Rattle.preparing.specs.Faults.{run_of, failure_fault_of, line_fault_of}
 use Rattle.restart.specs.Restart.{restart_refusal, restart_answer}
 use Rattle.messages.specs.Messages.{messages_refusal, messages_answer, messages_area}
@@ -71,7 +71,7 @@ module _ (a area : List ℕ) (step set : ℕ) (l : Line) where
     abbrev R : Run
     R = run_of a step l
 
-    abbrev answer : Replayed
+    abbrev answer : Answered
     answer = replay_answer a area step set l order
 
     fit_iff : (fault ≡ 0) ↔ Fit
@@ -93,7 +93,7 @@ module _ (a area : List ℕ) (step set : ℕ) (l : Line) where
     eleven_place h =
         let (z, x) = (eleven_stopped a area step set l order).0 h in
         let r = run_refused R order x.0 x.1 in
-        (r.0, r.1, ap (λ (y : Replayed). y.place) (answer_stopped a area step set l order x.0 z x.1) ∙ r.2, r.3, r.4, r.5)
+        (r.0, r.1, ap (λ (y : Answered). y.place) (answer_stopped a area step set l order x.0 z x.1) ∙ r.2, r.3, r.4, r.5)
 
     pub replay_eleven : (answer.number ≡ 11)
         ↔ (Areas a (length area)

@@ -25,14 +25,13 @@ use Rattle.theory.proofs.Orders.{run_steps, complete_iff}
 use Rattle.protocol.proofs.Passes.{held_valid, held_few, held_64}
 use Rattle.recovery_line.specs.declared.Line.{Line}
 use Rattle.recovery_line.specs.Given.{line_in}
-use Rattle.orders.specs.declared.Replayed.{Replayed}
 use Rattle.orders.specs.Record.{record_at, list_in}
-use Rattle.orders.specs.Answer.{answer_of, words_of}
+use Rattle.orders.specs.Answer.{Answered, answer_of, words_of}
 use Rattle.orders.specs.Inner.Alike.{Alike}
 use Rattle.orders.proofs.Told.{record_told}
 use Rattle.preparing.specs.Faults.{run_of, line_fault_of}
-use Rattle.recovery.specs.Answers.{refusal, replay_answer, replay_area}
-use Rattle.recovery.proofs.Replaying.{Answered, refuses, carried}
+use Rattle.recovery.specs.Answers.{refusal, replay_answer, replay_area, Replays}
+use Rattle.recovery.proofs.Replaying.{refuses, carried}
 use Rattle.demands.proofs.Numbers.{left_iff, Areas, LineNumbers, line_not_11, line_accepts, line_numbers}
 
 module _ (a area : List ℕ) (step set : ℕ) (l : Line) (order : List ℕ) where
@@ -42,7 +41,7 @@ module _ (a area : List ℕ) (step set : ℕ) (l : Line) (order : List ℕ) wher
   abbrev fault : ℕ
   fault = line_fault_of a (length area) step set l
 
-  abbrev answer : Replayed
+  abbrev answer : Answered
   answer = replay_answer a area step set l order
 
   abbrev after : List ℕ
@@ -67,13 +66,13 @@ module _ (a area : List ℕ) (step set : ℕ) (l : Line) (order : List ℕ) wher
   area_unfit z = rw (ne_eqb fault 0 z)
 
   -- what the contract of `replay` promises, of the definitions and for every input
-  pub promised : Answered a area step set l order answer after
+  pub promised : Replays a area step set l order answer after
   promised = by_eq fault 0
       (λ z.
       let F = (line_accepts a (length area) step set l).0 z in
-      subst (Answered a area step set l order answer) (sym (area_fit z))
-      (carried a area step set l order ((left_iff a).1 F.0.0) F.1.failure.step_most fault answer (words_of R (run R order)) refl z (answer_fit z) refl))
-      (λ z. subst (Answered a area step set l order answer) (sym (area_unfit z)) (refuses a area step set l order fault answer refl z (answer_unfit z)))
+      subst (Replays a area step set l order answer) (sym (area_fit z))
+      (carried a area step set l order ((left_iff a).1 F.0.0) F.1.failure.step_most answer (words_of R (run R order)) (sym z) (answer_fit z) refl))
+      (λ z. rw (answer_unfit z, area_unfit z) (refuses a area step set l order fault refl z))
 
   -- ---- The number
 
@@ -93,7 +92,7 @@ module _ (a area : List ℕ) (step set : ℕ) (l : Line) (order : List ℕ) wher
   -- the answer in each case
   answer_done : (s : State) → fault ≡ 0 → run R order ≡ carried_out s → answer.number ≡ 0
   unfolding answer_of
-  answer_done s z e = ap (λ (r : Replayed). r.number) (answer_fit z) ∙ rw e
+  answer_done s z e = ap (λ (r : Answered). r.number) (answer_fit z) ∙ rw e
 
   pub answer_stopped : (i : ℕ) → fault ≡ 0 → run R order ≡ refused i → answer ≡ record { number = 11; place = i; steps = 0; complete = false }
   unfolding answer_of
@@ -108,10 +107,10 @@ module _ (a area : List ℕ) (step set : ℕ) (l : Line) (order : List ℕ) wher
   area_done s z e = area_fit z ∙ rw e
 
   number_stopped : (i : ℕ) → fault ≡ 0 → run R order ≡ refused i → answer.number ≡ 11
-  number_stopped i z e = ap (λ (r : Replayed). r.number) (answer_stopped i z e)
+  number_stopped i z e = ap (λ (r : Answered). r.number) (answer_stopped i z e)
 
   number_unfit : (fault ≡ 0 → ⊥) → answer.number ≡ fault
-  number_unfit z = ap (λ (r : Replayed). r.number) (answer_unfit z)
+  number_unfit z = ap (λ (r : Answered). r.number) (answer_unfit z)
 
   -- 0: accepted
   pub zero_done : (answer.number ≡ 0) ↔ ((fault ≡ 0) × ((s : State) × (run R order ≡ carried_out s)))
@@ -160,8 +159,8 @@ module _ (a area : List ℕ) (step set : ℕ) (l : Line) (order : List ℕ) wher
     where
       go : Ends → answer ≡ record { number = answer.number; place = answer.place; steps = 0; complete = false }
       go (done s z e) = absurd (n (answer_done s z e))
-      go (stopped i z e) = let q = answer_stopped i z e in q ∙ rw (ap (λ (r : Replayed). r.number) q, ap (λ (r : Replayed). r.place) q)
-      go (unfit z) = let q = answer_unfit z in q ∙ rw (ap (λ (r : Replayed). r.number) q, ap (λ (r : Replayed). r.place) q)
+      go (stopped i z e) = let q = answer_stopped i z e in q ∙ rw (ap (λ (r : Answered). r.number) q, ap (λ (r : Answered). r.place) q)
+      go (unfit z) = let q = answer_unfit z in q ∙ rw (ap (λ (r : Answered). r.number) q, ap (λ (r : Answered). r.place) q)
 
   -- a place is told with 11 only
   pub refused_nowhere : (answer.number ≡ 0 → ⊥) → (answer.number ≡ 11 → ⊥) → answer.place ≡ 0
@@ -169,8 +168,8 @@ module _ (a area : List ℕ) (step set : ℕ) (l : Line) (order : List ℕ) wher
     where
       go : Ends → answer.place ≡ 0
       go (done s z e) = absurd (n (answer_done s z e))
-      go (stopped i z e) = absurd (m (ap (λ (r : Replayed). r.number) (answer_stopped i z e)))
-      go (unfit z) = ap (λ (r : Replayed). r.place) (answer_unfit z)
+      go (stopped i z e) = absurd (m (ap (λ (r : Answered). r.number) (answer_stopped i z e)))
+      go (unfit z) = ap (λ (r : Answered). r.place) (answer_unfit z)
 
   -- the area past its first 16,384 words
   pub past_kept : drop area_words after ≡ drop area_words area
@@ -201,15 +200,15 @@ module _ (a area : List ℕ) (step set : ℕ) (l : Line) (order : List ℕ) wher
 
   steps_done : (s : State) → fault ≡ 0 → run R order ≡ carried_out s → answer.steps ≡ steps order
   unfolding answer_of
-  steps_done s z e = ap (λ (r : Replayed). r.steps) (answer_fit z) ∙ rw e
+  steps_done s z e = ap (λ (r : Answered). r.steps) (answer_fit z) ∙ rw e
 
   complete_done : (s : State) → fault ≡ 0 → run R order ≡ carried_out s → answer.complete ≡ complete R s
   unfolding answer_of
-  complete_done s z e = ap (λ (r : Replayed). r.complete) (answer_fit z) ∙ rw e
+  complete_done s z e = ap (λ (r : Answered). r.complete) (answer_fit z) ∙ rw e
 
   lists_done : (s : State) → answer.number ≡ 0 → run R order ≡ carried_out s → (p q : ℕ) → list_in (held a) after p q ≡ delivered R s p q
   lists_done s h e p q =
-      let (u, f, g) = promised.1.1.1.1.1.1.0 h in
+      let (u, f, g) = promised.recorded h in
       let same : u ≡ s = cc in
       subst (λ (x : State). list_in (held a) after p q ≡ delivered R x p q) same (g p q)
 

@@ -25,8 +25,7 @@ use Rattle.protocol.proofs.Passes.{held_formed}
 use Rattle.recovery_line.specs.declared.Line.{Line}
 use Rattle.recovery_line.specs.Given.{each, line_in, line_to, restart_phase_in, numbers_of, back_of}
 use Rattle.recovery_line.proofs.Sets.{back_ones_lem, back_bits}
-use Rattle.restart.specs.declared.Restarted.{Restarted}
-use Rattle.restart.specs.Restart.{engine_line_of, restart_by, restart_of, restart_answer, Restarts}
+use Rattle.restart.specs.Restart.{RestartAnswer, engine_line_of, restart_by, restart_of, restart_answer, Restarts}
 use Rattle.demands.proofs.Numbers.{Left, left_iff, restart_number, failure_numbers_lem}
 
 -- a line as a struct has the numbers that it was made of
@@ -106,21 +105,21 @@ module _ (a : List ℕ) (step set : ℕ) (ok : (restart_answer a step set).numbe
   restart_promised = rw answer_is (restarts t formed step set fit.1.step_most)
 
   pub epoch_at_lem : (z : ℕ) → z < t.procs → get_or (restart_answer a step set).epochs z 0 ≡ current t (rule_of t) step z
-  epoch_at_lem z h = ap (λ (r : Restarted). get_or r.epochs z 0) answer_is ∙ each_at t (valid t formed).few (current t (rule_of t) step) z h
+  epoch_at_lem z h = ap (λ (r : RestartAnswer). get_or r.epochs z 0) answer_is ∙ each_at t (valid t formed).few (current t (rule_of t) step) z h
 
   pub phase_at_lem : (z : ℕ) → z < t.procs
       → get_or (restart_answer a step set).phases z 0 ≡ phase_at t (rule_of t) z (restart_in t step (line_in (restart_answer a step set).line) z)
   phase_at_lem z h =
       let l = line_to t (engine_line t step set) in
-      let e : line_in (restart_answer a step set).line ≡ line_in l = ap (λ (r : Restarted). line_in r.line) answer_is in
-      ap (λ (r : Restarted). get_or r.phases z 0) answer_is ∙ each_at t (valid t formed).few (restart_phase_in t step (line_in l)) z h ∙ rw e
+      let e : line_in (restart_answer a step set).line ≡ line_in l = ap (λ (r : RestartAnswer). line_in r.line) answer_is in
+      ap (λ (r : RestartAnswer). get_or r.phases z 0) answer_is ∙ each_at t (valid t formed).few (restart_phase_in t step (line_in l)) z h ∙ rw e
 
   pub count_is : (restart_answer a step set).line.count ≡ t.procs
-  count_is = ap (λ (r : Restarted). r.line.count) answer_is
+  count_is = ap (λ (r : RestartAnswer). r.line.count) answer_is
 
   pub number_past : (z : ℕ) → t.procs ≤ z → get_or (restart_answer a step set).line.epochs z 0 ≡ 0
   number_past z h =
-      ap (λ (r : Restarted). get_or r.line.epochs z 0) answer_is
+      ap (λ (r : RestartAnswer). get_or r.line.epochs z 0) answer_is
       ∙ by_lt z 64
       (λ l. words_at_lem (each t (engine_line t step set)) 64 z l ∙ rw (le-ltb z t.procs h))
       (λ l. get_or-eq_default (words_from (each t (engine_line t step set)) 0 64) 0 {n = z} (omega (arith, length_words (each t (engine_line t step set)) 0 64)))

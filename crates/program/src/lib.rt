@@ -2,10 +2,12 @@
 // status. The buffers have their lengths from here. Assumes nothing.
 #![tactic(auto)]
 
-ghost use Rattle.std.specs.Prelude.{◌≡◌, List, cond, ℕ, ◌≤◌, length, take};
+ghost use Rattle.std.specs.Prelude.{◌≡◌, List, ℕ, ◌≤◌, length, take};
 ghost use Rattle.writer.specs.Buffer.{written};
 ghost use Rattle.report.specs.Report.{report_bytes};
 ghost use Rattle.program.specs.Program.{ReadFrom, printed, status_of, StepsShown};
+
+use refusal::Refusal;
 
 // "The program takes at most 65,536 bytes"; it reads a byte more, so that a longer input is seen to be longer.
 const TEXT_MOST: usize = 65536;
@@ -22,13 +24,6 @@ pub struct Outcome {
     pub status: u8,
 }
 
-// The status of an answer.
-fn status_of(refused: bool) -> u8
-    ensures { result ≡ cond refused 1 0 }
-{
-    if refused { 1 } else { 0 }
-}
-
 // What the program prints for an input of which it has read `count` bytes: as many as the buffer has, or all. The input
 // itself no contract can name: what holds, holds of each of which these are the first bytes.
 pub fn respond(read: &[u8; READ_BYTES], count: usize, out: &mut [u8; REPORT_BYTES]) -> Outcome
@@ -42,15 +37,14 @@ pub fn respond(read: &[u8; READ_BYTES], count: usize, out: &mut [u8; REPORT_BYTE
 {
     let text: &[u8] = read;
     if count > TEXT_MOST {
-        let length = printing::put_refusal(out, 1, 0);
         return Outcome {
-            length,
-            status: status_of(true),
+            length: printing::put_refusal(out, Refusal::Malformed.number(), 0),
+            status: 1,
         };
     }
     let r = report::report(&text[..count], out);
     Outcome {
         length: r.length,
-        status: status_of(r.refused),
+        status: u8::from(r.refused),
     }
 }

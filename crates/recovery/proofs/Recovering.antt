@@ -1,6 +1,6 @@
 -- Each way out of `recover`: the answers, and what takes the place of the table, by the definitions.
 use Prim.Native.Nat.{ℕ, ◌+◌}
-use mathlib.Core.Path.{◌≡◌, refl, sym, ap, ◌∙◌}
+use mathlib.Core.Path.{◌≡◌, refl, sym, ◌∙◌}
 use mathlib.Core.Bool.{true}
 use mathlib.Core.List.{List, [], ◌++◌}
 use lib.ListN.{length, drop}
@@ -24,12 +24,9 @@ use Rattle.refusal.proofs.Refusals.{no_number_0}
 use Rattle.std.specs.Prelude.{Err}
 use Rattle.preparing.specs.Faults.{run_of, failure_fault_of}
 use Rattle.recovery.specs.Answers.{replay_answer}
-use Rattle.messages.specs.Messages.{messages_answer, messages_area}
-use Rattle.messages.specs.Meaning.{Lists}
 use Rattle.preparing.specs.Inner.Prepared.{failure_fault_in, Tabulated}
 use Rattle.recovery.specs.Inner.Recovering.{Recovering}
 use Rattle.recovery.specs.Recover.{RecoverAnswer, recover_answered, Recovers}
-use Rattle.restart.specs.Restart.{restart_answer}
 use Rattle.preparing.proofs.Preparing.{step_within, failure_first}
 use Rattle.recovery.proofs.Replaying.{L, refuses, steps_counted, completed}
 use Rattle.messages.proofs.Listing.{refuses_messages, lists}

@@ -15,8 +15,7 @@ use Rattle.trace.specs.Fit.{well_formed}
 use Rattle.trace.specs.Table.{table_word}
 use Rattle.columns.specs.Inner.Columns.{trace_words, full_words, Columns, Flagged}
 use Rattle.columns.specs.Inner.Given.{Marked}
-use Rattle.reader.specs.declared.FailureAnswer.{FailureAnswer}
-use Rattle.reader.specs.Failure.{Failing, failure_answer_of, failure_answer, failure_area, last_failure}
+use Rattle.reader.specs.Failure.{FailureAnswer, Failing, failure_answer_of, failure_answer, failure_area, last_failure}
 use Rattle.reader.proofs.Claims.{failing_answered}
 use Rattle.table.specs.Inner.Held.{held_trace}
 use Rattle.table.proofs.Claims.{failing_held, held_iff}
@@ -67,16 +66,16 @@ module _ (text : List ℕ) where
 pub marked : (t : Trace) (before full : List ℕ) → Fillable t before → Columns t full × Flagged t (logged_by t (rule_of t)) full → Marked t (rule_of t) full
 marked t before full f c = record { tabled = record { formed = f.formed; columns = c.0 }; flags = c.1 }
 
-module _ (text : List ℕ) (t : Trace) (step set : ℕ) (e : last_failure text ≡ Failing.failing t step set) (fault : ℕ) (hf : fault ≡ failure_fault t step set) where
+module _ (text : List ℕ) (t : Trace) (step set : ℕ) (e : last_failure text ≡ Failing.failing t step set) where
   -- the failure is refused
-  pub failure_refused : (fault ≡ 0 → ⊥) → Reports (refusal_line fault 0) text true
+  pub failure_refused : (fault : ℕ) → fault ≡ failure_fault t step set → (fault ≡ 0 → ⊥) → Reports (refusal_line fault 0) text true
   unfolding failure_of
-  failure_refused h = refuses text fault 0 (rw (e, ← hf, unless_some fault _ h))
+  failure_refused fault hf h = refuses text fault 0 (rw (e, ← hf, unless_some fault _ h))
 
   -- the recovery is written
-  pub recovered : fault ≡ 0 → (out after : List ℕ) (n : ℕ) → Recounts (record { trace = t; step = step; failed = set }) out after n → ReportOf text false n out after
+  pub recovered : 0 ≡ failure_fault t step set → (out after : List ℕ) (n : ℕ) → Recounts (record { trace = t; step = step; failed = set }) out after n → ReportOf text false n out after
   unfolding failure_of
-  recovered h out after n R = answered _ text out after n false (gives text _ out after n (rw (e, ← hf, h)) R) R.puts
+  recovered hf out after n R = answered _ text out after n false (gives text _ out after n (rw (e, ← hf)) R) R.puts
 
 -- ---- What `read_failure_clear` answered, and left in the area
 

@@ -36,20 +36,16 @@ use Rattle.listing.specs.Listing.{list_word}
 use Rattle.recovery_line.specs.declared.Line.{Line}
 use Rattle.recovery_line.specs.Given.{line_in}
 use Rattle.orders.specs.Record.{record_at, faultless_at}
-use Rattle.orders.specs.declared.Replayed.{Replayed}
-use Rattle.orders.specs.Answer.{answer_of, words_of}
-use Rattle.messages.specs.declared.Counted.{Counted}
-use Rattle.restart.specs.declared.Restarted.{Restarted}
+use Rattle.orders.specs.Answer.{Answered, answer_of, words_of}
 use Rattle.preparing.specs.Faults.{line_fault_of, run_of as code_run, failure_fault_of}
-use Rattle.recovery.specs.declared.Recovered.{Recovered}
-use Rattle.recovery.specs.Answers.{refusal, replay_answer, replay_area, Completed}
-use Rattle.messages.specs.Messages.{messages_refusal, counts_of, messages_answer, messages_area}
-use Rattle.restart.specs.Restart.{engine_line_of, restart_of, restart_refusal, restart_answer}
+use Rattle.recovery.specs.Answers.{refusal, replay_answer, replay_area, Completed, Replays as Replay}
+use Rattle.recovery.specs.Recover.{RecoverAnswer, Recovers as Recover}
+use Rattle.messages.specs.Messages.{MessagesAnswer, messages_refusal, counts_of, messages_answer, messages_area}
+use Rattle.messages.specs.Meaning.{Lists as ListsOf}
+use Rattle.restart.specs.Restart.{RestartAnswer, engine_line_of, restart_of, restart_refusal, restart_answer, Restarts}
 use Rattle.messages.proofs.Rows.{At, orphans_at, kept_at, lost_at}
-use Rattle.messages.proofs.Listing.{Listed as Messages, counts_are, listed_at}
-use Rattle.recovery.proofs.Replaying.{Answered as Replay}
-use Rattle.recovery.proofs.Recovering.{Answered as Recover}
-use Rattle.restart.proofs.Restarting.{Answered as Restart, Ready}
+use Rattle.messages.proofs.Listing.{counts_are, listed_at}
+use Rattle.restart.proofs.Restarting.{Ready}
 use Rattle.recovery.proofs.Taking.{not_refused}
 use Rattle.report.specs.Report.{Answer, refused, given, unless, then, Failure, engine_run, Recovery, recovery_of, recovery, failure_of}
 use Rattle.report.proofs.Found.{run_is}
@@ -59,6 +55,15 @@ use Rattle.runs.specs.Answers.{line_from, run_with, losses, Replayed as Told, fa
 
 -- ---- What the rows say. `Restart`, `Messages`, `Replay` and `Recover` are the contracts of those calls: what they
 -- promise of the answer, and of the area that they leave.
+
+abbrev pub Restart : List ℕ → ℕ → ℕ → RestartAnswer → Type 0
+Restart a step set r = (r ≡ restart_answer a step set) × (r.number ≡ 0 → Restarts (held a) step set r)
+
+abbrev pub Messages : List ℕ → List ℕ → ℕ → ℕ → Line → MessagesAnswer → List ℕ → Type 0
+Messages a area step set l r w =
+    (r ≡ messages_answer a area step set l)
+    × ((w ≡ messages_area a area step set l)
+    × ((r.orphans + (r.kept + r.lost) ≤ 2048) × (r.number ≡ 0 → ListsOf (code_run a step l) r.orphans r.kept r.lost w)))
 
 -- what a call leaves in an area after a refusal that clears it; "Words past 16,384 are never touched"
 abbrev pub cleared : List ℕ → List ℕ
@@ -85,7 +90,7 @@ abbrev pub OnTable : Trace → Claim → Type 0
 OnTable t P = (a run : List ℕ) → held_trace a ≡ some t → area_words ≤ length run → P t a run
 
 -- `messages` counts and lists these orphans, kept and lost messages
-pub record Lists (os ks ls : List Listed) (c : Counted) (w : List ℕ) : Type 0 where
+pub record Lists (os ks ls : List Listed) (c : MessagesAnswer) (w : List ℕ) : Type 0 where
   pub counted : c ≡ record { number = 0; place = 0; orphans = length os; kept = length ks; lost = length ls }
   pub orphans_at : At w 0 1 os
   pub kept_at : At w (length os) 2 ks
@@ -96,61 +101,61 @@ abbrev pub Faultless : Trace → List ℕ → Type 0
 Faultless t v = take area_words v ≡ words_from (faultless_at t) 0 area_words
 
 -- an order is complete after so many steps; and leaves that record
-abbrev pub Finished : ℕ → Replayed → Type 0
+abbrev pub Finished : ℕ → Answered → Type 0
 Finished n y = y ≡ record { number = 0; place = 0; steps = n; complete = true }
 
-abbrev pub Done : Trace → ℕ → Replayed → List ℕ → Type 0
+abbrev pub Done : Trace → ℕ → Answered → List ℕ → Type 0
 Done t n y v = Finished n y × Faultless t v
 
 -- `restart`, then `messages` and `lowest` with the line that it gives, which loses no message
 abbrev pub Recovers : ℕ → ℕ → Recovery → Claim
 Recovers step set x t a run =
-    (r : Restarted) → Restart a step set r
+    (r : RestartAnswer) → Restart a step set r
     → (r ≡ x.restarted)
-    × ((c : Counted) (w : List ℕ) → Messages a run step set r.line c w → Lists x.orphans x.kept [] c w)
-    × ((y : Replayed) (v : List ℕ) → Replay a run step set r.line (lowest_order (code_run a step r.line)) y v
+    × ((c : MessagesAnswer) (w : List ℕ) → Messages a run step set r.line c w → Lists x.orphans x.kept [] c w)
+    × ((y : Answered) (v : List ℕ) → Replay a run step set r.line (lowest_order (code_run a step r.line)) y v
     → Completed a (length run) step set r.line y → Done t x.steps y v)
 
 -- every call refuses the failure, whatever the line and the order: "In a refused answer every other number is 0 and
 -- every yes or no is no"; "Other refusals change nothing", neither the run area nor the table area, which `recover` may
 -- write to
 pub record AllRefuse (step set n : ℕ) (t : Trace) (a run : List ℕ) : Type 0 where
-  pub restart : (r : Restarted) → Restart a step set r → r ≡ restart_refusal n
-  pub messages : (l : Line) (c : Counted) (w : List ℕ) → Messages a run step set l c w → (c ≡ messages_refusal n) × (w ≡ run)
-  pub replay : (l : Line) (order : List ℕ) (y : Replayed) (v : List ℕ) → Replay a run step set l order y v → (y ≡ refusal n) × (v ≡ run)
-  pub lowest : (l : Line) (y : Replayed) (v : List ℕ) → Replay a run step set l (lowest_order (code_run a step l)) y v → (y ≡ refusal n) × (v ≡ run)
-  pub recover : (x : Recovered) (w : List ℕ) → Recover a step set x w
+  pub restart : (r : RestartAnswer) → Restart a step set r → r ≡ restart_refusal n
+  pub messages : (l : Line) (c : MessagesAnswer) (w : List ℕ) → Messages a run step set l c w → (c ≡ messages_refusal n) × (w ≡ run)
+  pub replay : (l : Line) (order : List ℕ) (y : Answered) (v : List ℕ) → Replay a run step set l order y v → (y ≡ refusal n) × (v ≡ run)
+  pub lowest : (l : Line) (y : Answered) (v : List ℕ) → Replay a run step set l (lowest_order (code_run a step l)) y v → (y ≡ refusal n) × (v ≡ run)
+  pub recover : (x : RecoverAnswer) (w : List ℕ) → Recover a step set x w
       → (x.restarted ≡ restart_refusal n) × (x.replayed ≡ refusal n) × (x.counted ≡ messages_refusal n) × (w ≡ a)
 
 -- `messages` with a line
 abbrev pub Loses : ℕ → ℕ → List ℕ → List Listed → Claim
 Loses step set l ms t a run =
     let R = run_at t step (line_in (line_from l)) in
-    (c : Counted) (w : List ℕ) → Messages a run step set (line_from l) c w → Lists (orphans R) (kept_ones R) ms c w
+    (c : MessagesAnswer) (w : List ℕ) → Messages a run step set (line_from l) c w → Lists (orphans R) (kept_ones R) ms c w
 
 -- `replay` with a line: every complete order, whatever its choices, has so many steps
 abbrev pub AllHaveSteps : ℕ → ℕ → List ℕ → ℕ → Claim
 AllHaveSteps step set l n t a run =
-    (order : List ℕ) (y : Replayed) (v : List ℕ) → Replay a run step set (line_from l) order y v → y.number ≡ 0 → y.complete ≡ true → y.steps ≡ n
+    (order : List ℕ) (y : Answered) (v : List ℕ) → Replay a run step set (line_from l) order y v → y.number ≡ 0 → y.complete ≡ true → y.steps ≡ n
 
 -- `replay` with a line and an order: complete after so many steps
 abbrev pub Finishes : ℕ → ℕ → List ℕ → List ℕ → ℕ → Claim
-Finishes step set l order n t a run = (y : Replayed) (v : List ℕ) → Replay a run step set (line_from l) order y v → Finished n y
+Finishes step set l order n t a run = (y : Answered) (v : List ℕ) → Replay a run step set (line_from l) order y v → Finished n y
 
 -- and with the record of the run without failure
 abbrev pub Completes : ℕ → ℕ → List ℕ → List ℕ → ℕ → Claim
-Completes step set l order n t a run = (y : Replayed) (v : List ℕ) → Replay a run step set (line_from l) order y v → Done t n y v
+Completes step set l order n t a run = (y : Answered) (v : List ℕ) → Replay a run step set (line_from l) order y v → Done t n y v
 
 -- or carried out, complete or not, from a line with loss or without: what it answers, and the record that it leaves
 abbrev pub Leaves : ℕ → ℕ → List ℕ → List ℕ → ℕ → Bool → TakenWords → Claim
 Leaves step set l order n all ws t a run =
-    (y : Replayed) (v : List ℕ) → Replay a run step set (line_from l) order y v
+    (y : Answered) (v : List ℕ) → Replay a run step set (line_from l) order y v
     → (y ≡ record { number = 0; place = 0; steps = n; complete = all }) × (taken_words_in t (λ k. get_or v k 0) ≡ ws)
 
 -- or 11 at a place
 abbrev pub Stops : ℕ → ℕ → List ℕ → List ℕ → ℕ → Claim
 Stops step set l order i t a run =
-    (y : Replayed) (v : List ℕ) → Replay a run step set (line_from l) order y v
+    (y : Answered) (v : List ℕ) → Replay a run step set (line_from l) order y v
     → (y ≡ record { number = 11; place = i; steps = 0; complete = false }) × (v ≡ cleared run)
 
 -- ---- Answers of the definitions, taken apart
@@ -177,7 +182,7 @@ words_same f g i (suc n) h = ap₂ (λ (x : ℕ) (xs : List ℕ). x ∷ xs) (h i
 -- ---- The messages of a line that is not refused
 
 module _ (a run : List ℕ) (step set : ℕ) (l : Line) (R : Run) (same : code_run a step l ≡ R)
-    (ok : line_fault_of a (length run) step set l ≡ 0) (c : Counted) (w : List ℕ) (M : Messages a run step set l c w) where
+    (ok : line_fault_of a (length run) step set l ≡ 0) (c : MessagesAnswer) (w : List ℕ) (M : Messages a run step set l c w) where
   counts : c ≡ counts_of R
   counts = counts_are a run step set l ok c M.0 ∙ ap counts_of same
 
@@ -243,7 +248,7 @@ module _ (text a : List ℕ) (step set : ℕ) (holds : holds_trace a ≡ true) (
       unfolding replay_area
       records_none order = rw bad
 
-    restart_none : (r : Restarted) → r ≡ restart_answer a step set → r ≡ restart_refusal 9
+    restart_none : (r : RestartAnswer) → r ≡ restart_answer a step set → r ≡ restart_refusal 9
     unfolding restart_answer
     restart_none r e = e ∙ rw (failure_is, failure_bad)
 
@@ -252,19 +257,19 @@ module _ (text a : List ℕ) (step set : ℕ) (holds : holds_trace a ≡ true) (
         record {
           restart = λ r A. restart_none r A.0;
           messages = λ l c w M. (M.0 ∙ counts_none l run₀ long, M.1.0 ∙ lists_none l run₀ long);
-          replay = λ l order y v P. (P.0 ∙ replays_none l run₀ long order, P.1.0 ∙ records_none l run₀ long order);
-          lowest = λ l y v P. (P.0 ∙ replays_none l run₀ long _, P.1.0 ∙ records_none l run₀ long _);
+          replay = λ l order y v P. (P.answer ∙ replays_none l run₀ long order, P.words ∙ records_none l run₀ long order);
+          lowest = λ l y v P. (P.answer ∙ replays_none l run₀ long _, P.words ∙ records_none l run₀ long _);
           recover = λ x w Q. let l : Line = x.restarted.line in let own = held_long a holds in (
-            restart_none x.restarted Q.0,
-            Q.1.0 ∙ replays_none l a own _,
-            Q.1.1.0 ∙ counts_none l a own,
-            Q.1.1.1.0 ∙ lists_none l a own,
+            restart_none x.restarted Q.restart,
+            Q.replay ∙ replays_none l a own _,
+            Q.messages ∙ counts_none l a own,
+            Q.words ∙ lists_none l a own,
           );
         }
 
   -- ---- `restart`, and `messages` and `lowest` with the line that it gives
 
-  module _ (x : Recovery) (h : recovery text ≡ given x) (r : Restarted) (A : Restart a step set r) where
+  module _ (x : Recovery) (h : recovery text ≡ given x) (r : RestartAnswer) (A : Restart a step set r) where
     taken : (failure_fault t step set ≡ 0) × (given (recovery_of f) ≡ given x)
     taken = then_given (failure_fault t step set) f (λ g. given (recovery_of g)) x (sym recovery_is ∙ h)
 
@@ -277,7 +282,7 @@ module _ (text a : List ℕ) (step set : ℕ) (holds : holds_trace a ≡ true) (
 
     number_is : r.number ≡ 0
     unfolding restart_of
-    number_is = ap (λ (s : Restarted). s.number) answer_is
+    number_is = ap (λ (s : RestartAnswer). s.number) answer_is
 
     ready : Ready a step set r
     ready = record { holds = holds; fit = taken.0; answer = answer_is; means = A.1 number_is }
@@ -301,27 +306,27 @@ module _ (text a : List ℕ) (step set : ℕ) (holds : holds_trace a ≡ true) (
       ok : line_fault_of a (length run₀) step set r.line ≡ 0
       ok = not_refused a step set r ready (length run₀) long
 
-      listed : (c : Counted) (w : List ℕ) → Messages a run₀ step set r.line c w → Lists x.orphans x.kept [] c w
+      listed : (c : MessagesAnswer) (w : List ℕ) → Messages a run₀ step set r.line c w → Lists x.orphans x.kept [] c w
       unfolding recovery_of
       listed c w M =
           subst (λ (z : Recovery). Lists z.orphans z.kept [] c w) found
           (subst (λ (ms : List Listed). Lists (orphans R) (kept_ones R) ms c w) none_lost
           (lists a run₀ step set r.line R same ok c w M))
 
-      module _ (y : Replayed) (v : List ℕ) (P : Replay a run₀ step set r.line (lowest_order (code_run a step r.line)) y v)
+      module _ (y : Answered) (v : List ℕ) (P : Replay a run₀ step set r.line (lowest_order (code_run a step r.line)) y v)
           (C : Completed a (length run₀) step set r.line y) where
         carried_out_lem : (o : Outcome) (n : ℕ) → y ≡ answer_of (code_run a step r.line) o n → y ≡ record { number = 0; place = 0; steps = n; complete = true }
         unfolding answer_of
-        carried_out_lem (carried_out s) n q = q ∙ rw (sym (ap (λ (z : Replayed). z.complete) q) ∙ (C ok).1)
-        carried_out_lem (Outcome.refused i) n q = absurd (let z : ◌≡◌ {A = ℕ} 11 0 = sym (ap (λ (z : Replayed). z.number) q) ∙ (C ok).0 in let u : ⊥ = omega arith in u)
+        carried_out_lem (carried_out s) n q = q ∙ rw (sym (ap (λ (z : Answered). z.complete) q) ∙ (C ok).1)
+        carried_out_lem (Outcome.refused i) n q = absurd (let z : ◌≡◌ {A = ℕ} 11 0 = sym (ap (λ (z : Answered). z.number) q) ∙ (C ok).0 in let u : ⊥ = omega arith in u)
 
         lowest_done : Done t x.steps y v
         unfolding recovery_of replay_answer
         lowest_done =
             let T = code_run a step r.line in
-            let q = carried_out_lem (run T (lowest_order T)) (length (lowest_order T)) (P.0 ∙ rw ok) in
-            let n = sym (ap (λ (z : Replayed). z.steps) q) ∙ (C ok).2 ∙ ap (λ (Q : Run). steps (lowest_order Q)) same ∙ ap (λ (z : Recovery). z.steps) found in
-            (q ∙ rw n, (P.1.1.0 (C ok).0 (C ok).1).1 ready.means.greatest.loss_free)
+            let q = carried_out_lem (run T (lowest_order T)) (length (lowest_order T)) (P.answer ∙ rw ok) in
+            let n = sym (ap (λ (z : Answered). z.steps) q) ∙ (C ok).2 ∙ ap (λ (Q : Run). steps (lowest_order Q)) same ∙ ap (λ (z : Recovery). z.steps) found in
+            (q ∙ rw n, (P.equal (C ok).0 (C ok).1).1 ready.means.greatest.loss_free)
 
   -- ---- `messages` and `replay` with a line of numbers
 
@@ -339,7 +344,7 @@ module _ (text a : List ℕ) (step set : ℕ) (holds : holds_trace a ≡ true) (
         let q : lost_ones (run_with f l) ≡ ms = let p = v.1 in cc in
         (u.0, v.0, q)
 
-    lost_are : (ms : List Listed) → losses text l ≡ given ms → (c : Counted) (w : List ℕ) → Messages a run₀ step set (line_from l) c w
+    lost_are : (ms : List Listed) → losses text l ≡ given ms → (c : MessagesAnswer) (w : List ℕ) → Messages a run₀ step set (line_from l) c w
         → Lists (orphans (run_with f l)) (kept_ones (run_with f l)) ms c w
     lost_are ms h c w M =
         let (_, z, q) = told_lost ms h in
@@ -361,19 +366,19 @@ module _ (text a : List ℕ) (step set : ℕ) (holds : holds_trace a ≡ true) (
 
     steps_so_many : (n : ℕ) → losses text l ≡ given [] → exact_steps_of text l ≡ given n → AllHaveSteps step set l n t a run₀
     steps_so_many n h k order y v P z c =
-        P.1.1.1.0 z c (lost_nothing h) ∙ exact_is n k
+        P.exact z c (lost_nothing h) ∙ exact_is n k
 
-    module _ (order : List ℕ) (y : Replayed) (v : List ℕ) (P : Replay a run₀ step set (line_from l) order y v) where
+    module _ (order : List ℕ) (y : Answered) (v : List ℕ) (P : Replay a run₀ step set (line_from l) order y v) where
       abbrev S : Run
       S = run_with f l
 
       answer_by : (o : Outcome) → run S order ≡ o → fault f l ≡ 0 → y ≡ answer_of S o (length order)
       unfolding replay_answer
-      answer_by o q z = P.0 ∙ rw (fault_is, z, q)
+      answer_by o q z = P.answer ∙ rw (fault_is, z, q)
 
       area_by : (o : Outcome) → run S order ≡ o → fault f l ≡ 0 → v ≡ words_of S o ++ drop area_words run₀
       unfolding replay_area
-      area_by o q z = P.1.0 ∙ rw (fault_is, z, q)
+      area_by o q z = P.words ∙ rw (fault_is, z, q)
 
       -- carried out: the answer, and where the order is complete and the definition says that the records are equal,
       -- the record in the run area
@@ -391,7 +396,7 @@ module _ (text a : List ℕ) (step set : ℕ) (holds : holds_trace a ≡ true) (
             λ all equal.
                 let d = (complete_test t w (rule_of t) step cl line s).0 (ap (λ (u : Told). u.complete) p ∙ all) in
                 let same = (record_test t w (rule_of t) step cl line order s q).0 (ap (λ (u : Told). u.equal) p ∙ equal) in
-                (P.1.1.0 (ap (λ (u : Replayed). u.number) i) (ap (λ (u : Replayed). u.complete) i ∙ all)).1
+                (P.equal (ap (λ (u : Answered). u.number) i) (ap (λ (u : Answered). u.complete) i ∙ all)).1
                 ((record_iff t w (rule_of t) step cl line order s q d).0 same),
           )
       carried x (Outcome.refused i) q z h = absurd (not_given 11 i x h)

@@ -22,16 +22,14 @@ use Rattle.theory.specs.Line.{in_set, stays_in, unfinished_at}
 use Rattle.theory.specs.Inner.Tests.{two}
 use Rattle.theory.proofs.Runs.{opens}
 use Rattle.recovery_line.specs.Given.{line_in, numbers_of}
-use Rattle.restart.specs.declared.Restarted.{Restarted}
-use Rattle.restart.specs.Restart.{Restarts}
-use Rattle.restart.proofs.Restarting.{Answered as Restart}
+use Rattle.restart.specs.Restart.{RestartAnswer, Restarts}
 use Rattle.writer.specs.Buffer.{room, written}
 use Rattle.printing.specs.Inner.Texts.{lines_of}
 use Rattle.report.specs.Report.{reported}
 use Rattle.program.specs.Program.{ReadFrom, printed, status_of}
 use Rattle.runs.specs.Texts.{lines_h, lines_l, lines_s, lines_t, lines_first, failing, text_h, lines_wide, text_wide, lines_floor, lines_twice}
 use Rattle.runs.proofs.Table.{reads, message, trace_h, trace_wide, trace_l, trace_s, trace_t, Said, printed1, recovery1, recovery4, recovery5, recovery7, recovery8, recovery9, recovery10, table, trace_floor, recovery_floor, unfinished, no_save, receives_h, taken_h, no_high_h, records_h, words_wide, records_wide}
-use Rattle.runs.proofs.Calls.{cleared, Accepts, Reads, OnTable, Recovers, AllRefuse, Loses, AllHaveSteps, Finishes, Completes, Leaves, Stops, accepts, read_refused, failure_refused, recovers, all_refuse, loses, all_have_steps, finishes, completes, leaves, stops, reads as reads_failure}
+use Rattle.runs.proofs.Calls.{Restart, cleared, Accepts, Reads, OnTable, Recovers, AllRefuse, Loses, AllHaveSteps, Finishes, Completes, Leaves, Stops, accepts, read_refused, failure_refused, recovers, all_refuse, loses, all_have_steps, finishes, completes, leaves, stops, reads as reads_failure}
 
 -- `report` writes these lines: into a buffer `out`, which it leaves as `after`, and it answers n
 abbrev pub Reports : List ℕ → List String → Type 0
@@ -140,7 +138,7 @@ c2 =
 abbrev pub C3 : Type 0
 C3 =
     OnTable trace_h (Loses 11 2 (1 ∷ 1 ∷ 32 ∷ []) [])
-    × OnTable trace_h (λ t a run. (r : Restarted) → Restart a 11 2 r → numbers_of r.line ≡ 1 ∷ 1 ∷ 32 ∷ [] → ⊥)
+    × OnTable trace_h (λ t a run. (r : RestartAnswer) → Restart a 11 2 r → numbers_of r.line ≡ 1 ∷ 1 ∷ 32 ∷ [] → ⊥)
     × OnTable trace_h (AllHaveSteps 11 2 (1 ∷ 1 ∷ 32 ∷ []) 10)
     × OnTable trace_h (Completes 11 2 (1 ∷ 1 ∷ 32 ∷ []) (0 ∷ 0 ∷ 0 ∷ 0 ∷ 1 ∷ 1 ∷ 1 ∷ 1 ∷ 1 ∷ 1 ∷ []) 10)
 
@@ -154,9 +152,9 @@ c3 =
       completes text_h trace_h 11 2 fails1 (1 ∷ 1 ∷ 32 ∷ []) (0 ∷ 0 ∷ 0 ∷ 0 ∷ 1 ∷ 1 ∷ 1 ∷ 1 ∷ 1 ∷ 1 ∷ []) 10 y,
     )
   where
-    another : OnTable trace_h (λ t a run. (r : Restarted) → Restart a 11 2 r → numbers_of r.line ≡ 1 ∷ 1 ∷ 32 ∷ [] → ⊥)
+    another : OnTable trace_h (λ t a run. (r : RestartAnswer) → Restart a 11 2 r → numbers_of r.line ≡ 1 ∷ 1 ∷ 32 ∷ [] → ⊥)
     another a run h n r A e =
-        let q : ◌≡◌ {A = List ℕ} (2 ∷ 2 ∷ 32 ∷ []) (1 ∷ 1 ∷ 32 ∷ []) = sym (ap (λ (x : Restarted). numbers_of x.line) (c1.3 a run h n r A).0) ∙ e in
+        let q : ◌≡◌ {A = List ℕ} (2 ∷ 2 ∷ 32 ∷ []) (1 ∷ 1 ∷ 32 ∷ []) = sym (ap (λ (x : RestartAnswer). numbers_of x.line) (c1.3 a run h n r A).0) ∙ e in
         let z : ◌≡◌ {A = ℕ} 2 1 = cc in
         omega arith
 
@@ -369,7 +367,7 @@ least_h (suc zero) l h = leb-true 2 2 refl
 least_h (suc (suc zero)) l h = clash {b = false} h refl
 least_h (suc (suc (suc z))) l h = absurd (let y : ⊥ = omega arith in y)
 
-pub floor_h : (r : Restarted) → Restarts trace_h 11 2 r → (z : ℕ) → z < 3 → 2 ≤ line_in r.line z
+pub floor_h : (r : RestartAnswer) → Restarts trace_h 11 2 r → (z : ℕ) → z < 3 → 2 ≤ line_in r.line z
 unfolding opens
 floor_h r R = R.floor 1 least_h
 
@@ -379,7 +377,7 @@ least_unfailed zero l h = leb-true 2 3 refl
 least_unfailed (suc zero) l h = leb-true 2 2 refl
 least_unfailed (suc (suc z)) l h = absurd (let y : ⊥ = omega arith in y)
 
-pub floor_unfailed : (r : Restarted) → Restarts trace_unfailed 7 1 r → (z : ℕ) → z < 2 → 2 ≤ line_in r.line z
+pub floor_unfailed : (r : RestartAnswer) → Restarts trace_unfailed 7 1 r → (z : ℕ) → z < 2 → 2 ≤ line_in r.line z
 unfolding opens
 floor_unfailed r R = R.floor 1 least_unfailed
 
@@ -395,7 +393,7 @@ none_finishes z (suc (suc zero)) = refl
 none_finishes z (suc (suc (suc zero))) = refl
 none_finishes z (suc (suc (suc (suc e)))) = refl
 
-pub none_done_old : (r : Restarted) → Restarts trace_old 3 2 r → (z : ℕ) → z < 2 → stays_in (line_in r.line) z ≡ false → line_in r.line z ≡ 1
+pub none_done_old : (r : RestartAnswer) → Restarts trace_old 3 2 r → (z : ℕ) → z < 2 → stays_in (line_in r.line) z ≡ false → line_in r.line z ≡ 1
 none_done_old r R = R.none_done none_finishes
 
 -- ---- Not among them, but of the same texts: delivery records (`RecordsH` of Table), as `replay` leaves them in the

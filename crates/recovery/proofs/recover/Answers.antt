@@ -1,6 +1,5 @@
 -- `recovery::recover` meets its contract: a refusal changes nothing; otherwise the list of the messages takes the place
 -- of the table.
-use Rattle.words.specs.Area.{area_words}
 use Rattle.table.specs.Held.{held}
 use Rattle.refusal.proofs.Refusals.{placeless}
 use Rattle.preparing.proofs.Preparing.{no_room, step_within}
