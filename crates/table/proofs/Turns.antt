@@ -1,23 +1,25 @@
 -- Laws of the tests: one for each turn and each way out of the functions that test an area's words.
-use Prim.Native.Nat.{ℕ, suc, ◌+◌, ◌-◌, ◌*◌, ◌/◌, ◌%◌, ◌<◌, ◌≤◌}
-use mathlib.Core.Path.{◌≡◌, refl, sym}
+use Prim.Native.Nat.{ℕ, zero, suc, ◌+◌, ◌-◌, ◌*◌, ◌/◌, ◌%◌, ◌<◌, ◌≤◌}
+use mathlib.Core.Path.{◌≡◌, refl, sym, ◌∙◌}
 use mathlib.Core.List.{List, [], ◌∷◌, ◌++◌}
 use mathlib.Core.Bool.{Bool, true, false, ◌&&◌, and-true, and-false, and_assoc}
 use native.Mathlib.Omega.{arith}
 use native.Mathlib.Numerals.{add-one}
-use lib.ListN.{length, get_or}
+use lib.ListN.{length, get_or, take, drop}
+use lib.Seq.{drop-cons}
 use lib.Bits.{bit_or, or_add_and, or_zero_l, and_le_l, and_le_r}
 use lib.Dec.{leb, eqb}
 use borrow.Author.Tests.{leb-true, le-leb, lt-leb, eq-eqb, ne_eqb}
 use Rattle.words.specs.Halves.{half, from_halves}
-use Rattle.words.proofs.Cases.{by_eq, and_left, and_right}
+use Rattle.words.proofs.Cases.{by_bool, by_eq, and_left, and_right}
+use Rattle.std.proofs.Common.{fold, Some, None}
 use Rattle.trace.specs.declared.Event.{Event}
 use Rattle.trace.specs.declared.Event.TheVariants.{Send, Recv, Save, Done}
 use Rattle.trace.specs.Fit.{event_fault}
 use Rattle.trace.specs.Trace.{value_of}
 use Rattle.trace.specs.Table.{word_of, top_in, process_in, peer_in}
 use Rattle.table.specs.Held.{event_of, held_value, held_event}
-use Rattle.table.specs.Inner.Tested.{zeros_from, word_fits, halves_are, fit_from, zeros_tested, framed, tested}
+use Rattle.table.specs.Inner.Tested.{zeros_from, read_event, word_fits, halves_are, fit_from, zeros_tested, framed, tested}
 
 -- each way out of `event`
 module _ (w v : ℕ) where
@@ -54,17 +56,55 @@ or_zero x y = by_eq (bit_or x y) 0
     (λ h. by_eq y 0 (λ k. absurd (e (rw (h, k) (or_zero_l 0)))) (λ k. rw (ne_eqb (bit_or x y) 0 e, ne_eqb y 0 k, and-false (eqb x 0))))
     (λ h. rw (ne_eqb (bit_or x y) 0 e, ne_eqb x 0 h)))
 
--- the turns of `zeros`, at place i, with the words before it together
-module _ (a : List ℕ) (any i to : ℕ) where
-  pub zeros_end : to ≤ i → eqb any 0 && zeros_from a i (to - i) ≡ eqb any 0
-  unfolding zeros_from
-  zeros_end h = let e : to - i ≡ 0 = omega arith in rw (e, and-true (eqb any 0))
+-- `zeros`: the words of a part of an area together are 0 exactly if each is
+pub zeros_fold : (any : ℕ) (a : List ℕ) (i n : ℕ) → i + n ≤ length a → eqb (fold bit_or any (take n (drop i a))) 0 ≡ eqb any 0 && zeros_from a i n
+unfolding zeros_from
+zeros_fold any a i zero h = sym (and-true (eqb any 0))
+zeros_fold any a i (suc n) h =
+    let inside : i < length a = omega arith in
+    rw (drop-cons a i 0 inside)
+    (zeros_fold (bit_or any (get_or a i 0)) a (suc i) n (omega arith)
+    ∙ rw (or_zero any (get_or a i 0)) (and_assoc (eqb any 0) (eqb (get_or a i 0) 0) (zeros_from a (suc i) n)))
 
-  pub zeros_next : i < to → eqb any 0 && zeros_from a i (to - i) ≡ eqb (bit_or any (get_or a i 0)) 0 && zeros_from a (i + 1) (to - (i + 1))
-  unfolding zeros_from
-  zeros_next l =
-      let e : to - i ≡ suc (to - suc i) = omega arith in
-      rw (add-one i, e, or_zero any (get_or a i 0)) (sym (and_assoc (eqb any 0) (eqb (get_or a i 0) 0) (zeros_from a (suc i) (to - suc i))))
+-- each way out of `read_event`, by the kind of the word
+module _ (w v : ℕ) where
+  pub read_send : top_in w ≡ 1 → Some (Send (process_in w) (peer_in w) v) ≡ read_event w v
+  unfolding read_event
+  read_send send =
+      let word : w % 64 % 64 + 64 * (w / 64 % 64 % 64) + 4096 ≡ w = omega arith in
+      rw (← event_send w v send, eq-eqb _ _ word, eq-eqb v v refl)
+
+  module _ (no_send : top_in w ≡ 1 → ⊥) where
+    pub read_value : (v ≡ 0 → ⊥) → None ≡ read_event w v
+    unfolding read_event
+    read_value z = rw (no_value w v no_send, ne_eqb 0 v (λ q. z (sym q)), and-false)
+
+    module _ (zero_value : v ≡ 0) where
+      pub read_recv : top_in w ≡ 2 → Some (Recv (process_in w) (peer_in w)) ≡ read_event w v
+      unfolding read_event
+      read_recv h =
+          let word : w % 64 % 64 + 64 * (w / 64 % 64 % 64) + 8192 ≡ w = omega arith in
+          rw (← event_recv w v no_send h, eq-eqb _ _ word, eq-eqb 0 v (sym zero_value))
+
+      module _ (no_recv : top_in w ≡ 2 → ⊥) where
+        pub read_save : w / 64 ≡ 192 → Some (Save (process_in w)) ≡ read_event w v
+        unfolding read_event
+        read_save h =
+            let word : w % 64 % 64 + 12288 ≡ w = omega arith in
+            rw (← event_save w v no_send no_recv (omega arith), eq-eqb _ _ word, eq-eqb 0 v (sym zero_value))
+
+        pub read_done : w / 64 ≡ 0 → Some (Done (process_in w)) ≡ read_event w v
+        unfolding read_event
+        read_done h =
+            let word : w % 64 % 64 ≡ w = omega arith in
+            rw (← event_done w v no_send no_recv (λ q. omega arith), eq-eqb _ _ word, eq-eqb 0 v (sym zero_value))
+
+        pub read_none : (w / 64 ≡ 192 → ⊥) → (w / 64 ≡ 0 → ⊥) → None ≡ read_event w v
+        unfolding read_event
+        read_none n m =
+            by_eq (top_in w) 3
+            (λ h. rw (← event_save w v no_send no_recv h, ne_eqb (w % 64 % 64 + 12288) w (λ q. n (omega arith))))
+            (λ k. rw (← event_done w v no_send no_recv k, ne_eqb (w % 64 % 64) w (λ q. m (omega arith))))
 
 -- each way out of `word_fits`, by the kind of the word
 module _ (fit : Event → Bool) (w v : ℕ) where
@@ -106,6 +146,24 @@ module _ (fit : Event → Bool) (w v : ℕ) where
         fits_done h r e =
             let word : w % 64 % 64 ≡ w = omega arith in
             rw (← event_done w v no_send no_recv (λ q. omega arith), eq-eqb _ _ word, eq-eqb 0 v (sym zero_value)) e
+
+-- what `read_event` says of a word and a value: they fit exactly if there is an event and it is fit
+module _ (fit : Event → Bool) (w v : ℕ) where
+  fits_read : word_fits fit w v ≡ (eqb (word_of (event_of w v)) w && eqb (value_of (event_of w v)) v) && fit (event_of w v)
+  unfolding word_fits
+  fits_read = sym (and_assoc (eqb (word_of (event_of w v)) w) (eqb (value_of (event_of w v)) v) (fit (event_of w v)))
+
+  pub read_unfit : read_event w v ≡ None → word_fits fit w v ≡ false
+  unfolding read_event
+  read_unfit h = by_bool (eqb (word_of (event_of w v)) w && eqb (value_of (event_of w v)) v)
+      (λ t. let q : Some (event_of w v) ≡ None = rw t at h in let z : ◌≡◌ {A = ℕ} 0 1 = cc in absurd (let y : ⊥ = omega arith in y))
+      (λ f. fits_read ∙ rw f)
+
+  pub read_fit : (e : Event) → read_event w v ≡ Some e → (e ≡ event_of w v) × (word_fits fit w v ≡ fit e)
+  unfolding read_event
+  read_fit e h = by_bool (eqb (word_of (event_of w v)) w && eqb (value_of (event_of w v)) v)
+      (λ t. let q : Some (event_of w v) ≡ Some e = rw t at h in let same : event_of w v ≡ e = cc in (sym same, fits_read ∙ rw (t, same)))
+      (λ f. let q : None ≡ Some e = rw f at h in let z : ◌≡◌ {A = ℕ} 0 1 = cc in absurd (let y : ⊥ = omega arith in y))
 
 -- a word that fits is that of a fit event
 pub fits_fit : (fit : Event → Bool) (w v : ℕ) → word_fits fit w v ≡ true → fit (event_of w v) ≡ true
@@ -161,6 +219,17 @@ module _ (p : ℕ) (es : List Event) (a : List ℕ) (i n : ℕ) where
         rw (q, r, add-one i, same, halves_event (get_or a (2065 + i) 0) (get_or a (4114 + i) 0) low high (get_or a (16 + i) 0))
         (and_four (eqb (word_of (held_event a i)) (get_or a (16 + i) 0)) (eqb (value_of (held_event a i)) (held_value a i)) (eqb (event_fault p es (held_event a i)) 0)
         (fit_from p (es ++ held_event a i ∷ []) a (suc i) (n - i)))
+
+    -- the same by the event that is read, if there is one
+    pub events_none : read_event (get_or a (16 + i) 0) (held_value a i) ≡ None → fit_from p es a i (n + 1 - i) ≡ false
+    events_none h = events_turn ∙ rw (read_unfit fit (get_or a (16 + i) 0) (held_value a i) h)
+
+    pub events_next : (e : Event) → read_event (get_or a (16 + i) 0) (held_value a i) ≡ Some e
+        → fit_from p es a i (n + 1 - i) ≡ fit e && fit_from p (es ++ e ∷ []) a (i + 1) (n + 1 - (i + 1))
+    events_next e h =
+        let (said, fits) = read_fit fit (get_or a (16 + i) 0) (held_value a i) e h in
+        let f = rw said at fits in
+        events_turn ∙ rw (said, f)
 
 -- each way out of `zeros_fit`, for n events: what each test said, and what it stands for
 module _ (a : List ℕ) (n : ℕ) where

@@ -4,64 +4,32 @@
 // is what a reading leaves. No public function has a `requires`. Assumes nothing.
 #![tactic(auto)]
 
-ghost use Rattle.std.specs.Prelude.{◌≡◌, true, [], ◌-◌, ◌≤◌, ◌<◌, length};
+ghost use Rattle.std.specs.Prelude.{◌≡◌, [], ◌-◌, ◌≤◌, length, fold, bit_or};
 ghost use Rattle.words.specs.Area.{area_words};
 ghost use Rattle.table.specs.Held.{event_of, holds_trace};
-ghost use Rattle.table.specs.Inner.Tested.{Room, zeros_from, fit_by, word_fits, fit_from, zeros_tested, framed};
-ghost use Rattle.trace.specs.Inner.Tally.{tallied};
+ghost use Rattle.table.specs.Inner.Tested.{zeros_from, read_event, fit_from, zeros_tested, framed};
 
-use trace::{EVENT_BASE, Event, HIGH_BASE, VALUE_BASE};
+use trace::{EVENT_BASE, EVENTS, Event, HIGH_BASE, PROCESSES, VALUE_BASE};
 use words::AREA_WORDS;
 
-// The event that a word and a value of the table area say.
+// The event that a word and a value of the table area say, whatever they are. (`Kind::of` looks at two bits alone; here
+// a word with a bit above them is read as a done's.)
+#[tactic(auto, unfolding(crate::specs::Held::event_of))]
 pub fn event(word: u32, value: u64) -> Event
     ensures { result ≡ event_of word value }
 {
-    let kind = trace::top(word);
     let at = trace::process(word) as u64;
-    let peer = trace::peer(word) as u64;
-    if kind == 1 {
-        return Event::Send {
-            at: at,
-            to: peer,
+    let other = trace::peer(word) as u64;
+    match trace::top(word) {
+        1 => Event::Send {
+            at,
+            to: other,
             val: value,
-        };
+        },
+        2 => Event::Recv { at, from: other },
+        3 => Event::Save { at },
+        _ => Event::Done { at },
     }
-    if kind == 2 {
-        return Event::Recv { at: at, from: peer };
-    }
-    if kind == 3 {
-        return Event::Save { at: at };
-    }
-    Event::Done { at: at }
-}
-
-// Whether the words from a place up to another are 0. They are looked at together, with no way out between, so that the
-// machine can take several at once: most words of an area are such.
-fn zeros(area: &[u32], from: usize, to: usize) -> bool
-    requires { (from ≤ to) × (to ≤ length area.now) }
-    ensures { result ≡ zeros_from area.now from (to - from) }
-{
-    let mut any: u32 = 0;
-    let mut i = from;
-    while i < to {
-        any = any | area[i];
-        i += 1;
-    }
-    any == 0
-}
-
-// Counts an event, if nothing is wrong with it after those that were counted; whether that is so.
-fn counted(counts: &mut [u16], procs: u64, e: Event) -> bool
-    requires { Room procs counts.old }
-    ensures answer { result ≡ fit_by procs counts.old e }
-    ensures counters { result ≡ true → counts.new ≡ tallied counts.old e }
-{
-    if trace::fault(counts, procs, e) != 0 {
-        return false;
-    }
-    trace::tally(counts, e);
-    true
 }
 
 // What stands above the process in the word of a checkpoint, kind 3 and no peer in one number, and in that of the end
@@ -70,41 +38,49 @@ pub const CHECKPOINT_WORD: u32 = 192;
 
 pub const DONE_WORD: u32 = 0;
 
-// Whether a word and a value are those of an event that is fit after those that were counted; then counts it. One test
-// for each kind of word, so that the event's kind is asked once.
-fn word_fits(counts: &mut [u16], procs: u64, w: u32, v: u64) -> bool
-    requires { Room procs counts.old }
-    ensures answer { result ≡ word_fits (fit_by procs counts.old) w v }
-    ensures counters { result ≡ true → counts.new ≡ tallied counts.old (event_of w v) }
+// The event of which a word and a value are those, if there is one. One test for each kind of word, so that the event's
+// kind is asked once.
+pub fn read_event(word: u32, value: u64) -> Option<Event>
+    ensures { result ≡ read_event word value }
 {
-    let top = trace::top(w);
-    let at = trace::process(w) as u64;
-    let peer = trace::peer(w) as u64;
-    if top == 1 {
-        return counted(
-            counts,
-            procs,
-            Event::Send {
-                at: at,
-                to: peer,
-                val: v,
-            },
-        );
+    let at = trace::process(word) as u64;
+    let peer = trace::peer(word) as u64;
+    if trace::top(word) == 1 {
+        return Some(Event::Send {
+            at,
+            to: peer,
+            val: value,
+        });
     }
-    if v != 0 {
-        return false;
+    if value != 0 {
+        return None;
     }
-    if top == 2 {
-        return counted(counts, procs, Event::Recv { at: at, from: peer });
+    if trace::top(word) == 2 {
+        return Some(Event::Recv { at, from: peer });
     }
-    let above = trace::above(w);
+    let above = trace::above(word);
     if above == CHECKPOINT_WORD {
-        return counted(counts, procs, Event::Save { at: at });
+        return Some(Event::Save { at });
     }
     if above != DONE_WORD {
-        return false;
+        return None;
     }
-    counted(counts, procs, Event::Done { at: at })
+    Some(Event::Done { at })
+}
+
+// All words together. There is no way out between them, so that the machine can take several at once.
+fn together(words: &[u32]) -> u32
+    ensures { result ≡ fold bit_or 0 words.now }
+{
+    words.iter().fold(0, |any, word| any | *word)
+}
+
+// Whether the words from a place up to another are 0, as most words of an area are.
+fn zeros(area: &[u32], from: usize, to: usize) -> bool
+    requires { (from ≤ to) × (to ≤ length area.now) }
+    ensures { result ≡ zeros_from area.now from (to - from) }
+{
+    together(&area[from..to]) == 0
 }
 
 // Whether the first n events are fit one after another and have the words that the area has.
@@ -112,18 +88,16 @@ fn events_fit(area: &[u32], procs: u64, n: usize) -> bool
     requires { (procs ≤ 64) × (n ≤ 2048) × (area_words ≤ length area.now) }
     ensures { result ≡ fit_from procs [] area.now 1 n }
 {
-    let mut counts = [0u16; trace::COUNTS];
-    let mut i: usize = 1;
-    while i <= n {
-        if !word_fits(
-            &mut counts,
-            procs,
-            area[EVENT_BASE + i],
-            words::from_halves(area[VALUE_BASE + i], area[HIGH_BASE + i]),
-        ) {
+    let mut counts = [0; trace::COUNTS];
+    for i in 1..n + 1 {
+        let value = words::from_halves(area[VALUE_BASE + i], area[HIGH_BASE + i]);
+        let Some(event) = read_event(area[EVENT_BASE + i], value) else {
             return false;
+        };
+        match trace::fault(&counts, procs, event) {
+            Ok(()) => trace::tally(&mut counts, event),
+            Err(_) => return false,
         }
-        i += 1;
     }
     true
 }
@@ -133,7 +107,7 @@ fn zeros_fit(area: &[u32], n: usize) -> bool
     requires { area_words ≤ length area.now }
     ensures { result ≡ zeros_tested area.now n }
 {
-    if n > 2048 {
+    if n > EVENTS {
         return false;
     }
     if !zeros(area, 2, EVENT_BASE + 1) {
@@ -156,15 +130,14 @@ pub fn frame_fits(area: &[u32]) -> bool
     if area.len() < AREA_WORDS {
         return false;
     }
-    let procs = area[0];
-    let n = area[1] as usize;
+    let procs = area[0] as usize;
     if procs < 2 {
         return false;
     }
-    if procs > 64 {
+    if procs > PROCESSES {
         return false;
     }
-    zeros_fit(area, n)
+    zeros_fit(area, area[1] as usize)
 }
 
 // Whether the first 16,384 words of an area are what reading some accepted trace leaves there.
@@ -174,5 +147,5 @@ pub fn holds_trace(area: &[u32]) -> bool
     if !frame_fits(area) {
         return false;
     }
-    events_fit(area, area[0] as u64, area[1] as usize)
+    events_fit(area, u64::from(area[0]), area[1] as usize)
 }

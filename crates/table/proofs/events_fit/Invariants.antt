@@ -19,6 +19,3 @@ pub record Before (area : List ℕ) (procs n : ℕ) (counts : List ℕ) (i : ℕ
 
 abbrev pub invariant-loop-i : goal.invariant-loop-i
 invariant-loop-i l = Before l.area l.procs l.n l.counts l.i
-
-abbrev pub decreases-loop-i : goal.decreases-loop-i
-decreases-loop-i l = l.n + 1 - l.i

@@ -11,8 +11,8 @@ pub returns-then-procs-lt2 : goal.returns-then-procs-lt2
 returns-then-procs-lt2 c =
     frame_low _ c.if-area-lt-AREA_WORDS.false (omega arith)
 
-pub returns-then-procs-gt64 : goal.returns-then-procs-gt64
-returns-then-procs-gt64 c =
+pub returns-then-procs-gt-PROCESSES : goal.returns-then-procs-gt-PROCESSES
+returns-then-procs-gt-PROCESSES c =
     frame_high _ c.if-area-lt-AREA_WORDS.false (omega arith) (omega arith)
 
 pub returns : goal.returns

@@ -19,8 +19,9 @@ bounds-area-1 c =
 
 pub events_fit-requires : goal.events_fit-requires
 events_fit-requires c =
-    let F = frame_facts c.args.area.now (sym c.frame_fits.ensures ∙ c.if-not-frame_fits.false) in (F.most, F.few, F.size)
+    let F = frame_facts c.args.area.now (sym c.frame_fits.ensures ∙ c.if-not-frame_fits.false) in (omega (arith, F.most, c.from.ensures), F.few, F.size)
 
 pub returns : goal.returns
 returns c =
-    frame_events _ (sym c.frame_fits.ensures ∙ c.if-not-frame_fits.false) _ c.events_fit.ensures ∙ tested_holds _
+    let e = rw c.from.ensures at c.events_fit.ensures in
+    frame_events _ (sym c.frame_fits.ensures ∙ c.if-not-frame_fits.false) _ e ∙ tested_holds _

@@ -1,12 +1,11 @@
-use mathlib.Core.Path.{sym, ◌∙◌}
+-- `table::zeros` meets its contract: the words together are 0 exactly if each is.
+use mathlib.Core.Path.{ap, ◌∙◌}
 use native.Mathlib.Omega.{arith}
-use Rattle.table.proofs.Turns.{zeros_end, zeros_next}
+use Prim.Native.Nat.{ℕ}
+use lib.Dec.{eqb}
+use Rattle.table.proofs.Turns.{zeros_fold}
 use Rattle.table.proofs.zeros.Goals as goal
-
-pub loop-i-preserved : goal.loop-i-preserved
-loop-i-preserved c =
-    (omega arith, omega arith, sym (zeros_next c.args.area.now c.loop-i.any _ _ c.loop-i-test.true) ∙ c.loop-i.invariant.2)
 
 pub returns : goal.returns
 returns c =
-    sym (zeros_end c.args.area.now c.loop-i.any _ _ c.loop-i-test.false) ∙ c.loop-i.invariant.2
+    ap (λ (n : ℕ). eqb n 0) c.together.ensures ∙ zeros_fold 0 c.args.area.now c.args.from _ (omega arith)

@@ -3,8 +3,8 @@ use Rattle.table.proofs.Turns.{zeros_many, zeros_head, zeros_gap, zeros_past, ze
 use native.Mathlib.Omega.{arith}
 use Rattle.table.proofs.zeros_fit.Goals as goal
 
-pub returns-then-n-gt2048 : goal.returns-then-n-gt2048
-returns-then-n-gt2048 c = zeros_many _ _ (omega arith)
+pub returns-then-n-gt-EVENTS : goal.returns-then-n-gt-EVENTS
+returns-then-n-gt-EVENTS c = zeros_many _ _ (omega arith)
 
 pub returns-then-not-zeros : goal.returns-then-not-zeros
 returns-then-not-zeros c =

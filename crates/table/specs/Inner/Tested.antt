@@ -1,5 +1,5 @@
 -- What the code tests, one word after another. No contract of a function that users call cites these.
-use Rattle.std.specs.Prelude.{ℕ, zero, suc, ◌+◌, ◌-◌, ◌<◌, ◌≤◌, List, [], ◌∷◌, ◌++◌, Bool, true, ◌&&◌, length, get_or, leb, eqb}
+use Rattle.std.specs.Prelude.{ℕ, zero, suc, ◌+◌, ◌-◌, ◌<◌, ◌≤◌, List, [], ◌∷◌, ◌++◌, Bool, true, ◌&&◌, length, get_or, leb, eqb, cond, Option, Some, None}
 use Rattle.words.specs.Area.{area_words}
 use Rattle.words.specs.Halves.{half}
 use Rattle.trace.specs.declared.Event.{Event}
@@ -20,6 +20,10 @@ pub record Room (procs : ℕ) (counts : List ℕ) : Type 0 where
 unfoldable pub zeros_from : List ℕ → ℕ → ℕ → Bool
 zeros_from a i zero = true
 zeros_from a i (suc n) = eqb (get_or a i 0) 0 && zeros_from a (suc i) n
+
+-- the event of which a word and a value are those, if there is one
+unfoldable pub read_event : ℕ → ℕ → Option Event
+read_event w v = cond (eqb (word_of (event_of w v)) w && eqb (value_of (event_of w v)) v) (Some (event_of w v)) None
 
 -- a word and a value are those of the event that they say, and the event is fit by a test
 unfoldable pub word_fits : (Event → Bool) → ℕ → ℕ → Bool
