@@ -8,8 +8,8 @@ use lib.Dec.{eqb}
 use lib.ListN.{length}
 use borrow.Author.Tests.{eqb-true, ne_eqb}
 use Rattle.words.proofs.Cases.{and_left}
-use Rattle.text.specs.declared.Num.{Num}
-use Rattle.text.specs.declared.Num.TheVariants.{Value, Refused}
+use Rattle.std.specs.Prelude.{Option, Some, None}
+use Rattle.text.specs.declared.Numeral.{Numeral}
 use Rattle.text.specs.Bytes.{bytes_of}
 use Rattle.text.specs.Number.{number_at}
 use Rattle.text.specs.Key.{key_at, starts_with, field_at}
@@ -30,10 +30,10 @@ record NoCount (l : Line) : Type 0 where
   is : count_only l ≡ Malformed
 
 module _ (next : ℕ → ℕ → Line) (h : (v p : ℕ) → NoCount (next v p)) where
-  no_count : (n : Num) → NoCount (then_line n next)
+  no_count : (n : Option Numeral) → NoCount (then_line n next)
   unfolding count_only
-  no_count (Value v p) = h v p
-  no_count Refused = record { is = refl }
+  no_count (Some n) = h n.value n.end
+  no_count None = record { is = refl }
 
 no_end : (b : Bool) (l : Line) → NoCount l → NoCount (when_end b l)
 unfolding count_only
@@ -74,11 +74,11 @@ unfolding count_only
 end_count true n = refl
 end_count false n = refl
 
-then_count : (l : List ℕ) (n : Num)
+then_count : (l : List ℕ) (n : Option Numeral)
     → count_only (then_line n (λ m p. when_end (eqb p (length l)) (Procs m))) ≡ then_line n (λ m p. when_end (eqb p (length l)) (Procs m))
 unfolding count_only
-then_count l (Value v p) = end_count (eqb p (length l)) v
-then_count l Refused = refl
+then_count l (Some n) = end_count (eqb n.end (length l)) n.value
+then_count l None = refl
 
 count_count : (l : List ℕ) → count_only (procs_said l) ≡ procs_said l
 unfolding procs_said

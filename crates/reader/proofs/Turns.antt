@@ -5,7 +5,7 @@ use mathlib.Core.List.{List, [], ◌∷◌}
 use native.Mathlib.Omega.{arith}
 use lib.ListN.{length, take, drop, drop_of_length-le, length-drop}
 use borrow.Author.Tests.{lt-ltb, le-ltb}
-use Rattle.text.specs.declared.LineEnd.TheVariants.{At, Missing}
+use Rattle.std.specs.Prelude.{Some, None}
 use Rattle.text.specs.Inner.Line.{line_end}
 use Rattle.trace.specs.declared.Event.{Event}
 use Rattle.trace.specs.Trace.{Trace, started, extended}
@@ -19,7 +19,6 @@ use Rattle.reader.specs.Inner.Reading.{count_only, Holds, Scanned, Unread, Ended
 use Rattle.reader.proofs.Pieces.{first_piece}
 use Rattle.reader.proofs.Cutting.{cut_none, line_cut, line_none, first_cut}
 use Rattle.lines.specs.Inner.Placing.{next_line}
-use Rattle.lines.specs.declared.Placed as placed
 use Rattle.lines.specs.declared.Line as line
 
 -- a last piece that is something lacks its LF
@@ -38,11 +37,11 @@ module _ (text : List ℕ) (t : Trace) (k at : ℕ) where
   unfolding lines_from pieces
   turn_end h = rw (drop_of_length-le text {i = at} h)
 
-  pub turn_missing : at < length text → next_line text at ≡ placed.TheVariants.Missing → lines_from t k (pieces (drop at text)) ≡ refused 1 k
+  pub turn_missing : at < length text → next_line text at ≡ None → lines_from t k (pieces (drop at text)) ≡ refused 1 k
   unfolding lines_from
   turn_missing h e = rw (line_none text at e) (lacks (drop at text) t k (rw (length-drop at text) (omega arith)))
 
-  module _ (l : Line) (next : ℕ) (e : next_line text at ≡ placed.TheVariants.Said l next) (j : Judged) (h : j ≡ judge t l) where
+  module _ (l : Line) (next : ℕ) (e : next_line text at ≡ Some (l, next)) (j : Judged) (h : j ≡ judge t l) where
     turn_line : lines_from t k (pieces (drop at text)) ≡ after_line j t k (pieces (drop next text)) (λ d. lines_from (extended t d) (k + 1) (pieces (drop next text)))
     turn_line =
         let (after, within, piece, cut, said) = line_cut text at l next e in
@@ -96,11 +95,11 @@ first_count line.TheVariants.Malformed next = refl
 
 -- each way out of `scan_text`
 module _ (text : List ℕ) where
-  pub scan_missing : line_end text 0 ≡ Missing → scan text ≡ refused 1 1
+  pub scan_missing : line_end text 0 ≡ None → scan text ≡ refused 1 1
   unfolding scan scan_pieces
   scan_missing e = rw (cut_none 0 text e)
 
-  module _ (i : ℕ) (e : line_end text 0 ≡ At i) (l : Line) (h : l ≡ count_only (line_said (take i text))) where
+  module _ (i : ℕ) (e : line_end text 0 ≡ Some i) (l : Line) (h : l ≡ count_only (line_said (take i text))) where
     abbrev rest : ℕ → Scan
     rest n = lines_from (started n) 2 (pieces (drop (i + 1) text))
 

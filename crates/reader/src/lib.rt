@@ -16,9 +16,8 @@ ghost use Rattle.trace.specs.Inner.Tally.{count_words};
 ghost use Rattle.reader.specs.Verdict.{judge_event, judge, lines_from, pieces, scan, verdict};
 ghost use Rattle.reader.specs.Inner.Reading.{count_only, judged, Tallied, Opened, appended, FirstRead, scanned, ScanOutcome};
 
-use lines::{Line, Placed};
+use lines::Line;
 use refusal::{Refusal, Refused};
-use text::LineEnd;
 use trace::{EVENTS, Event, PROCESSES};
 use words::AREA_WORDS;
 
@@ -58,7 +57,7 @@ fn first_line(line: &[u8]) -> Line
 fn process_count(text: &[u8]) -> Result<(u64, usize), Refused>
     ensures { FirstRead text.now result }
 {
-    let LineEnd::At(end) = text::line_end(text, 0) else {
+    let Some(end) = text::line_end(text, 0) else {
         return Err(Refusal::Malformed.at(1));
     };
     let first = first_line(&text[..end]);
@@ -128,7 +127,7 @@ fn read_events(
     let mut at = from;
     let mut n: usize = 0;
     while at < text.len() {
-        let Placed::Said(line, next) = lines::next_line(text, at) else {
+        let Some((line, next)) = lines::next_line(text, at) else {
             return Err(Refusal::Malformed.at(n + 2));
         };
         match judge_line(counts, procs, n, line) {

@@ -42,24 +42,24 @@ tally-requires c =
 pub returns-in-Ok-Failure : goal.returns-in-Ok-Failure
 returns-in-Ok-Failure c =
     let said = c.in-Ok-Failure.ensures c.loop-at.invariant.run c.loop-at.invariant.counted in
-    out_same _ _ _ _ _ c.loop-at.invariant.rest (turn_fails _ _ _ _ _ _ (sym c.next_line.ensures ∙ c.in-Said.is) _ said _ _ (ap (λ (x : Judged). judged (Ok x)) c.in-Ok-Failure.field-0-is) _ (omega (arith, c.loop-at.invariant.few)) c.loop-at.invariant.holds)
+    out_same _ _ _ _ _ c.loop-at.invariant.rest (turn_fails _ _ _ _ _ _ (sym c.next_line.ensures ∙ c.in-Some.is) _ said _ _ (ap (λ (x : Judged). judged (Ok x)) c.in-Ok-Failure.field-0-is) _ (omega (arith, c.loop-at.invariant.few)) c.loop-at.invariant.holds)
 
 pub returns-in-Err : goal.returns-in-Err
 returns-in-Err c =
     let said = c.in-Err.ensures c.loop-at.invariant.run c.loop-at.invariant.counted in
     out_refused _ _ _ _ _
-    (at_line _ _ _ _ c.at-in-Err.ensures (sym c.loop-at.invariant.rest ∙ turn_unfit _ _ _ _ _ _ (sym c.next_line.ensures ∙ c.in-Said.is) _ said _ refl))
+    (at_line _ _ _ _ c.at-in-Err.ensures (sym c.loop-at.invariant.rest ∙ turn_unfit _ _ _ _ _ _ (sym c.next_line.ensures ∙ c.in-Some.is) _ said _ refl))
     c.loop-at.invariant.holds.size
 
 pub loop-at-smaller : goal.loop-at-smaller
 loop-at-smaller c =
-    let q = line_cut _ _ _ _ (sym c.next_line.ensures ∙ c.in-Said.is) in omega (arith, q.0, q.1)
+    let q = line_cut _ _ _ _ (sym c.next_line.ensures ∙ c.in-Some.is) in omega (arith, q.0, q.1)
 
 pub loop-at-preserved : goal.loop-at-preserved
 loop-at-preserved c =
     let said = c.in-Ok-Event.ensures c.loop-at.invariant.run c.loop-at.invariant.counted in
     let f = fit_judged c.loop-at.invariant.run _ _ _ said (ap (λ (x : Judged). judged (Ok x)) c.in-Ok-Event.field-0-is) in
-    let q = line_cut _ _ _ _ (sym c.next_line.ensures ∙ c.in-Said.is) in
+    let q = line_cut _ _ _ _ (sym c.next_line.ensures ∙ c.in-Some.is) in
     let k : c.loop-at.n + 2 + 1 ≡ c.loop-at.n + 1 + 2 = omega arith in
     let most : c.loop-at.invariant.run.procs ≤ 64 = omega (arith, c.requires.procs_most, c.loop-at.invariant.counted.procs_is) in
     record {
@@ -72,7 +72,7 @@ loop-at-preserved c =
       few = omega (arith, f.0, c.loop-at.invariant.counted.size_is);
       within = omega (arith, q.1);
       holds = rw (c.append.ensures, c.loop-at.invariant.counted.size_is) (next_holds c.loop-at.invariant.run _ _ c.loop-at.invariant.holds f.0);
-      rest = rw (← k) (sym (turn_fit _ _ _ _ _ _ (sym c.next_line.ensures ∙ c.in-Said.is) _ said _ (ap (λ (x : Judged). judged (Ok x)) c.in-Ok-Event.field-0-is)) ∙ c.loop-at.invariant.rest);
+      rest = rw (← k) (sym (turn_fit _ _ _ _ _ _ (sym c.next_line.ensures ∙ c.in-Some.is) _ said _ (ap (λ (x : Judged). judged (Ok x)) c.in-Ok-Event.field-0-is)) ∙ c.loop-at.invariant.rest);
     }
 
 pub returns : goal.returns
