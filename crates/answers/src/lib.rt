@@ -3,11 +3,14 @@
 
 ghost use Rattle.std.specs.Prelude.{true, ◌≡◌, ◌≤◌};
 ghost use Rattle.bruteforce.specs.Counts.{SmallRun};
+ghost use Rattle.recovery.specs.Answers.{replay_answered};
+ghost use Rattle.restart.specs.Restart.{restart_answered};
 
 use bestline::Best;
 use bruteforce::{Failure, STAYS};
 use orders::Replayed;
 use recovery_line::Line;
+use refusal::Refused;
 use restart::Restarted;
 
 // Numbers of three processes as the engine has them: 64, of which the rest are 0.
@@ -39,11 +42,13 @@ fn same_going(count: u32, line: &[u32; 4], set: u64, back: u32) -> bool {
 }
 
 // Is the engine's answer the best line, with its epochs at the cut and its phases. A refusal never is.
-pub fn same_answer(count: u32, b: Best, r: Restarted) -> bool
-    ensures { result ≡ true → r.number ≡ 0 }
+pub fn same_answer(count: u32, b: Best, answer: Result<Restarted, Refused>) -> bool
+    ensures { result ≡ true → (restart_answered answer).number ≡ 0 }
 {
-    r.number == 0
-        && r.line.count == count as usize
+    let Ok(r) = answer else {
+        return false;
+    };
+    r.line.count == count as usize
         && r.line.epochs == wide(&b.line)
         && r.epochs == wide(&b.epochs)
         && r.phases == wide(&b.phases)
@@ -52,11 +57,19 @@ pub fn same_answer(count: u32, b: Best, r: Restarted) -> bool
 
 // Is a replay of the lowest order right: accepted and complete; from a line that loses nothing the record of the run
 // without failure, after all steps; from any other line another record.
-pub fn right_replay(f: Failure, line: &[u32; 4], r: Replayed, same: bool) -> bool
+pub fn right_replay(
+    f: Failure,
+    line: &[u32; 4],
+    answer: Result<Replayed, Refused>,
+    same: bool,
+) -> bool
     requires { SmallRun f }
-    ensures { result ≡ true → r.number ≡ 0 }
+    ensures { result ≡ true → (replay_answered answer).number ≡ 0 }
 {
-    if r.number != 0 || !r.complete {
+    let Ok(r) = answer else {
+        return false;
+    };
+    if !r.complete {
         return false;
     }
     if bruteforce::loses(f, line) {

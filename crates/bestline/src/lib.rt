@@ -75,7 +75,8 @@ fn permitted(f: Failure, finished: &[u32; 4], line: &[u32; 4]) -> bool
     true
 }
 
-// How many numbers stand for lines of two or three processes.
+// How many numbers stand for lines of two or three processes. Like `Trace::everyone` of checks_line in shape alone: one
+// function of both would be no plainer.
 pub fn codes(count: u32) -> u32
     ensures { result ≤ 125 }
 {

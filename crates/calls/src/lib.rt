@@ -6,8 +6,10 @@
 ghost use Rattle.std.specs.Prelude.{◌+◌, ◌≤◌, length};
 ghost use Rattle.io.specs.Counts.{IsPrefixLen};
 
+use messages::Counted;
 use orders::Replayed;
 use recovery_line::Line;
+use refusal::Refused;
 use words::AREA_WORDS;
 
 // What every run area holds before a call: words that the call leaves as they were are seen in what is printed.
@@ -41,7 +43,7 @@ fn faultless(table: &[u32; AREA_WORDS], c: Call, run: &[u32; AREA_WORDS]) -> boo
         count: c.line.count,
     };
     let mut whole = [0u32; AREA_WORDS];
-    recovery::lowest(table, c.step, c.set, all, &mut whole);
+    let _ = recovery::lowest(table, c.step, c.set, all, &mut whole);
     *run == whole
 }
 
@@ -57,14 +59,19 @@ fn print_record(run: &[u32; AREA_WORDS]) {
 }
 
 // The answer to a replay, and the record that is left: is it that of the run without failure, and what it has.
-fn print_replayed(r: Replayed, same: bool, run: &[u32; AREA_WORDS]) {
+fn print_replayed(answer: Result<Replayed, Refused>, same: bool, run: &[u32; AREA_WORDS]) {
+    let (number, place) = checks::number_and_place(answer.err());
+    let (steps, complete) = match answer {
+        Ok(r) => (r.steps, r.complete),
+        Err(_) => (0, false),
+    };
     checks::print(
         b" number=# place=# steps=# complete=# same=#",
         &[
-            u64::from(r.number),
-            r.place as u64,
-            r.steps as u64,
-            u64::from(r.complete),
+            number,
+            place,
+            steps as u64,
+            u64::from(complete),
             u64::from(same),
         ],
     );
@@ -122,12 +129,21 @@ fn print_messages(run: &[u32; AREA_WORDS], before: usize, count: usize)
 // How many messages of each class a line leaves, and the lost ones.
 fn list_messages(table: &[u32; AREA_WORDS], c: Call) {
     let mut run = [BEFORE; AREA_WORDS];
-    let m = messages::messages(table, c.step, c.set, c.line, &mut run);
+    let answer = messages::messages(table, c.step, c.set, c.line, &mut run);
+    let (number, place) = checks::number_and_place(answer.err());
+    let m = match answer {
+        Ok(m) => m,
+        Err(_) => Counted {
+            orphans: 0,
+            kept: 0,
+            lost: 0,
+        },
+    };
     checks::print(
         b" number=# place=# orphans=# kept=# lost=#",
         &[
-            u64::from(m.number),
-            m.place as u64,
+            number,
+            place,
             u64::from(m.orphans),
             u64::from(m.kept),
             u64::from(m.lost),
@@ -138,16 +154,15 @@ fn list_messages(table: &[u32; AREA_WORDS], c: Call) {
 
 // The engine's line, of three processes.
 fn find_line(table: &[u32; AREA_WORDS], c: Call) {
-    let r = restart::restart(table, c.step, c.set);
+    let answer = restart::restart(table, c.step, c.set);
+    let (number, place) = checks::number_and_place(answer.err());
+    let [a, b, c] = match answer {
+        Ok(r) => [r.line.epochs[0], r.line.epochs[1], r.line.epochs[2]],
+        Err(_) => [0; 3],
+    };
     checks::print(
         b" number=# place=# restart=# restart=# restart=#",
-        &[
-            u64::from(r.number),
-            r.place as u64,
-            u64::from(r.line.epochs[0]),
-            u64::from(r.line.epochs[1]),
-            u64::from(r.line.epochs[2]),
-        ],
+        &[number, place, u64::from(a), u64::from(b), u64::from(c)],
     );
 }
 
@@ -166,6 +181,7 @@ fn read_line(row: &[u8], count: u32) -> Line {
     Line { epochs, count }
 }
 
+// A letter stands for a call: an enum of the four would be no plainer than this match.
 fn run_call(table: &[u32; AREA_WORDS], kind: u8, c: Call, row: &[u8]) {
     match kind {
         b'o' => replay_order(table, c, row),
@@ -201,12 +217,12 @@ fn run_rows(table: &[u32; AREA_WORDS], rows: &[u8]) {
 
 fn run_trace(text: &[u8], rows: &[u8]) {
     let mut table = [0u32; AREA_WORDS];
-    reader::read(text, &mut table);
+    let _ = reader::read(text, &mut table);
     run_rows(&table, rows);
 }
 
 // Every trace with its rows: the `-` after the trace is a row without a call. Answers the place after the last: all of
-// the input was gone through.
+// the input was gone through. The loop goes on by what was read, as no `for` does.
 pub fn run_traces(input: &[u8]) -> usize
     ensures { length input.now ≤ result }
 {

@@ -1,17 +1,13 @@
 -- Laws of rows: one for each way the search for a byte goes, over the values that the code has.
 use Prim.Native.Nat.{ℕ, ◌+◌, ◌<◌, ◌≤◌}
-use mathlib.Core.Path.{◌≡◌, sym, ap, ◌∙◌}
+use mathlib.Core.Path.{◌≡◌, sym}
 use mathlib.Core.List.{List}
-use Rattle.std.specs.Prelude.{Option, Some, None}
 use native.Mathlib.Omega.{arith}
 use native.Mathlib.Numerals.{add-one}
 use lib.ListN.{length, get_or, drop, drop_of_length-le}
 use lib.Seq.{drop-cons, length-take-le}
 use borrow.Author.Tests.{eq-eqb, ne_eqb, lt-ltb, le-ltb}
-use Rattle.text.specs.declared.Num.{Num}
-use Rattle.text.specs.declared.Num.TheVariants.{Value, Refused}
-use Rattle.text.specs.Number.{number_at}
-use Rattle.checks.specs.Inner.Rows.{before, row_place, Place, field_place, value_of, number_of}
+use Rattle.checks.specs.Inner.Rows.{before, row_place, Place, field_place}
 
 module _ (b from : ℕ) (xs : List ℕ) where
   pub place_past : length xs < from → Place b from xs (length xs)
@@ -39,15 +35,3 @@ module _ (b i : ℕ) (xs : List ℕ) where
 pub field_next : (row : List ℕ) (k at r : ℕ) → at ≡ field_place row k → r ≡ row_place 32 at row → r + 1 ≡ field_place row (k + 1)
 unfolding field_place
 field_next row k at r e f = rw (add-one k, ← e, ← f)
-
--- what the field begins with, over the place and the answer that the code has
-module _ (row : List ℕ) (k at : ℕ) (n : Num) (e : at ≡ field_place row k) (f : n ≡ number_at row at 18446744073709551614) where
-  number_is : value_of n ≡ number_of row k
-  unfolding number_of
-  number_is = rw (← e, ← f)
-
-  pub number_read : (v p : ℕ) → n ≡ Value v p → Some v ≡ number_of row k
-  number_read v p g = ap value_of (sym g) ∙ number_is
-
-  pub number_none : n ≡ Refused → None ≡ number_of row k
-  number_none g = ap value_of (sym g) ∙ number_is

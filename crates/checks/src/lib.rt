@@ -1,12 +1,17 @@
-// What gate programs share: the numbers of the rows of their cases, and rows of results put together and printed. Each
-// function says what it does by a definition of specs/Inner, for every input; no public function has a `requires`. What
-// reaches standard output no contract can say. Assumes what `libc` assumes.
+// What gate programs share: the numbers of the rows of their cases, those of a refusal, and rows of results put together
+// and printed. Each function says what it does by a definition, for every input; no public function has a `requires`.
+// What reaches standard output no contract can say. Assumes what `libc` assumes.
 #![tactic(auto)]
 
 ghost use Rattle.std.specs.Prelude.{◌≡◌, ◌≤◌, length, get_or, take};
-ghost use Rattle.writer.specs.Inner.Puts.{Puts};
+ghost use Rattle.std.specs.Option.{option_map_or};
+ghost use Rattle.refusal.specs.Refusals as refusals;
+ghost use Rattle.writer.specs.Inner.Sinks.{Takes};
 ghost use Rattle.checks.specs.Inner.Filled.{piece, takes, filled, Fills};
 ghost use Rattle.checks.specs.Inner.Rows.{Place, field_place, number_of};
+
+use refusal::Refused;
+use writer::Sink;
 
 // The place of the first byte b at or after a place, or the end.
 pub fn find(bytes: &[u8], from: usize, b: u8) -> usize
@@ -35,12 +40,21 @@ fn field(row: &[u8], k: usize) -> usize
 }
 
 // The number that field k of a row begins with, if there is one. None is above 2^64 - 2.
+#[tactic(auto, unfolding(crate::specs::Inner::Rows::number_of))]
 pub fn number(row: &[u8], k: usize) -> Option<u64>
     ensures { result ≡ number_of row.now k }
 {
-    match text::number(row, field(row, k), u64::MAX - 1) {
-        text::Num::Value(v, _at) => Some(v),
-        text::Num::Refused => None,
+    Some(text::number(row, field(row, k), u64::MAX - 1)?.value)
+}
+
+// The number and the place of a refusal, 0 and 0 where nothing is refused.
+pub fn number_and_place(refused: Option<Refused>) -> (u64, u64)
+    ensures number { result.0 ≡ option_map_or (λ r. refusals.number_of r.refusal) refused 0 }
+    ensures place { result.1 ≡ option_map_or (λ r. r.place) refused 0 }
+{
+    match refused {
+        Some(r) => (u64::from(r.refusal.number()), r.place as u64),
+        None => (0, 0),
     }
 }
 
@@ -59,26 +73,27 @@ fn taken(b: u8) -> usize
 }
 
 // What a byte of a pattern stands for where v is the next value.
-fn put_piece(out: &mut [u8], at: usize, b: u8, v: u64) -> usize
-    ensures { Puts (piece b v) out.old at out.new result }
+fn put_piece(sink: &mut Sink<'_, u8>, b: u8, v: u64)
+    ensures { Takes (piece b v) sink.old sink.new }
 {
     if b == b'#' {
-        return writer::put_number(out, at, v);
+        sink.put_number(v);
+    } else {
+        sink.put(b);
     }
-    writer::put_bytes(out, at, &[b])
 }
 
 // Puts a pattern with its values filled in at a place, and answers the place after it; a full buffer takes no more.
 pub fn put(out: &mut [u8], at: usize, pattern: &[u8], values: &[u64]) -> usize
     ensures { Fills pattern.now values.now out.old at out.new result }
 {
-    let mut next = at;
+    let mut sink = Sink { out, next: at };
     let mut k = 0;
     for b in pattern {
-        next = put_piece(out, next, *b, value(values, k));
+        put_piece(&mut sink, *b, value(values, k));
         k += taken(*b);
     }
-    next
+    sink.next
 }
 
 // Prints a pattern with its values filled in, its first 512 bytes, and answers how many bytes that is.

@@ -206,16 +206,17 @@ impl Bench {
             return;
         }
         let (text, n) = trace.text();
-        let r = reader::read(&text[..n], &mut self.table);
+        let answer = reader::read(&text[..n], &mut self.table);
+        let (number, place) = checks::number_and_place(answer.err());
         match verdict {
             Some(refusal) => {
                 self.tally.refused = self.tally.refused.wrapping_add(1);
-                self.tally.expect(r.number == refusal.fault as u32);
-                self.tally.expect(r.place == refusal.place as usize);
+                self.tally.expect(number == u64::from(refusal.fault as u32));
+                self.tally.expect(place == u64::from(refusal.place));
             }
             None => {
-                self.tally.expect(r.number == 0);
-                self.tally.expect(r.place == 0);
+                self.tally.expect(number == 0);
+                self.tally.expect(place == 0);
                 self.check_trace(trace);
             }
         }

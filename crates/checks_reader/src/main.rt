@@ -7,6 +7,7 @@
 ghost use Rattle.std.specs.Prelude.{◌≤◌, length};
 ghost use Rattle.io.specs.Counts.{IsPrefixLen};
 
+use refusal::Refused;
 use words::AREA_WORDS;
 
 // What every area holds before a reading.
@@ -17,16 +18,16 @@ fn others(area: &[u32], from: usize, to: usize, v: u32) -> u64 {
     area.iter().take(to).skip(from).filter(|w| **w != v).count() as u64
 }
 
-fn print_answer(name: &[u8], a: reader::Answer) {
+fn print_answer(name: &[u8], answer: Result<(), Refused>) {
     io::write_all(1, name);
-    checks::print(b" # #", &[u64::from(a.number), a.place as u64]);
+    let (number, place) = checks::number_and_place(answer.err());
+    checks::print(b" # #", &[number, place]);
 }
 
 // Reads a text into an area of 16,400 words.
 fn case(name: &[u8], text: &[u8]) {
     let mut area = [BEFORE; 16400];
-    let a = reader::read(text, &mut area);
-    print_answer(name, a);
+    print_answer(name, reader::read(text, &mut area));
     let left = others(&area, 0, AREA_WORDS, 0);
     let past = others(&area, AREA_WORDS, 16400, BEFORE);
     checks::print(b" # #\n", &[left, past]);
@@ -36,16 +37,14 @@ fn case(name: &[u8], text: &[u8]) {
 // Reads a text into an area of 16,383 words, one too few: the count is of words that changed.
 fn small(name: &[u8], text: &[u8]) {
     let mut area = [BEFORE; 16383];
-    let a = reader::read(text, &mut area);
-    print_answer(name, a);
+    print_answer(name, reader::read(text, &mut area));
     checks::print(b" #\n", &[others(&area, 0, 16383, BEFORE)]);
 }
 
 // A text read, and where it is accepted written back and read again.
 fn print_back(text: &[u8]) {
     let mut area = [BEFORE; AREA_WORDS];
-    let a = reader::read(text, &mut area);
-    if a.number == 0 {
+    if reader::read(text, &mut area).is_ok() {
         let mut out = [roundtrip::BEFORE; roundtrip::ROOM];
         roundtrip::print_trip(&area, text, &mut out);
     }
@@ -63,13 +62,14 @@ fn print_words(area: &[u32], from: usize) {
 // Reads a text into an area of 16,384 words, no more, and prints those from a place on.
 fn table(name: &[u8], text: &[u8], from: usize) {
     let mut area = [BEFORE; 16384];
-    let a = reader::read(text, &mut area);
-    print_answer(name, a);
+    print_answer(name, reader::read(text, &mut area));
     io::write_all(1, b"\n");
     print_words(&area, from);
     print_back(text);
 }
 
+// Texts stand in buffers of fixed size, since nothing of this repository allocates (rule of the project).
+//
 // Puts a piece so many times at the end of a text, and answers where it ends then. No text here has a byte `#`.
 fn repeat(text: &mut [u8], from: usize, piece: &[u8], times: usize) -> usize
     requires { from ≤ length text.old }

@@ -22,7 +22,7 @@ use words::AREA_WORDS;
 // that are left are no trace.
 fn print_back(text: &[u8]) {
     let mut table = [0u32; AREA_WORDS];
-    reader::read_failure(text, &mut table);
+    let _ = reader::read_failure(text, &mut table);
     let mut out = [roundtrip::BEFORE; roundtrip::ROOM];
     roundtrip::print_trip(&table, text, &mut out);
 }
@@ -37,7 +37,8 @@ fn print_report(text: &[u8]) {
     io::write_all(1, b"-\n");
 }
 
-// A report on every text. The `-` and the LF after it belong to none, so that a text may lack its last LF.
+// A report on every text. The `-` and the LF after it belong to none, so that a text may lack its last LF. The
+// loop goes on by what was read, as no `for` does.
 fn print_reports(input: &[u8]) {
     let mut at: usize = 0;
     while at < input.len() {

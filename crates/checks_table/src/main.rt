@@ -16,12 +16,12 @@ fn print_answer(area: &[u32]) {
         },
     );
     let mut out = [0; 256];
-    let w = rendering::write(area, &mut out);
-    checks::print(
-        b" write=# place=#\n",
-        &[u64::from(w.number), w.place as u64],
-    );
-    io::write_all(1, &out[..w.length.min(256)]);
+    let answer = rendering::write(area, &mut out);
+    let (number, place) = checks::number_and_place(answer.err());
+    checks::print(b" write=# place=#\n", &[number, place]);
+    if let Ok(length) = answer {
+        io::write_all(1, &out[..length.min(256)]);
+    }
 }
 
 // One word changed, the answer printed, and the word put back.
@@ -51,8 +51,8 @@ fn print_zero() {
     let mut area = [0; 16400];
     io::write_all(1, b"zero area");
     print_answer(&area);
-    let r = reader::read(b"procs=1\n", &mut area);
-    checks::print(b"refused=#", &[u64::from(r.number)]);
+    let answer = reader::read(b"procs=1\n", &mut area);
+    checks::print(b"refused=#", &[checks::number_and_place(answer.err()).0]);
     print_answer(&area);
 }
 
@@ -88,8 +88,8 @@ fn case(area: &mut [u32], row: &[u8]) {
 fn check(input: &[u8]) {
     let end = checks::find(input, 0, b'-');
     let mut area = [0; 16400];
-    let r = reader::read(&input[..end], &mut area);
-    checks::print(b"read=#", &[u64::from(r.number)]);
+    let answer = reader::read(&input[..end], &mut area);
+    checks::print(b"read=#", &[checks::number_and_place(answer.err()).0]);
     print_answer(&area);
     for row in input[end..].split(|b| *b == b'\n') {
         case(&mut area, row);

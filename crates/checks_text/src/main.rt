@@ -19,11 +19,7 @@ fn put_lf(text: &mut [u8], at: usize) {
 
 // Where a search from a place finds the first LF.
 fn print_end(text: &[u8], from: usize) {
-    let place = match text::line_end(text, from) {
-        text::LineEnd::At(place) => place,
-        text::LineEnd::Missing => 99,
-    };
-    checks::print(b" #", &[place as u64]);
+    checks::print(b" #", &[text::line_end(text, from).unwrap_or(99) as u64]);
 }
 
 // So many bytes, with the LF at a place or cut off.

@@ -3,4 +3,5 @@ pub mod Decimal
 pub mod Field
 pub mod OneLine
 pub mod Plain
+pub mod Begun
 pub mod Placing

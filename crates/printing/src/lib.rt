@@ -23,6 +23,7 @@ pub fn put_process(sink: &mut Sink<'_, u8>, z: u64, epoch: u32, number: u32, pha
 }
 
 // The line of a message, from its first key and its three words.
+#[inline(always)]
 pub fn put_message(sink: &mut Sink<'_, u8>, key: &[u8], w: u32, number: u32, phase: u32)
     ensures { Takes (words_row key.now w number phase) sink.old sink.new }
 {

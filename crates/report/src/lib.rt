@@ -44,6 +44,7 @@ fn put_processes(sink: &mut Sink<'_, u8>, r: Restarted)
 }
 
 // The line of the message that an event sends, by its first key and from the event's words.
+#[inline(always)]
 fn put_sent(sink: &mut Sink<'_, u8>, key: &[u8], full: &[u32], event: u16)
     requires { (length full.now ≡ full_words) × (event ≤ 2048) }
     ensures { Takes (event_row key.now full.now event) sink.old sink.new }
@@ -58,7 +59,9 @@ fn put_sent(sink: &mut Sink<'_, u8>, key: &[u8], full: &[u32], event: u16)
     );
 }
 
-// A line for each of some messages, by their first key and the events that send them.
+// A line for each of some messages, by their first key and the events that send them. (Put into its callers, as
+// `writer`'s methods are.)
+#[inline(always)]
 fn put_messages(sink: &mut Sink<'_, u8>, key: &[u8], full: &[u32], events: &[u16])
     requires { (length full.now ≡ full_words) × Sends events.now (length events.now) }
     ensures { Takes (event_rows key.now full.now events.now) sink.old sink.new }

@@ -3,9 +3,10 @@
 #![tactic(auto)]
 
 ghost use Rattle.std.specs.Prelude.{◌≡◌, length};
-ghost use Rattle.rendering.specs.Write.{write_answer, write_buffer};
+ghost use Rattle.rendering.specs.Write.{answer_of, write_answer, write_buffer};
 ghost use Rattle.roundtrip.specs.Trip.{comes_back};
 
+use refusal::Refused;
 use words::AREA_WORDS;
 
 // What every byte and every word holds before a call: those that the call leaves as they were are seen.
@@ -26,25 +27,37 @@ fn changed(out: &[u8], from: usize) -> u64 {
     out.iter().skip(from).filter(|b| **b != BEFORE).count() as u64
 }
 
+// How many bytes of a text were written: none where writing is refused.
+fn length_of(answer: Result<usize, Refused>) -> usize
+    ensures { result ≡ (answer_of answer).length }
+{
+    match answer {
+        Ok(length) => length,
+        Err(_) => 0,
+    }
+}
+
 // Writes into a buffer and prints how many bytes it has, the answer, how many of the bytes written are not the text's,
 // and how many of the others changed. Answers the length that was answered.
 fn print_write(table: &[u32; AREA_WORDS], text: &[u8], out: &mut [u8]) -> usize
     ensures answer { result ≡ (write_answer table.now (length out.old)).length }
     ensures buffer { out.new ≡ write_buffer table.now out.old }
 {
-    let w = rendering::write(table, out);
+    let answer = rendering::write(table, out);
+    let length = length_of(answer);
+    let (number, place) = checks::number_and_place(answer.err());
     checks::print(
         b" room=# number=# place=# length=# differ=# changed=#",
         &[
             out.len() as u64,
-            u64::from(w.number),
-            w.place as u64,
-            w.length as u64,
-            differing(out, w.length, text),
-            changed(out, w.length),
+            number,
+            place,
+            length as u64,
+            differing(out, length, text),
+            changed(out, length),
         ],
     );
-    w.length
+    length
 }
 
 // Writes into a buffer of so many bytes.
@@ -57,8 +70,8 @@ fn print_room(table: &[u32; AREA_WORDS], text: &[u8], room: usize) {
 // Reads the first n bytes of a buffer and tells whether they are accepted and leave the area given.
 fn again(table: &[u32; AREA_WORDS], out: &[u8], n: usize) -> bool {
     let mut area = [u32::from(BEFORE); AREA_WORDS];
-    let a = reader::read(&out[..n.min(out.len())], &mut area);
-    a.number == 0 && *table == area
+    let answer = reader::read(&out[..n.min(out.len())], &mut area);
+    answer.is_ok() && *table == area
 }
 
 // The trace of an area written back into a lent buffer, and read again; and written into buffers of just its length, of
@@ -86,6 +99,6 @@ pub fn comes_back(table: &[u32; AREA_WORDS], text: &[u8], out: &mut [u8]) -> boo
     ensures answer { result ≡ comes_back table.now text.now out.old }
     ensures buffer { out.new ≡ write_buffer table.now out.old }
 {
-    let w = rendering::write(table, out);
-    w.length == text.len() && text::key(out, 0, text)
+    let length = length_of(rendering::write(table, out));
+    length == text.len() && text::key(out, 0, text)
 }

@@ -17,7 +17,8 @@ pub struct Numeral {
     pub end: usize,
 }
 
-// Four bytes from a place on as one number, the first of them lowest: the machine takes them at once.
+// Four bytes from a place on as one number, the first of them lowest: the machine takes them at once. (By places, as
+// all here that others call: a place past the end is allowed, and docs/CLAIMS.md says what is found there.)
 pub fn four(text: &[u8], at: usize) -> u32
     requires { at + 4 ≤ length text.now }
     ensures { result ≡ packed 4 (drop at text.now) }
@@ -74,7 +75,8 @@ fn lf_singly(text: &[u8]) -> Option<usize>
     text.iter().position(|b| *b == b'\n')
 }
 
-// The place of the first LF at or after a place: eight bytes together, and the last few singly.
+// The place of the first LF at or after a place: eight bytes together, and the last few singly. (This loop and that of
+// `long` go on by what was read, and count no index.)
 pub fn line_end(text: &[u8], from: usize) -> Option<usize>
     ensures { result ≡ line_end text.now from }
 {
@@ -94,7 +96,8 @@ pub fn line_end(text: &[u8], from: usize) -> Option<usize>
     Some(at + found)
 }
 
-// The byte at a place, or 256 past the end.
+// The byte at a place, or 256 past the end. (No Option, since docs/CLAIMS.md and an edit name the 256; so with
+// `is_digit`, which is no digit of it.)
 pub fn byte(text: &[u8], at: usize) -> u16
     ensures { result ≡ get_or text.now at 256 }
 {

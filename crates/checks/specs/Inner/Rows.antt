@@ -1,9 +1,8 @@
 -- Rows of cases: the place of a byte, the fields of a row, with a blank between two, and the number a field begins
 -- with.
-use Rattle.std.specs.Prelude.{Option, Some, None, ℕ, zero, suc, ◌+◌, ◌-◌, ◌≤◌, ◌≡◌, List, [], ◌∷◌, cond, ltb, eqb, length, drop}
+use Rattle.std.specs.Prelude.{Option, option_map, ℕ, zero, suc, ◌+◌, ◌-◌, ◌≤◌, ◌≡◌, List, [], ◌∷◌, cond, ltb, eqb, length, drop}
 use Rattle.io.specs.Counts.{IsPrefixLen}
-use Rattle.text.specs.declared.Num.{Num}
-use Rattle.text.specs.declared.Num.TheVariants.{Value, Refused}
+use Rattle.text.specs.declared.Numeral.{Numeral}
 use Rattle.text.specs.Number.{number_at}
 
 -- how many bytes stand before the first b
@@ -26,9 +25,5 @@ unfoldable pub field_place : List ℕ → ℕ → ℕ
 field_place row zero = 0
 field_place row (suc k) = row_place 32 (field_place row k) row + 1
 
-abbrev pub value_of : Num → Option ℕ
-value_of (Value v at) = Some v
-value_of Refused = None
-
 unfoldable pub number_of : List ℕ → ℕ → Option ℕ
-number_of row k = value_of (number_at row (field_place row k) 18446744073709551614)
+number_of row k = option_map (λ n. n.value) (number_at row (field_place row k) 18446744073709551614)
