@@ -1,3 +1,4 @@
+pub mod Parts
 pub mod Claims
 pub mod Words
 pub mod Passes

@@ -167,9 +167,9 @@ module _ (a : List ℕ) (procs n : ℕ) where
         unfolding held_events
         judged_one full' work' ef ew =
             let A = judged_awaits in
-            let left : n + 1 - e ≡ suc (n + 1 - (e + 1)) = omega arith in
+            let left : n + 1 - e ≡ suc (n + 1 - suc e) = omega arith in
             let after : e + 1 ≡ suc e = omega arith in
-            let more : J.events ++ v ∷ held_events a (suc e) (n + 1 - (e + 1)) ≡ held_events a 1 n
+            let more : J.events ++ v ∷ held_events a (suc e) (n + 1 - suc e) ≡ held_events a 1 n
             = subst (λ (m : ℕ). J.events ++ held_events a e m ≡ held_events a 1 n) left J.all in
             record {
               most = omega arith;

@@ -16,6 +16,23 @@ ghost use Rattle.protocol.specs.Inner.Fillable.{Fillable};
 use columns::{FULL_WORDS, NUMBER_BASE, ONES, TRACE_WORDS, WORK_WORDS};
 use trace::{EVENT_BASE, HIGH_BASE, VALUE_BASE};
 
+// Copies the first n words of an area.
+fn copy(area: &[u32], full: &mut [u32], n: usize)
+    requires { (n ≤ length area.now) × (n ≤ length full.old) }
+    ensures { (k : ℕ) → k < n → get_or full.new k 0 ≡ get_or area.now k 0 }
+{
+    full[..n].copy_from_slice(&area[..n]);
+}
+
+// Every process begins with epoch 1 and phase 1, and epoch 1 is finished.
+fn begin(work: &mut [u16])
+    requires { 192 ≤ length work.old }
+    ensures first { (k : ℕ) → k < 192 → get_or work.new k 0 ≡ 1 }
+    ensures others { (k : ℕ) → 192 ≤ k → get_or work.new k 0 ≡ get_or work.old k 0 }
+{
+    work[..ONES].fill(1);
+}
+
 // Whether the word and the value of event e are those of an event that is fit after those that were noted; then notes
 // it.
 fn word_noted(full: &mut [u32], work: &mut [u16], procs: usize, e: usize) -> bool
@@ -47,7 +64,7 @@ fn events_noted(full: &mut [u32], work: &mut [u16]) -> bool
     true
 }
 
-// The same with working words of its own: every process begins with epoch 1 and phase 1, and epoch 1 is finished.
+// The same with working words of its own.
 fn fill(full: &mut [u32]) -> bool
     requires { (length full.old ≡ full_words) × (2 ≤ procs_w full.old) × (procs_w full.old ≤ 64) × (events_w full.old ≤ 2048) }
     ensures answer { result ≡ fit_from (procs_w full.old) [] full.old 1 (events_w full.old) }
@@ -55,7 +72,7 @@ fn fill(full: &mut [u32]) -> bool
 {
     full[NUMBER_BASE] = 0;
     let mut work = [0u16; WORK_WORDS];
-    work[..ONES].fill(1);
+    begin(&mut work);
     events_noted(full, &mut work)
 }
 
@@ -75,7 +92,7 @@ pub fn tabulate(area: &[u32], full: &mut [u32]) -> bool
     if !table::frame_fits(area) {
         return false;
     }
-    full[..TRACE_WORDS].copy_from_slice(&area[..TRACE_WORDS]);
+    copy(area, full, TRACE_WORDS);
     fill(full)
 }
 
