@@ -13,19 +13,37 @@ use Rattle.words.proofs.Area.{length_words}
 use Rattle.words.proofs.Cases.{by_bool, by_eq, by_lt, clash}
 use Rattle.table.specs.Held.{held}
 use Rattle.recovery_line.specs.declared.Line.{Line}
-use Rattle.orders.specs.declared.Replayed.{Replayed}
+use Rattle.orders.specs.Answer.{Answered}
 use Rattle.theory.specs.Order.{lowest_order}
 use Rattle.preparing.specs.Faults.{run_of, failure_fault_of, line_fault_of}
 use Rattle.recovery.specs.Answers.{refusal, replay_answer, Equal, Recorded, SameLists, CarriesOut, StepsExact, StepsAtMost, Completed}
+use Rattle.std.specs.Prelude.{Result, Ok, Err, IfOk}
+use Rattle.trace.specs.Trace.{Trace}
+use Rattle.theory.specs.Line.{Run}
+use Rattle.refusal.specs.declared.Refused.{Refused}
+use Rattle.refusal.proofs.Refusals.{no_number_0}
 use Rattle.restart.specs.declared.Restarted.{Restarted}
-use Rattle.restart.specs.Restart.{engine_line_of, restart_of, restart_answer, Restarts}
+use Rattle.restart.specs.Restart.{RestartAnswer, engine_line_of, restart_of, restart_answer, restart_found, restart_answered, Restarts}
 use Rattle.messages.specs.declared.Counted.{Counted}
+use Rattle.messages.specs.Messages.{MessagesAnswer, messages_answered}
 use Rattle.messages.specs.Meaning.{Lists}
 use Rattle.writer.specs.Buffer.{room, written}
 use Rattle.capi.specs.Answers.{restart_numbers, messages_numbers, replay_numbers, lowest_answer, ExactIn, LowestExactIn, AtMostIn, CarriesOutIn, CompletedIn, restart_given, RestartsIn, ListsIn, LowestEqualIn, EqualIn}
 
 pub answer_is : (vs ws before after : List ℕ) → vs ≡ ws → after ≡ written vs before → after ≡ written ws before
 answer_is vs ws before after e h = rw e at h
+
+-- ---- What is promised of a value, of the answer in numbers
+
+pub restart_means : (t : Trace) (step set : ℕ) (r : Result Restarted Refused) → IfOk r (λ x. Restarts t step set (restart_found x))
+    → (restart_answered r).number ≡ 0 → Restarts t step set (restart_answered r)
+restart_means t step set (Ok x) h z = h
+restart_means t step set (Err e) h z = absurd (no_number_0 e.refusal z)
+
+pub messages_mean : (R : Run) (w : List ℕ) (r : Result Counted Refused) → IfOk r (λ c. Lists R c.orphans c.kept c.lost w)
+    → (messages_answered r).number ≡ 0 → Lists R (messages_answered r).orphans (messages_answered r).kept (messages_answered r).lost w
+messages_mean R w (Ok c) h z = h
+messages_mean R w (Err e) h z = absurd (no_number_0 e.refusal z)
 
 -- ---- Steps in a slice
 
@@ -61,7 +79,7 @@ written_length vs before = by_lt (length before) (length vs)
     (λ l. rw (take_all (length before) vs l, length-append vs (drop (length vs) before), length-drop (length vs) before) (omega arith))
 
 -- arrays of 64 numbers
-abbrev Sized : Restarted → Type 0
+abbrev Sized : RestartAnswer → Type 0
 Sized x = (length x.line.epochs ≡ 64) × (length x.epochs ≡ 64) × (length x.phases ≡ 64)
 
 restart_sized : (a : List ℕ) (step set : ℕ) → Sized (restart_answer a step set)
@@ -70,7 +88,7 @@ restart_sized a step set = by_bool (eqb (failure_fault_of a step set) 0)
     (λ u. rw u (length_words _ 0 64, length_words _ 0 64, length_words _ 0 64))
     (λ u. rw u (length-replicate {A = ℕ} 64 0, length-replicate {A = ℕ} 64 0, length-replicate {A = ℕ} 64 0))
 
-module _ (x : Restarted) (z : x.number ≡ 0) (n : Sized x) (rest : List ℕ) where
+module _ (x : RestartAnswer) (z : x.number ≡ 0) (n : Sized x) (rest : List ℕ) where
   abbrev four : List ℕ
   four = x.place ∷ x.line.count ∷ x.back ∷ x.going ∷ []
 
@@ -91,11 +109,11 @@ module _ (x : Restarted) (z : x.number ≡ 0) (n : Sized x) (rest : List ℕ) wh
       let c : take 64 (drop 64 after) ≡ x.epochs = ap (take 64) b ∙ take_at x.epochs _ 64 n.1 in
       let d : drop 128 after ≡ x.phases ++ rest = sym (drop-drop 64 64 after) ∙ ap (drop 64) b ∙ drop_at x.epochs _ 64 n.1 in
       let e : take 64 (drop 128 after) ≡ x.phases = ap (take 64) d ∙ take_at x.phases _ 64 n.2 in
-      let with : ℕ → Restarted = λ k. record { number = k; place = x.place; line = x.line; going = x.going; back = x.back; epochs = x.epochs; phases = x.phases } in
+      let with : ℕ → RestartAnswer = λ k. record { number = k; place = x.place; line = x.line; going = x.going; back = x.back; epochs = x.epochs; phases = x.phases } in
       let f : restart_given (four ++ after) ≡ with 0 = rw (a, c, e) in
       ap restart_given parts ∙ f ∙ ap with (sym z)
 
-pub restarts_in : (a : List ℕ) (step set : ℕ) (x : Restarted) (before answer : List ℕ) → x ≡ restart_answer a step set → answer ≡ written (restart_numbers x) before
+pub restarts_in : (a : List ℕ) (step set : ℕ) (x : RestartAnswer) (before answer : List ℕ) → x ≡ restart_answer a step set → answer ≡ written (restart_numbers x) before
     → (x.number ≡ 0 → Restarts (held a) step set x) → RestartsIn a step set x.number answer
 restarts_in a step set x before answer e w m z l =
     let n : Sized x = rw e (restart_sized a step set) in
@@ -114,14 +132,14 @@ first_four p o k l (x ∷ y ∷ []) p' o' k' l' rest h = absurd (let z : ◌≡�
 first_four p o k l (x ∷ y ∷ z ∷ []) p' o' k' l' rest h = absurd (let u : ◌≡◌ {A = ℕ} 0 1 = cc in omega arith)
 first_four p o k l (x ∷ y ∷ z ∷ u ∷ bs) p' o' k' l' rest h = (cc, cc, cc)
 
-pub lists_in : (a : List ℕ) (step : ℕ) (l m : Line) (c : Counted) (before answer run : List ℕ) → l ≡ m → answer ≡ written (messages_numbers c) before
+pub lists_in : (a : List ℕ) (step : ℕ) (l m : Line) (c : MessagesAnswer) (before answer run : List ℕ) → l ≡ m → answer ≡ written (messages_numbers c) before
     → (c.number ≡ 0 → Lists (run_of a step l) c.orphans c.kept c.lost run) → ListsIn (run_of a step m) c.number answer run
 lists_in a step l m c before answer run e w x =
     subst (λ (j : Line). ListsIn (run_of a step j) c.number answer run) e
     (λ place o k n rest z h. let (f, g, j) = first_four _ _ _ _ before place o k n rest (sym h ∙ w) in rw (← f, ← g, ← j) (x z))
 
 -- what `replay` and `lowest` promise, of the number and the numbers that are given
-module _ (a : List ℕ) (step : ℕ) (l : Line) (r : Replayed) (before answer : List ℕ) (w : answer ≡ written (replay_numbers r) before) where
+module _ (a : List ℕ) (step : ℕ) (l : Line) (r : Answered) (before answer : List ℕ) (w : answer ≡ written (replay_numbers r) before) where
   steps_at : (place n : ℕ) (rest : List ℕ) → answer ≡ place ∷ n ∷ rest → n ≡ r.steps
   steps_at place n rest h = first_two _ _ _ before place n rest (sym h ∙ w)
 
@@ -156,7 +174,7 @@ module _ (a : List ℕ) (step : ℕ) (l : Line) (r : Replayed) (before answer : 
       let fault = line_fault_of a (length area) step set l in
       by_eq fault 0
       (λ ok. (x ok).1)
-      (λ no. let q : r ≡ refusal fault = e ∙ rw (ne_eqb fault 0 no) in absurd (no (sym (ap (λ (y : Replayed). y.number) q) ∙ z)))
+      (λ no. let q : r ≡ refusal fault = e ∙ rw (ne_eqb fault 0 no) in absurd (no (sym (ap (λ (y : Answered). y.number) q) ∙ z)))
 
   completed_in : (room set : ℕ) → Completed a room step set l r → CompletedIn a room step set l r.number answer
   completed_in room set x ok = ((x ok).0, λ place n c rest h. flag_at place n c rest h ∙ (yes_is r.complete).1 (x ok).1)

@@ -5,17 +5,23 @@ use mathlib.Core.Path.{◌≡◌, refl}
 use mathlib.Core.Bool.{Bool, true, false, cond}
 use mir.Val.{bool_byte}
 use mathlib.Core.List.{List, [], ◌∷◌}
+use lib.ListN.{replicate}
 use Rattle.orders.specs.declared.Replayed.{Replayed}
+use Rattle.recovery.specs.Answers.{replay_found}
 use Rattle.messages.specs.declared.Counted.{Counted}
-use Rattle.capi.specs.Answers.{messages_numbers, replay_numbers}
+use Rattle.messages.specs.Messages.{messages_found}
+use Rattle.refusal.specs.declared.Refused.{Refused}
+use Rattle.restart.specs.Restart.{restart_answered}
+use Rattle.std.specs.Prelude.{Err}
+use Rattle.capi.specs.Answers.{messages_numbers, replay_numbers, restart_numbers}
 
-pub messages_are : (c d : Counted) (orphans kept lost : ℕ) → orphans ≡ c.orphans → kept ≡ c.kept → lost ≡ c.lost → c ≡ d
-    → (c.place ∷ orphans ∷ kept ∷ lost ∷ []) ≡ messages_numbers d
-messages_are c d orphans kept lost a b e h = rw (a, b, e, ← h)
+pub messages_are : (c : Counted) (orphans kept lost : ℕ) → orphans ≡ c.orphans → kept ≡ c.kept → lost ≡ c.lost
+    → (0 ∷ orphans ∷ kept ∷ lost ∷ []) ≡ messages_numbers (messages_found c)
+messages_are c orphans kept lost a b e = rw (a, b, e)
 
-pub replay_is : (r : Replayed) (complete : ℕ) → complete ≡ cond r.complete 1 0 → (r.place ∷ r.steps ∷ complete ∷ []) ≡ replay_numbers r
+pub replay_is : (r : Replayed) (complete : ℕ) → complete ≡ cond r.complete 1 0 → (0 ∷ r.steps ∷ complete ∷ []) ≡ replay_numbers (replay_found r)
 replay_is r complete e = rw e
 
-pub flag_is : (b : Bool) → bool_byte b ≡ cond b 1 0
-flag_is true = refl
-flag_is false = refl
+-- a refusal's place, and zeros
+pub restart_refused : (e : Refused) → (e.place ∷ replicate 195 0) ≡ restart_numbers (restart_answered (Err e))
+restart_refused e = refl

@@ -3,8 +3,8 @@ use Prim.Native.Nat.{ℕ}
 use native.Mathlib.Omega.{arith}
 use mathlib.Core.Path.{◌≡◌, sym, ◌∙◌}
 use mathlib.Core.List.{List, [], ◌∷◌}
-use Rattle.reader.specs.declared.Answer.{Answer}
-use Rattle.reader.specs.declared.FailureAnswer.{FailureAnswer}
+use Rattle.reader.specs.Answer.{Answer}
+use Rattle.reader.specs.Failure.{FailureAnswer}
 use Rattle.reader.specs.Meaning.{ReadRefuses, FailureTold, FailureRefuses}
 use Rattle.writer.specs.Buffer.{room, written}
 use Rattle.capi.specs.Answers.{read_numbers, failure_numbers}

@@ -2,13 +2,13 @@
 -- was (`written`, crate writer).
 use Rattle.std.specs.Prelude.{ℕ, ◌≤◌, ◌≡◌, ◌↔◌, List, [], ◌∷◌, ◌++◌, length, get_or, take, drop, cond}
 use Rattle.words.specs.Area.{area_words, words_from}
-use Rattle.reader.specs.declared.Answer.{Answer}
-use Rattle.reader.specs.declared.FailureAnswer.{FailureAnswer}
+use Rattle.reader.specs.Answer.{Answer}
+use Rattle.reader.specs.Failure.{FailureAnswer}
 use Rattle.rendering.specs.Write.{WriteAnswer}
 use Rattle.recovery_line.specs.declared.Line.{Line}
 use Rattle.table.specs.Held.{held}
 use Rattle.orders.specs.Record.{faultless_at, list_in}
-use Rattle.orders.specs.declared.Replayed.{Replayed}
+use Rattle.orders.specs.Answer.{Answered}
 use Rattle.theory.specs.Line.{Run, LossFree}
 use Rattle.theory.specs.Replay.{State}
 use Rattle.theory.specs.Record.{faultless}
@@ -16,9 +16,8 @@ use Rattle.theory.specs.Order.{carried_out, run, steps, most_steps, Complete, lo
 use Rattle.theory.specs.Answers.{exact_steps}
 use Rattle.preparing.specs.Faults.{run_of, line_fault_of}
 use Rattle.recovery.specs.Answers.{replay_answer, replay_area}
-use Rattle.restart.specs.declared.Restarted.{Restarted}
-use Rattle.restart.specs.Restart.{Restarts}
-use Rattle.messages.specs.declared.Counted.{Counted}
+use Rattle.restart.specs.Restart.{RestartAnswer, Restarts}
+use Rattle.messages.specs.Messages.{MessagesAnswer}
 use Rattle.messages.specs.Meaning.{Lists}
 
 -- a line from the slice of its numbers: its length is their count
@@ -35,17 +34,17 @@ failure_numbers a = a.place ∷ a.step ∷ a.set ∷ []
 abbrev pub write_numbers : WriteAnswer → List ℕ
 write_numbers w = w.place ∷ w.length ∷ []
 
-abbrev pub restart_numbers : Restarted → List ℕ
+abbrev pub restart_numbers : RestartAnswer → List ℕ
 restart_numbers r = (r.place ∷ r.line.count ∷ r.back ∷ r.going ∷ []) ++ r.line.epochs ++ r.epochs ++ r.phases
 
-abbrev pub messages_numbers : Counted → List ℕ
+abbrev pub messages_numbers : MessagesAnswer → List ℕ
 messages_numbers c = c.place ∷ c.orphans ∷ c.kept ∷ c.lost ∷ []
 
-abbrev pub replay_numbers : Replayed → List ℕ
+abbrev pub replay_numbers : Answered → List ℕ
 replay_numbers r = r.place ∷ r.steps ∷ cond r.complete 1 0 ∷ []
 
 -- the lowest order, carried out
-abbrev pub lowest_answer : List ℕ → List ℕ → ℕ → ℕ → Line → Replayed
+abbrev pub lowest_answer : List ℕ → List ℕ → ℕ → ℕ → Line → Answered
 lowest_answer a area step set l = replay_answer a area step set l (lowest_order (run_of a step l))
 
 abbrev pub lowest_area : List ℕ → List ℕ → ℕ → ℕ → Line → List ℕ
@@ -83,7 +82,7 @@ CompletedIn a room step set l r answer =
 -- caller gets
 
 -- a restart, read from a slice that has room for all its numbers
-abbrev pub restart_given : List ℕ → Restarted
+abbrev pub restart_given : List ℕ → RestartAnswer
 restart_given answer =
     record {
       number = 0;

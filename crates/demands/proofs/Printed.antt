@@ -15,7 +15,7 @@ use lib.Dec.{leb, ltb, eqb}
 use borrow.Author.Tests.{lt-ltb, le-ltb}
 use Rattle.words.specs.Area.{area_words}
 use Rattle.trace.specs.Trace.{Trace}
-use Rattle.reader.specs.declared.FailureAnswer.{FailureAnswer}
+use Rattle.reader.specs.Failure.{FailureAnswer}
 use Rattle.reader.specs.Failure.{Failing, last_failure, failure_answer}
 use Rattle.reader.specs.Meaning.{FailureText, FirstFault, LaterFault, PastFailure, FailureReadAs, TextNumber, FailureRefuses}
 use Rattle.reader.proofs.Claims.{canonical_failing, failure_refuses}

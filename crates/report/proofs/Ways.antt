@@ -15,8 +15,7 @@ use Rattle.trace.specs.Fit.{well_formed}
 use Rattle.trace.specs.Table.{table_word}
 use Rattle.columns.specs.Inner.Columns.{trace_words, full_words, Columns, Flagged}
 use Rattle.columns.specs.Inner.Given.{Marked}
-use Rattle.reader.specs.declared.FailureAnswer.{FailureAnswer}
-use Rattle.reader.specs.Failure.{Failing, failure_answer_of, failure_answer, failure_area, last_failure}
+use Rattle.reader.specs.Failure.{FailureAnswer, Failing, failure_answer_of, failure_answer, failure_area, last_failure}
 use Rattle.reader.proofs.Claims.{failing_answered}
 use Rattle.table.specs.Inner.Held.{held_trace}
 use Rattle.table.proofs.Claims.{failing_held, held_iff}

@@ -151,12 +151,11 @@ pub fn report(text: &[u8], out: &mut [u8]) -> Reported
     ensures few { length (reported text.now) ≤ report_bytes }
 {
     let mut area = [0u32; AREA_WORDS];
-    let read = reader::read_failure_clear(text, &mut area);
-    if read.number != 0 {
-        return Reported {
-            length: printing::put_refusal(out, read.number, read.place),
+    match reader::read_failure_clear(text, &mut area) {
+        Ok(failure) => report_in(&mut area[..FULL_WORDS], failure.step, failure.set, out),
+        Err(refused) => Reported {
+            length: printing::put_refusal(out, refused.refusal.number(), refused.place),
             refused: true,
-        };
+        },
     }
-    report_in(&mut area[..FULL_WORDS], read.step, read.set, out)
 }

@@ -1,6 +1,6 @@
 -- `capi::hallback_read` meets its contract: what `read` promises, the answer in numbers.
-use mathlib.Core.Path.{refl, ap}
-use Rattle.reader.specs.declared.Answer.{Answer}
+use mathlib.Core.Path.{ap, ◌∙◌}
+use Rattle.reader.specs.Answer.{Answer, read_answered}
 use Rattle.capi.specs.Answers.{read_numbers}
 use Rattle.capi.proofs.Giving.{answer_is}
 use Rattle.capi.proofs.Reading.{read_in}
@@ -8,11 +8,12 @@ use Rattle.capi.proofs.hallback_read.Goals as goal
 
 pub returns : goal.returns
 returns c =
-    let numbers = answer_is _ _ _ _ refl c.put_numbers.ensures in
+    let n = c.put_read.ensures.number in
+    let r = c.read-outcome.ensures in
     record {
-      number = ap (λ (x : Answer). x.number) c.read-a.ensures.answer;
-      words = c.read-a.ensures.words;
-      numbers = answer_is _ _ _ _ (ap read_numbers c.read-a.ensures.answer) c.put_numbers.ensures;
-      accepts = c.read-a.ensures.accepts;
-      refuses = read_in _ _ _ _ _ numbers c.read-a.ensures.refuses;
+      number = n ∙ ap (λ (x : Answer). x.number) r.answer;
+      words = r.words;
+      numbers = answer_is _ _ _ _ (ap read_numbers r.answer) c.put_read.ensures.numbers;
+      accepts = rw n r.accepts;
+      refuses = rw n (read_in _ _ (read_answered c.read-outcome.result) _ _ c.put_read.ensures.numbers r.refuses);
     }
