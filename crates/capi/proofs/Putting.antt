@@ -19,8 +19,13 @@ pub messages_are : (c : Counted) (orphans kept lost : ℕ) → orphans ≡ c.orp
     → (0 ∷ orphans ∷ kept ∷ lost ∷ []) ≡ messages_numbers (messages_found c)
 messages_are c orphans kept lost a b e = rw (a, b, e)
 
-pub replay_is : (r : Replayed) (complete : ℕ) → complete ≡ cond r.complete 1 0 → (0 ∷ r.steps ∷ complete ∷ []) ≡ replay_numbers (replay_found r)
-replay_is r complete e = rw e
+-- a yes or no as the code turns it into a number
+byte_is : (b : Bool) → bool_byte b ≡ cond b 1 0
+byte_is true = refl
+byte_is false = refl
+
+pub replay_is : (r : Replayed) (complete : ℕ) → complete ≡ bool_byte r.complete → (0 ∷ r.steps ∷ complete ∷ []) ≡ replay_numbers (replay_found r)
+replay_is r complete e = rw (e, byte_is r.complete)
 
 -- a refusal's place, and zeros
 pub restart_refused : (e : Refused) → (e.place ∷ replicate 195 0) ≡ restart_numbers (restart_answered (Err e))

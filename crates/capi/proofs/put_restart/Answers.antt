@@ -1,7 +1,12 @@
 -- `capi::put_restart` meets its contract: four numbers, then three arrays.
-use mathlib.Core.Path.{sym}
+use mathlib.Core.Path.{sym, ap, ◌∙◌}
+use Rattle.std.specs.Prelude.{Result}
 use Rattle.std.proofs.Common.{rules}
+use Rattle.refusal.specs.declared.Refused.{Refused}
+use Rattle.restart.specs.declared.Restarted.{Restarted}
+use Rattle.restart.specs.Restart.{restart_answered}
 use Rattle.writer.proofs.Buffers.{takes_then, lent, whole}
+use Rattle.capi.specs.Answers.{restart_numbers}
 use Rattle.capi.proofs.Giving.{answer_is}
 use Rattle.capi.proofs.Putting.{restart_refused}
 use Rattle.capi.proofs.put_restart.Goals as goal
@@ -9,8 +14,11 @@ use Rattle.capi.proofs.put_restart.Goals as goal
 pub returns-in-Ok-clause-numbers : goal.returns-in-Ok-clause-numbers
 returns-in-Ok-clause-numbers c =
     let four = rw c.from.ensures at c.put_all.ensures in
-    let t = takes_then (takes_then (takes_then four c.put_words.ensures) c.put_words-2.ensures) c.put_words-3.ensures in
-    (whole _ _ _ _ (lent t (search (rules, sym t.same)))).0
+    let t = takes_then (takes_then (takes_then four c.put_words.ensures) c.put_words-in-Ok.ensures) c.put_words-in-Ok-2.ensures in
+    let is = ap (λ (x : Result Restarted Refused). restart_numbers (restart_answered x)) (sym c.in-Ok.is) in
+    answer_is _ _ _ _ is (whole _ _ _ _ (lent t (search (rules, sym t.same)))).0
 
 pub returns-in-Err-clause-numbers : goal.returns-in-Err-clause-numbers
-returns-in-Err-clause-numbers c = answer_is _ _ _ _ (restart_refused c.in-Err.refused) c.put_refused.ensures.numbers
+returns-in-Err-clause-numbers c =
+    let is = ap (λ (x : Result Restarted Refused). restart_numbers (restart_answered x)) (sym c.in-Err.is) in
+    answer_is _ _ _ _ (restart_refused c.in-Err.refused ∙ is) c.put_refused.ensures.numbers
