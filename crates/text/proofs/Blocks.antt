@@ -1,15 +1,11 @@
 -- Laws of numbers that stand for several bytes: which bytes they are.
 use Prim.Native.Nat.{ℕ, suc, zero, ◌+◌, ◌*◌, ◌/◌, ◌%◌, ◌^◌, ◌<◌, ◌≤◌}
-use mathlib.Core.Path.{◌≡◌, refl, sym, ◌∙◌, ap}
+use mathlib.Core.Path.{◌≡◌, refl, ◌∙◌, ap}
 use mathlib.Core.List.{List, [], ◌∷◌}
-use mathlib.Core.Bool.{false}
 use native.Mathlib.Omega.{arith}
 use native.Mathlib.Nat.{pow-zero, pow-suc, div-one, zero-div, mul_comm, div-div-eq-div-mul}
-use lib.ListN.{length, get_or, drop, length-drop}
-use lib.Seq.{drop-cons, drop-drop, get_or-drop}
-use borrow.Author.Tests.{eq-eqb, ne_eqb}
-use Rattle.words.proofs.Cases.{by_eq}
-use Rattle.text.specs.Key.{starts_with}
+use lib.ListN.{length, get_or, drop}
+use lib.Seq.{drop-cons, get_or-drop}
 use Rattle.text.specs.Inner.Blocks.{packed, byte_of}
 
 -- the words of a list are bytes

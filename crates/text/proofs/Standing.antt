@@ -2,16 +2,12 @@
 use Prim.Native.Nat.{ℕ, suc, zero, ◌+◌, ◌-◌, ◌*◌, ◌/◌, ◌^◌, ◌<◌, ◌≤◌}
 use mathlib.Core.Path.{◌≡◌, refl, sym, ap, ap₂, subst, subst₂, ◌∙◌}
 use mathlib.Core.List.{List, [], ◌∷◌, ◌++◌, append_assoc}
-use mathlib.Core.Bool.{Bool, true, ◌&&◌}
+use mathlib.Core.Bool.{Bool, true}
 use native.Mathlib.Omega.{arith}
-use lib.Dec.{ltb}
-use lib.ListN.{length, get_or, drop, length-append, length-drop, drop_of_length-le}
+use lib.ListN.{length, get_or, drop, length-append}
 use lib.Seq.{drop-cons, drop-drop, drop-append_seam}
-use borrow.Author.Tests.{ltb-true}
-use Rattle.words.proofs.Cases.{by_lt, and_left, and_right}
+use Rattle.words.proofs.Cases.{by_lt}
 use Rattle.text.specs.Number.{is_digit, pushed, last_digits, decimal}
-use Rattle.text.specs.Key.{starts_with}
-use Rattle.text.specs.Inner.Blocks.{packed}
 use Rattle.std.specs.Prelude.{Option, Some, None, nat_eq, take}
 use Rattle.std.specs.List as list
 use Rattle.text.specs.declared.Numeral.{Numeral}
