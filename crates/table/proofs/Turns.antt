@@ -106,47 +106,6 @@ module _ (w v : ℕ) where
             (λ h. rw (← event_save w v no_send no_recv h, ne_eqb (w % 64 % 64 + 12288) w (λ q. n (omega arith))))
             (λ k. rw (← event_done w v no_send no_recv k, ne_eqb (w % 64 % 64) w (λ q. m (omega arith))))
 
--- each way out of `word_fits`, by the kind of the word
-module _ (fit : Event → Bool) (w v : ℕ) where
-  module _ (send : top_in w ≡ 1) where
-    pub fits_send : (r : Bool) → r ≡ fit (Send (process_in w) (peer_in w) v) → r ≡ word_fits fit w v
-    unfolding word_fits
-    fits_send r e =
-        let word : w % 64 % 64 + 64 * (w / 64 % 64 % 64) + 4096 ≡ w = omega arith in
-        rw (← event_send w v send, eq-eqb _ _ word, eq-eqb v v refl) e
-
-  module _ (no_send : top_in w ≡ 1 → ⊥) where
-    pub fits_value : (v ≡ 0 → ⊥) → false ≡ word_fits fit w v
-    unfolding word_fits
-    fits_value z = rw (no_value w v no_send, ne_eqb 0 v (λ q. z (sym q)), and-false)
-
-    module _ (zero_value : v ≡ 0) where
-      pub fits_recv : top_in w ≡ 2 → (r : Bool) → r ≡ fit (Recv (process_in w) (peer_in w)) → r ≡ word_fits fit w v
-      unfolding word_fits
-      fits_recv h r e =
-          let word : w % 64 % 64 + 64 * (w / 64 % 64 % 64) + 8192 ≡ w = omega arith in
-          rw (← event_recv w v no_send h, eq-eqb _ _ word, eq-eqb 0 v (sym zero_value)) e
-
-      module _ (no_recv : top_in w ≡ 2 → ⊥) where
-        pub fits_none : (w / 64 ≡ 192 → ⊥) → (w / 64 ≡ 0 → ⊥) → false ≡ word_fits fit w v
-        unfolding word_fits
-        fits_none n m =
-            by_eq (top_in w) 3
-            (λ h. rw (← event_save w v no_send no_recv h, ne_eqb (w % 64 % 64 + 12288) w (λ q. n (omega arith))))
-            (λ k. rw (← event_done w v no_send no_recv k, ne_eqb (w % 64 % 64) w (λ q. m (omega arith))))
-
-        pub fits_save : w / 64 ≡ 192 → (r : Bool) → r ≡ fit (Save (process_in w)) → r ≡ word_fits fit w v
-        unfolding word_fits
-        fits_save h r e =
-            let word : w % 64 % 64 + 12288 ≡ w = omega arith in
-            rw (← event_save w v no_send no_recv (omega arith), eq-eqb _ _ word, eq-eqb 0 v (sym zero_value)) e
-
-        pub fits_done : w / 64 ≡ 0 → (r : Bool) → r ≡ fit (Done (process_in w)) → r ≡ word_fits fit w v
-        unfolding word_fits
-        fits_done h r e =
-            let word : w % 64 % 64 ≡ w = omega arith in
-            rw (← event_done w v no_send no_recv (λ q. omega arith), eq-eqb _ _ word, eq-eqb 0 v (sym zero_value)) e
-
 -- what `read_event` says of a word and a value: they fit exactly if there is an event and it is fit
 module _ (fit : Event → Bool) (w v : ℕ) where
   fits_read : word_fits fit w v ≡ (eqb (word_of (event_of w v)) w && eqb (value_of (event_of w v)) v) && fit (event_of w v)

@@ -45,12 +45,8 @@ pub const VALUE_BASE: usize = EVENT_BASE + EVENTS + 1;
 
 pub const HIGH_BASE: usize = VALUE_BASE + EVENTS + 1;
 
-// The kinds of events: that of an event's word is kind(w). Any other is a checkpoint's, 3.
+// The kind of a done, as `kind` gives it; an enum of the kinds is `kinds::Kind`.
 pub const DONE: u32 = 0;
-
-pub const SEND: u32 = 1;
-
-pub const RECEIVE: u32 = 2;
 
 // The word of an event in the table area.
 pub fn word(e: Event) -> u32
