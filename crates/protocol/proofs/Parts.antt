@@ -3,12 +3,8 @@ use Prim.Native.Nat.{ℕ, ◌+◌, ◌-◌, ◌<◌, ◌≤◌}
 use mathlib.Core.Path.{◌≡◌, ap, ◌∙◌}
 use mathlib.Core.List.{List, ◌++◌}
 use native.Mathlib.Omega.{arith}
-use lib.ListN.{length, get_or, take, drop, get_or-append}
-use lib.Seq.{length-take-le, get_or-take, get_or-drop, get_or-append-add}
-
-pub copied : (n : ℕ) (area part rest : List ℕ) → n ≤ length area → part ≡ take n area → (k : ℕ) → k < n → get_or (part ++ rest) k 0 ≡ get_or area k 0
-copied n area part rest h e k l =
-    ap (λ (p : List ℕ). get_or (p ++ rest) k 0) e ∙ get_or-append (take n area) rest 0 k (omega (arith, length-take-le n area h, l)) ∙ get_or-take n area k 0 l
+use lib.ListN.{length, get_or, drop, get_or-append}
+use lib.Seq.{get_or-drop, get_or-append-add}
 
 module _ (n : ℕ) (part words : List ℕ) (e : length part ≡ n) (k : ℕ) where
   pub part_first : k < n → get_or (part ++ drop n words) k 0 ≡ get_or part k 0
