@@ -147,12 +147,7 @@ fn put_restart(answer: &mut [u64], outcome: Result<Restarted, Refused>) -> u32
                 out: answer,
                 next: 0,
             };
-            sink.put_all(&[
-                0,
-                r.line.count as u64,
-                u64::from(r.back),
-                r.going,
-            ]);
+            sink.put_all(&[0, r.line.count as u64, u64::from(r.back), r.going]);
             sink.put_words(&r.line.epochs);
             sink.put_words(&r.epochs);
             sink.put_words(&r.phases);

@@ -15,5 +15,5 @@ returns c =
       words = r.words ∙ ap (messages_area c.args.table.now c.args.run.now c.args.step c.args.set) c.line_from.ensures;
       numbers = answer_is _ _ _ _ (ap messages_numbers e) c.put_counted.ensures.numbers;
       means = rw n (lists_in c.args.table.now c.args.step _ _ (messages_answered c.messages-outcome.result) _ _ _ c.line_from.ensures c.put_counted.ensures.numbers
-        (messages_mean _ _ c.messages-outcome.result r.means));
+          (messages_mean _ _ c.messages-outcome.result r.means));
     }

@@ -14,5 +14,5 @@ returns c =
       number = n ∙ ap (λ (x : RestartAnswer). x.number) r.answer;
       numbers = answer_is _ _ _ _ (ap restart_numbers r.answer) c.put_restart.ensures.numbers;
       means = rw n (restarts_in c.args.table.now c.args.step c.args.set (restart_answered c.restart-outcome.result) _ _ r.answer c.put_restart.ensures.numbers
-        (restart_means (held c.args.table.now) c.args.step c.args.set c.restart-outcome.result r.means));
+          (restart_means (held c.args.table.now) c.args.step c.args.set c.restart-outcome.result r.means));
     }

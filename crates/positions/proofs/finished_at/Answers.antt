@@ -37,12 +37,12 @@ loop-e-preserved c =
     let i = c.loop-e.invariant in
     let p : 0 < c.loop-e.e = omega (arith, c.loop-e.auto.e) in
     elim c.if-done.branch [
-      then-done w ↦ record {
+      | then-done w ↦ record {
         to = omega (arith, c.loop-e-test.true);
         wide = c.if-done.auto.finished ∙ i.wide;
         counted = rw w.finished-is (turn_finished _ _ p _ i.counted _ c.kind-done.ensures w.if-done.true _ w.process.ensures.0 i.wide);
       }
-    | else-done w ↦ record {
+      | else-done w ↦ record {
         to = omega (arith, c.loop-e-test.true);
         wide = c.if-done.auto.finished ∙ i.wide;
         counted = rw w.finished-is (turn_unfinished _ _ p _ i.counted _ c.kind-done.ensures w.if-done.false);

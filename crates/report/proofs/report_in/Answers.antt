@@ -15,10 +15,10 @@ report_from-requires c =
 pub returns-in-Ok : goal.returns-in-Ok
 returns-in-Ok c =
     λ t text f e. let m = marked t _ c.fill_in_place.new.full f (c.fill_in_place.ensures t f) in
-        recovered text t c.args.step c.args.set e (c.in-Ok.ensures.number t m.tabled) _ _ _
-        (c.report_from.ensures t m (omega (arith, size_is t c.fill_in_place.new.full m.tabled, c.in-Ok.ensures.within)))
+    recovered text t c.args.step c.args.set e (c.in-Ok.ensures.number t m.tabled) _ _ _
+    (c.report_from.ensures t m (omega (arith, size_is t c.fill_in_place.new.full m.tabled, c.in-Ok.ensures.within)))
 
 pub returns-in-Err : goal.returns-in-Err
 returns-in-Err c =
     λ t text f e. let m = marked t _ c.fill_in_place.new.full f (c.fill_in_place.ensures t f) in
-        answered _ text _ _ _ true (failure_refused text t c.args.step c.args.set e _ (c.number.ensures ∙ c.in-Err.ensures.number t m.tabled) (λ z. no_number_0 _ (sym c.number.ensures ∙ z))) c.put_refusal.ensures
+    answered _ text _ _ _ true (failure_refused text t c.args.step c.args.set e _ (c.number.ensures ∙ c.in-Err.ensures.number t m.tabled) (λ z. no_number_0 _ (sym c.number.ensures ∙ z))) c.put_refusal.ensures
