@@ -1,7 +1,7 @@
 // Events, alone and as the words that an array of them has, and how often they come.
 ghost use Rattle.std.specs.Prelude.{◌≡◌, ◌+◌, ◌*◌, ◌/◌, ◌%◌, ◌<◌, ◌≤◌, IfSome};
 ghost use Rattle.bruteforce.specs.Counts.{times_of, after_of};
-ghost use Rattle.bruteforce.specs.Events.{word_of, event_of, Small};
+ghost use Rattle.bruteforce.specs.Events.{small_word_of, small_event_of, SmallEvent};
 
 // In a line: the process stays as it was at the cut.
 pub const STAYS: u32 = 32;
@@ -37,8 +37,8 @@ pub enum Event {
 impl Event {
     // The event of a word, if there is one: a word has more kinds than there are.
     pub fn of(w: u32) -> Option<Event>
-        ensures value { result ≡ event_of w }
-        ensures small { IfSome result Small }
+        ensures value { result ≡ small_event_of w }
+        ensures small { IfSome result SmallEvent }
     {
         let at = process(w);
         let peer = w % 4;
@@ -53,7 +53,7 @@ impl Event {
 
     // Its word.
     pub fn word(self) -> u32
-        ensures { result ≡ word_of self }
+        ensures { result ≡ small_word_of self }
     {
         match self {
             Event::Save { at } => packed(Kind::Save as u32, at, 0),

@@ -3,7 +3,7 @@ use Prim.Native.Nat.{ℕ}
 use native.Mathlib.Omega.{arith}
 use mathlib.Core.Path.{◌≡◌, sym, ◌∙◌}
 use mathlib.Core.List.{List, [], ◌∷◌}
-use Rattle.reader.specs.Answer.{Answer}
+use Rattle.reader.specs.Answer.{ReadAnswer}
 use Rattle.reader.specs.Failure.{FailureAnswer}
 use Rattle.reader.specs.Meaning.{ReadRefuses, FailureTold, FailureRefuses}
 use Rattle.writer.specs.Buffer.{room, written}
@@ -23,7 +23,7 @@ three_are a b c (x ∷ []) p q r rest h = absurd (let z : ◌≡◌ {A = ℕ} 0 
 three_are a b c (x ∷ y ∷ []) p q r rest h = absurd (let z : ◌≡◌ {A = ℕ} 0 1 = cc in let w : ⊥ = omega arith in w)
 three_are a b c (x ∷ y ∷ z ∷ bs) p q r rest h = (cc, cc, cc)
 
-pub read_in : (text : List ℕ) (size : ℕ) (r : Answer) (before answer : List ℕ) → answer ≡ written (read_numbers r) before → ReadRefuses text size r
+pub read_in : (text : List ℕ) (size : ℕ) (r : ReadAnswer) (before answer : List ℕ) → answer ≡ written (read_numbers r) before → ReadRefuses text size r
     → ReadRefusesIn text size r.number answer
 read_in text size r before answer w h place rest e = let q = one_is r.place before place rest (sym e ∙ w) in rw q h
 

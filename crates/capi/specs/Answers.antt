@@ -2,7 +2,7 @@
 -- was (`written`, crate writer).
 use Rattle.std.specs.Prelude.{ℕ, ◌≤◌, ◌≡◌, ◌↔◌, List, [], ◌∷◌, ◌++◌, length, get_or, take, drop, cond}
 use Rattle.words.specs.Area.{area_words, words_from}
-use Rattle.reader.specs.Answer.{Answer}
+use Rattle.reader.specs.Answer.{ReadAnswer}
 use Rattle.reader.specs.Failure.{FailureAnswer}
 use Rattle.rendering.specs.Write.{WriteAnswer}
 use Rattle.recovery_line.specs.declared.Line.{Line}
@@ -25,7 +25,7 @@ abbrev pub line_given : List ℕ → Line
 line_given l = record { epochs = words_from (λ z. get_or l z 0) 0 64; count = length l }
 
 -- the numbers of each answer, without the number of the refusal, which the function returns
-abbrev pub read_numbers : Answer → List ℕ
+abbrev pub read_numbers : ReadAnswer → List ℕ
 read_numbers a = a.place ∷ []
 
 abbrev pub failure_numbers : FailureAnswer → List ℕ

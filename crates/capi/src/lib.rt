@@ -4,7 +4,7 @@
 #![tactic(auto)]
 
 ghost use Rattle.std.specs.Prelude.{◌≡◌, ◌≤◌, ◌∷◌, length};
-ghost use Rattle.refusal.specs.Refusals.{number_of};
+ghost use Rattle.refusal.specs.Refusals.{number_of_refusal};
 ghost use Rattle.writer.specs.Buffer.{room, written};
 ghost use Rattle.reader.specs.Answer.{read_answer, read_area, read_answered};
 ghost use Rattle.reader.specs.Failure.{failure_answer, failure_area, failure_answered};
@@ -41,7 +41,7 @@ fn put_numbers(answer: &mut [u64], numbers: &[u64])
 
 // A refusal in numbers: its place, and the others, which are 0. Its own number is returned.
 fn put_refused(answer: &mut [u64], refused: Refused, others: &[u64]) -> u32
-    ensures number { result ≡ number_of refused.refusal }
+    ensures number { result ≡ number_of_refusal refused.refusal }
     ensures numbers { answer.new ≡ written (refused.place ∷ others.now) answer.old }
 {
     let mut sink = Sink {

@@ -49,7 +49,7 @@ pub fn number(row: &[u8], k: usize) -> Option<u64>
 
 // The number and the place of a refusal, 0 and 0 where nothing is refused.
 pub fn number_and_place(refused: Option<Refused>) -> (u64, u64)
-    ensures number { result.0 ≡ option_map_or (λ r. refusals.number_of r.refusal) refused 0 }
+    ensures number { result.0 ≡ option_map_or (λ r. refusals.number_of_refusal r.refusal) refused 0 }
     ensures place { result.1 ≡ option_map_or (λ r. r.place) refused 0 }
 {
     match refused {

@@ -3,7 +3,7 @@
 #![tactic(auto)]
 
 ghost use Rattle.std.specs.Prelude.{◌≡◌, leb, ◌^◌, ◌≤◌, ◌<◌, length, get_or, OnOk};
-ghost use Rattle.refusal.specs.Refusals.{number_or_zero};
+ghost use Rattle.refusal.specs.Inner.Checks.{number_of_check};
 ghost use Rattle.trace.specs.Trace.{Trace};
 ghost use Rattle.theory.specs.Lists.{all_below};
 ghost use Rattle.theory.specs.Events.{size};
@@ -27,7 +27,7 @@ fn names_beyond(set: u64, count: usize) -> bool
 // What is wrong with a failure: the step (8), or the set (9).
 pub fn failure_fault(full: &[u32], step: u64, set: u64) -> Result<(), Refusal>
     requires { (t : Trace) × Tabled t full.now }
-    ensures number { (t : Trace) → Tabled t full.now → number_or_zero result ≡ failure_fault t step set }
+    ensures number { (t : Trace) → Tabled t full.now → number_of_check result ≡ failure_fault t step set }
     ensures within { OnOk result (step ≤ events_w full.now) }
 {
     if step > u64::from(full[1]) {
@@ -62,7 +62,7 @@ fn permitted(finished: &[u32], numbers: &[u32], count: usize, set: u64) -> bool
 // What is wrong with a line, where nothing is with the failure (10).
 pub fn line_fault(full: &[u32], cut: usize, set: u64, line: Line) -> Result<(), Refusal>
     requires { (t : Trace) × Tabled t full.now × (cut ≤ size t) }
-    ensures { (t : Trace) → Tabled t full.now → cut ≤ size t → number_or_zero result ≡ numbers_fault t cut set line.count (line_in line) }
+    ensures { (t : Trace) → Tabled t full.now → cut ≤ size t → number_of_check result ≡ numbers_fault t cut set line.count (line_in line) }
 {
     let count = columns::processes(full);
     if line.count != count {

@@ -18,7 +18,7 @@ use Rattle.listing.proofs.Whole.{rows_few}
 use Rattle.recovery_line.specs.declared.Line.{Line}
 use Rattle.columns.specs.Inner.Given.{Given}
 use Rattle.refusal.specs.declared.Refusal.{Refusal}
-use Rattle.refusal.specs.Refusals.{number_of}
+use Rattle.refusal.specs.Refusals.{number_of_refusal}
 use Rattle.refusal.proofs.Refusals.{no_number_0}
 use Rattle.preparing.specs.Faults.{run_of, line_fault_of}
 use Rattle.messages.specs.Messages.{counts_of, MessagesAnswer, messages_refusal, messages_answer, messages_area}
@@ -48,11 +48,11 @@ module _ (R : Run) (cut : ℕ) (full gates : List ℕ) (G : Given R cut full gat
 
 module _ (a area : List ℕ) (step set : ℕ) (l : Line) where
   -- a refusal leaves the area as it was
-  pub refuses_messages : (e : Refusal) → number_of e ≡ line_fault_of a (length area) step set l
-      → (messages_refusal (number_of e) ≡ messages_answer a area step set l) × (area ≡ messages_area a area step set l)
+  pub refuses_messages : (e : Refusal) → number_of_refusal e ≡ line_fault_of a (length area) step set l
+      → (messages_refusal (number_of_refusal e) ≡ messages_answer a area step set l) × (area ≡ messages_area a area step set l)
   unfolding messages_answer messages_area
   refuses_messages e f =
-      let z : eqb (number_of e) 0 ≡ false = ne_eqb (number_of e) 0 (no_number_0 e) in
+      let z : eqb (number_of_refusal e) 0 ≡ false = ne_eqb (number_of_refusal e) 0 (no_number_0 e) in
       (rw (← f, z), rw (← f, z))
 
   -- the words of the list, in the area

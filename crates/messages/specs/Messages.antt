@@ -7,7 +7,7 @@ use Rattle.theory.specs.Answers.{orphans, kept_ones, lost_ones}
 use Rattle.listing.specs.Listing.{list_word}
 use Rattle.recovery_line.specs.declared.Line.{Line}
 use Rattle.refusal.specs.declared.Refused.{Refused}
-use Rattle.refusal.specs.Refusals.{number_of}
+use Rattle.refusal.specs.Refusals.{number_of_refusal}
 use Rattle.messages.specs.declared.Counted.{Counted}
 use Rattle.preparing.specs.Faults.{run_of, line_fault_of}
 
@@ -40,4 +40,4 @@ messages_found c = record { number = 0; place = 0; orphans = c.orphans; kept = c
 
 abbrev pub messages_answered : Result Counted Refused → MessagesAnswer
 messages_answered (Ok c) = messages_found c
-messages_answered (Err e) = record { number = number_of e.refusal; place = e.place; orphans = 0; kept = 0; lost = 0 }
+messages_answered (Err e) = record { number = number_of_refusal e.refusal; place = e.place; orphans = 0; kept = 0; lost = 0 }

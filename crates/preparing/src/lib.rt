@@ -4,7 +4,7 @@
 #![tactic(auto)]
 
 ghost use Rattle.std.specs.Prelude.{◌≡◌, length, OnOk};
-ghost use Rattle.refusal.specs.Refusals.{number_or_zero};
+ghost use Rattle.refusal.specs.Inner.Checks.{number_of_check};
 ghost use Rattle.trace.specs.Trace.{Trace};
 ghost use Rattle.theory.specs.Line.{run_at};
 ghost use Rattle.columns.specs.Inner.Columns.{full_words};
@@ -21,7 +21,7 @@ use words::AREA_WORDS;
 // Checks the areas that a call is given (12, 13). Where nothing is wrong, fills the full table of the trace.
 fn open_table(table: &[u32], room: usize, full: &mut [u32]) -> Result<(), Refusal>
     requires { length full.old ≡ full_words }
-    ensures fault { number_or_zero result ≡ areas_or table.now room 0 }
+    ensures fault { number_of_check result ≡ areas_or table.now room 0 }
     ensures given { OnOk result (TableOpened table.now room full.new) }
 {
     if table.len() < AREA_WORDS {
@@ -46,7 +46,7 @@ pub fn open_failure(
     full: &mut [u32],
 ) -> Result<(), Refusal>
     requires { length full.old ≡ full_words }
-    ensures fault { number_or_zero result ≡ failure_fault_in table.now room step set }
+    ensures fault { number_of_check result ≡ failure_fault_in table.now room step set }
     ensures given { OnOk result (Tabulated table.now room step set full.new) }
 {
     open_table(table, room, full)?;
@@ -76,7 +76,7 @@ pub fn prepare(
     gates: &mut [u32],
 ) -> Result<(), Refusal>
     requires { (length full.old ≡ full_words) × (length gates.old ≡ 128) }
-    ensures fault { number_or_zero result ≡ line_fault_of table.now room step set line }
+    ensures fault { number_of_check result ≡ line_fault_of table.now room step set line }
     ensures given { OnOk result (Prepared table.now room step line full.new gates.new) }
 {
     open_failure(table, room, step, set, full)?;

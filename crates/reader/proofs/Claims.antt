@@ -15,7 +15,7 @@ use Rattle.trace.specs.Fit.{well_formed}
 use Rattle.lines.specs.Line.{most, most_set}
 use Rattle.reader.specs.Render.{render}
 use Rattle.lines.specs.Render.{render_failure}
-use Rattle.reader.specs.Answer.{Answer, verdict_answer, read_answer}
+use Rattle.reader.specs.Answer.{ReadAnswer, verdict_answer, read_answer}
 use Rattle.reader.specs.Failure.{FailureAnswer, Failing, refused, failing, last_failure, failure_answer_of, failure_answer}
 use Rattle.reader.specs.Verdict.{Verdict, accepted, verdict}
 use Rattle.reader.specs.Meaning.{ReadAccepts, FailureAccepts, FailureTold, ReadAs, FailureReadAs, TextNumber, Numbered, ReadRefuses, FailureRefuses}
@@ -187,7 +187,7 @@ failure_refuses text a =
 
 -- ---- The same of an answer that is given by its definition, for the contracts
 
-pub read_means : (text a : List ℕ) (r : Answer) → r ≡ read_answer text a → ReadAccepts text (length a) r.number × ReadRefuses text (length a) r
+pub read_means : (text a : List ℕ) (r : ReadAnswer) → r ≡ read_answer text a → ReadAccepts text (length a) r.number × ReadRefuses text (length a) r
 read_means text a r e = rw e (read_accepts text a, read_refuses text a)
 
 pub failure_means : (text a : List ℕ) (r : FailureAnswer) → r ≡ failure_answer text a

@@ -13,7 +13,7 @@ use Rattle.lines.specs.declared.Line.{Line}
 use Rattle.lines.specs.Line.{line_said}
 use Rattle.refusal.specs.declared.Refusal.{Refusal}
 use Rattle.refusal.specs.declared.Refused.{Refused}
-use Rattle.refusal.specs.Refusals.{number_of}
+use Rattle.refusal.specs.Refusals.{number_of_refusal}
 use Rattle.reader.specs.Verdict.{Judged, Fit, Fails, Unfit, Scan, refused, ended, pieces, judge, after_line, at_end, lines_from, first_line, scan_pieces, scan}
 use Rattle.reader.specs.Inner.Reading.{count_only, Holds, Scanned, Unread, Ended, Stopped, ScanOutcome}
 use Rattle.reader.proofs.Pieces.{first_piece}
@@ -60,8 +60,8 @@ module _ (text : List ℕ) (t : Trace) (k at : ℕ) where
     turn_unfit n q = turn_line ∙ rw q
 
 -- a refusal that is at a line
-pub at_line : (x : Scan) (why : Refusal) (k : ℕ) (r : Refused) → r ≡ record { refusal = why; place = k } → x ≡ refused (number_of why) k
-    → x ≡ refused (number_of r.refusal) r.place
+pub at_line : (x : Scan) (why : Refusal) (k : ℕ) (r : Refused) → r ≡ record { refusal = why; place = k } → x ≡ refused (number_of_refusal why) k
+    → x ≡ refused (number_of_refusal r.refusal) r.place
 at_line x why k r e h = rw e h
 
 -- an outcome that is known

@@ -14,7 +14,7 @@ use Rattle.words.proofs.Cases.{by_bool}
 use Rattle.reader.specs.Verdict.{Scan, scan, pieces, verdict, verdict_of, Verdict, accepted}
 use Rattle.reader.specs.Failure.{FailureAnswer, Failing, last_line, failing_of, last_failure, trace_of, failure_answer_of, failure_answer, failure_area}
 use Rattle.reader.proofs.Pieces.{first_piece}
-use Rattle.reader.specs.Answer.{Answer, verdict_answer, verdict_word, read_answer, read_area}
+use Rattle.reader.specs.Answer.{ReadAnswer, verdict_answer, verdict_word, read_answer, read_area}
 use Rattle.reader.specs.Inner.Reading.{Holds, Scanned, Unread, Ended, Stopped, ScanOutcome}
 
 -- no outcome is two
@@ -69,11 +69,11 @@ held v t table e h = rw e (words_ext (table_word t) 16384 table h.size h.words)
 
 -- ---- `read_in`: what it answers, and the words it leaves; each way out
 
-abbrev pub Left : List ℕ → Answer → List ℕ → Type 0
+abbrev pub Left : List ℕ → ReadAnswer → List ℕ → Type 0
 Left text r table = (r ≡ verdict_answer (verdict text)) × (table ≡ words_from (verdict_word (verdict text)) 0 area_words)
 
 module _ (text : List ℕ) (r : Scanned) (table : List ℕ) (o : ScanOutcome text (scan text) r table) where
-  pub left_refused : (n k : ℕ) (a : Answer) (after : List ℕ) → r ≡ Unread n k → a ≡ (record { number = n; place = k })
+  pub left_refused : (n k : ℕ) (a : ReadAnswer) (after : List ℕ) → r ≡ Unread n k → a ≡ (record { number = n; place = k })
       → after ≡ replicate (length table) 0 → Left text a after
   unfolding verdict
   left_refused n k a after e h z =
@@ -85,7 +85,7 @@ module _ (text : List ℕ) (r : Scanned) (table : List ℕ) (o : ScanOutcome tex
   pub left_unread : (n k : ℕ) → r ≡ Unread n k → table ≡ replicate area_words 0 → Left text (record { number = n; place = k }) table
   left_unread n k e z = left_refused n k (record { number = n; place = k }) table e refl (z ∙ ap (λ (i : ℕ). replicate i 0) (sym (ap length z ∙ length-replicate {A = ℕ} area_words 0)))
 
-  pub left_stopped : (x y k at : ℕ) (a : Answer) (after : List ℕ) → r ≡ Stopped x y k at → a ≡ (record { number = 1; place = k })
+  pub left_stopped : (x y k at : ℕ) (a : ReadAnswer) (after : List ℕ) → r ≡ Stopped x y k at → a ≡ (record { number = 1; place = k })
       → after ≡ replicate (length table) 0 → Left text a after
   unfolding verdict
   left_stopped x y k at a after e h z =
@@ -156,7 +156,7 @@ pub short : (text a : List ℕ) → length a < area_words → (record { number =
 unfolding read_answer read_area
 short text a l = rw (lt-ltb (length a) 16384 l) (refl, refl)
 
-pub long : (text a : List ℕ) (r : Answer) (w : List ℕ) → area_words ≤ length a → Left text r w → (r ≡ read_answer text a) × (w ++ drop area_words a ≡ read_area text a)
+pub long : (text a : List ℕ) (r : ReadAnswer) (w : List ℕ) → area_words ≤ length a → Left text r w → (r ≡ read_answer text a) × (w ++ drop area_words a ≡ read_area text a)
 unfolding read_answer read_area ruled
 long text a r w l h = rw (le-ltb (length a) 16384 l) (h.0, ap (λ (x : List ℕ). x ++ drop 16384 a) h.1)
 

@@ -3,7 +3,7 @@ use Rattle.std.specs.Prelude.{ℕ, ◌+◌, List, [], ◌∷◌, length, ltb, co
 use Rattle.words.specs.Area.{area_words, ruled}
 use Rattle.trace.specs.Trace.{Trace}
 use Rattle.refusal.specs.declared.Refused.{Refused}
-use Rattle.refusal.specs.Refusals.{number_of}
+use Rattle.refusal.specs.Refusals.{number_of_refusal}
 use Rattle.reader.specs.declared.Failure.{Failure}
 use Rattle.reader.specs.Verdict.{Scan, scan, Verdict, accepted}
 use Rattle.reader.specs.Answer.{verdict_word}
@@ -18,7 +18,7 @@ pub record FailureAnswer : Type 0 where
 -- the same of what `read_failure` gives; "In a refused answer every other number is 0."
 abbrev pub failure_answered : Result Failure Refused → FailureAnswer
 failure_answered (Ok f) = record { number = 0; place = 0; step = f.step; set = f.set }
-failure_answered (Err r) = record { number = number_of r.refusal; place = r.place; step = 0; set = 0 }
+failure_answered (Err r) = record { number = number_of_refusal r.refusal; place = r.place; step = 0; set = 0 }
 
 -- a refusal's number and place, or the trace and the failure line's numbers
 pub data Failing : Type 0 where

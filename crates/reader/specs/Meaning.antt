@@ -11,7 +11,7 @@ use Rattle.lines.specs.Line.{k_procs, most, most_set}
 use Rattle.lines.specs.Render.{render_event, render_failure, KeysHold}
 use Rattle.reader.specs.Render.{render}
 use Rattle.reader.specs.Verdict.{pieces, fault_here}
-use Rattle.reader.specs.Answer.{Answer, read_answer}
+use Rattle.reader.specs.Answer.{ReadAnswer, read_answer}
 use Rattle.reader.specs.Failure.{FailureAnswer, failure_answer}
 
 -- ---- What is accepted
@@ -103,7 +103,7 @@ pub record PastFailure (Same : List ℕ → Type 0) (text : List ℕ) (n k : ℕ
   pub same : (more : List ℕ) → (more ≡ [] → ⊥) → Same (front ++ more)
 
 -- a text has this answer, whatever area of 16,384 words or more it is read into
-abbrev pub ReadAs : Answer → List ℕ → Type 0
+abbrev pub ReadAs : ReadAnswer → List ℕ → Type 0
 ReadAs r text = (a : List ℕ) → area_words ≤ length a → read_answer text a ≡ r
 
 abbrev pub FailureReadAs : FailureAnswer → List ℕ → Type 0
@@ -123,7 +123,7 @@ pub record Numbered (size n k : ℕ) : Type 0 where
   pub nowhere : (n ≡ 0) ⊎ (n ≡ 12) → k ≡ 0
 
 -- "The first faulty line decides the refusal and its place."
-pub record ReadRefuses (text : List ℕ) (size : ℕ) (r : Answer) : Type 0 where
+pub record ReadRefuses (text : List ℕ) (size : ℕ) (r : ReadAnswer) : Type 0 where
   pub numbered : Numbered size r.number r.place
   pub first : (r.number ≡ 0 → ⊥) → area_words ≤ size
       → FirstFault (ReadAs r) text r.number r.place ⊎ LaterFault (ReadAs r) text r.number r.place

@@ -19,7 +19,8 @@ use Rattle.steps.specs.Inner.Steps.{listed_events}
 use Rattle.steps.proofs.Counting.{lowest_steps}
 use Rattle.recovery_line.specs.declared.Line.{Line}
 use Rattle.refusal.specs.declared.Refusal.{Refusal}
-use Rattle.refusal.specs.Refusals.{number_of, at_no_place}
+use Rattle.refusal.specs.Refusals.{number_of_refusal}
+use Rattle.refusal.specs.Inner.Checks.{at_no_place}
 use Rattle.refusal.proofs.Refusals.{no_number_0}
 use Rattle.std.specs.Prelude.{Err}
 use Rattle.preparing.specs.Faults.{run_of, failure_fault_of}
@@ -49,14 +50,14 @@ module _ (a : List ℕ) (step set : ℕ) where
   own_room = by_lt (length a) 16384 (λ h. rw (lt-ltb (length a) 16384 h)) (λ h. rw (le-ltb (length a) 16384 h))
 
   -- a refusal changes nothing
-  pub refuses_recovery : (e : Refusal) → number_of e ≡ failure_fault_of a step set → Recovers a step set (recover_answered (Err (at_no_place e))) a
+  pub refuses_recovery : (e : Refusal) → number_of_refusal e ≡ failure_fault_of a step set → Recovers a step set (recover_answered (Err (at_no_place e))) a
   refuses_recovery e f =
       let l : Line = (recover_answered (Err (at_no_place e))).restarted.line in
-      let g = failure_first a (length a) step set l (number_of e) (f ∙ own_room) (no_number_0 e) in
+      let g = failure_first a (length a) step set l (number_of_refusal e) (f ∙ own_room) (no_number_0 e) in
       let y = refuses_messages a a step set l e g in
       record {
         restart = refuses_restart a step set e f;
-        replay = (refuses a a step set l (lowest_order (run_of a step l)) (number_of e) g (no_number_0 e)).answer;
+        replay = (refuses a a step set l (lowest_order (run_of a step l)) (number_of_refusal e) g (no_number_0 e)).answer;
         messages = y.0;
         words = y.1;
         means = λ h. absurd (no_number_0 e h);

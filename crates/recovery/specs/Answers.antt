@@ -14,7 +14,7 @@ use Rattle.orders.specs.Record.{faultless_at, list_in}
 use Rattle.orders.specs.declared.Replayed.{Replayed}
 use Rattle.orders.specs.Answer.{Answered, answer_of, words_of}
 use Rattle.refusal.specs.declared.Refused.{Refused}
-use Rattle.refusal.specs.Refusals.{number_of}
+use Rattle.refusal.specs.Refusals.{number_of_refusal}
 use Rattle.preparing.specs.Faults.{run_of, line_fault_of}
 
 abbrev pub refusal : ℕ → Answered
@@ -81,7 +81,7 @@ replay_found r = record { number = 0; place = 0; steps = r.steps; complete = r.c
 
 abbrev pub replay_answered : Result Replayed Refused → Answered
 replay_answered (Ok r) = replay_found r
-replay_answered (Err e) = record { number = number_of e.refusal; place = e.place; steps = 0; complete = false }
+replay_answered (Err e) = record { number = number_of_refusal e.refusal; place = e.place; steps = 0; complete = false }
 
 -- What is promised of an order that is replayed from a line on the table area a, of the answer r and of the words that
 -- are left in the run area: the answer and the words themselves, and what they mean.

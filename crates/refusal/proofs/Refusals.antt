@@ -20,9 +20,10 @@ use Rattle.refusal.specs.declared.Refusal.TheVariants.{
   ShortBuffer,
   NothingToFinish,
 }
-use Rattle.refusal.specs.Refusals.{number_of, number_or_zero, at_no_place}
+use Rattle.refusal.specs.Refusals.{number_of_refusal}
+use Rattle.refusal.specs.Inner.Checks.{number_of_check, at_no_place}
 
-pub no_number_0 : (r : Refusal) → number_of r ≡ 0 → ⊥
+pub no_number_0 : (r : Refusal) → number_of_refusal r ≡ 0 → ⊥
 no_number_0 Malformed h = omega arith
 no_number_0 ProcessCount h = omega arith
 no_number_0 NoProcess h = omega arith
@@ -41,9 +42,9 @@ no_number_0 NothingToFinish h = omega arith
 
 -- what the exit of a `?` gives: a refusal is handed on, or gets no place
 module _ {A : Type 0} where
-  pub handed_on : (r : Result A Refusal) (e : Refusal) → IsErrAnd r (λ x. x ≡ e) → number_or_zero r ≡ number_of e
+  pub handed_on : (r : Result A Refusal) (e : Refusal) → IsErrAnd r (λ x. x ≡ e) → number_of_check r ≡ number_of_refusal e
   handed_on (Ok v) e h = absurd h
-  handed_on (Err x) e h = ap number_of h
+  handed_on (Err x) e h = ap number_of_refusal h
 
   pub placeless : (r : Result A Refused) (e : Refusal) → IsErrAnd r (λ x. x ≡ at_no_place e) → r ≡ Err (at_no_place e)
   placeless (Ok v) e h = absurd h

@@ -1,1 +1,3 @@
 pub mod Refusals
+-- internal: no contract of a function that users call reaches these
+pub mod Inner

@@ -1,5 +1,5 @@
--- The numbers of MANUAL 6.2, once for all promises, and a refusal that has no place.
-use Rattle.std.specs.Prelude.{ℕ, Result, Ok, Err}
+-- The numbers of MANUAL 6.2, once for all promises.
+use Rattle.std.specs.Prelude.{ℕ}
 use Rattle.refusal.specs.declared.Refusal.{Refusal}
 use Rattle.refusal.specs.declared.Refusal.TheVariants.{
   Malformed,
@@ -18,31 +18,21 @@ use Rattle.refusal.specs.declared.Refusal.TheVariants.{
   ShortBuffer,
   NothingToFinish,
 }
-use Rattle.refusal.specs.declared.Refused.{Refused}
 
 -- the number of each cause
-abbrev pub number_of : Refusal → ℕ
-number_of Malformed = 1
-number_of ProcessCount = 2
-number_of NoProcess = 3
-number_of Itself = 4
-number_of NothingInTransit = 5
-number_of TooManySaves = 6
-number_of TooManyEvents = 7
-number_of Step = 8
-number_of Set = 9
-number_of Line = 10
-number_of Choice = 11
-number_of ShortArea = 12
-number_of NoTrace = 13
-number_of ShortBuffer = 14
-number_of NothingToFinish = 15
-
--- the number that a check stands for: 0 where nothing is wrong
-abbrev pub number_or_zero : {A : Type 0} → Result A Refusal → ℕ
-number_or_zero (Ok v) = 0
-number_or_zero (Err r) = number_of r
-
--- a refusal without a place
-abbrev pub at_no_place : Refusal → Refused
-at_no_place r = record { refusal = r; place = 0 }
+abbrev pub number_of_refusal : Refusal → ℕ
+number_of_refusal Malformed = 1
+number_of_refusal ProcessCount = 2
+number_of_refusal NoProcess = 3
+number_of_refusal Itself = 4
+number_of_refusal NothingInTransit = 5
+number_of_refusal TooManySaves = 6
+number_of_refusal TooManyEvents = 7
+number_of_refusal Step = 8
+number_of_refusal Set = 9
+number_of_refusal Line = 10
+number_of_refusal Choice = 11
+number_of_refusal ShortArea = 12
+number_of_refusal NoTrace = 13
+number_of_refusal ShortBuffer = 14
+number_of_refusal NothingToFinish = 15

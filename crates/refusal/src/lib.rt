@@ -3,7 +3,8 @@
 #![tactic(auto)]
 
 ghost use Rattle.std.specs.Prelude.{◌≡◌};
-ghost use Rattle.refusal.specs.Refusals.{number_of, at_no_place};
+ghost use Rattle.refusal.specs.Refusals.{number_of_refusal};
+ghost use Rattle.refusal.specs.Inner.Checks.{at_no_place};
 ghost use Rattle.trace.specs.Inner.Tally as unfit;
 
 use trace::Unfit;
@@ -47,7 +48,7 @@ pub enum Refusal {
 impl Refusal {
     /// The number of MANUAL 6.2.
     pub fn number(self) -> u32
-        ensures { result ≡ number_of self }
+        ensures { result ≡ number_of_refusal self }
     {
         self as u32
     }
@@ -79,7 +80,7 @@ impl From<Refusal> for Refused {
 }
 
 impl From<Unfit> for Refusal {
-    ghost from_gives = { λ u r. number_of r ≡ unfit.number_of u };
+    ghost from_gives = { λ u r. number_of_refusal r ≡ unfit.number_of_unfit u };
 
     fn from(unfit: Unfit) -> Refusal {
         match unfit {

@@ -4,7 +4,7 @@ use Rattle.std.specs.Prelude.{ℕ, not, cond, List, ◌++◌, length, drop, ltb,
 use Rattle.words.specs.Area.{area_words}
 use Rattle.reader.specs.Render.{render}
 use Rattle.table.specs.Held.{held, holds_trace}
-use Rattle.refusal.specs.Refusals.{number_of}
+use Rattle.refusal.specs.Refusals.{number_of_refusal}
 use Rattle.refusal.specs.declared.Refused.{Refused}
 
 -- an answer: the number of the refusal, 0 if accepted; a place, which is always 0; and how many bytes the text has,
@@ -15,9 +15,9 @@ pub record WriteAnswer : Type 0 where
   pub length : ℕ
 
 -- what the function answers, as these numbers
-abbrev pub answer_of : Result ℕ Refused → WriteAnswer
-answer_of (Ok n) = record { number = 0; place = 0; length = n }
-answer_of (Err e) = record { number = number_of e.refusal; place = e.place; length = 0 }
+abbrev pub write_answered : Result ℕ Refused → WriteAnswer
+write_answered (Ok n) = record { number = 0; place = 0; length = n }
+write_answered (Err e) = record { number = number_of_refusal e.refusal; place = e.place; length = 0 }
 
 -- the text of the trace that a table area holds
 unfoldable pub text_of : List ℕ → List ℕ

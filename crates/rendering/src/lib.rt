@@ -11,7 +11,7 @@ ghost use Rattle.lines.specs.Render.{render_event};
 ghost use Rattle.reader.specs.Render.{render_events};
 ghost use Rattle.writer.specs.Inner.Puts.{Puts};
 ghost use Rattle.writer.specs.Inner.Sinks.{Takes};
-ghost use Rattle.rendering.specs.Write.{text_of, answer_of, write_answer, write_buffer};
+ghost use Rattle.rendering.specs.Write.{text_of, write_answered, write_answer, write_buffer};
 ghost use Rattle.rendering.specs.Meaning.{RoundTrip};
 
 use refusal::{Refusal, Refused};
@@ -77,9 +77,9 @@ fn put_text(out: &mut [u8], table: &[u32]) -> usize
 // every text is written straight; into a shorter one the text is copied once its length is known, since a refusal must
 // change nothing.
 pub fn write(table: &[u32], out: &mut [u8]) -> Result<usize, Refused>
-    ensures answer { answer_of result ≡ write_answer table.now (length out.old) }
+    ensures answer { write_answered result ≡ write_answer table.now (length out.old) }
     ensures buffer { out.new ≡ write_buffer table.now out.old }
-    ensures trip { RoundTrip table.now out.old (answer_of result) out.new }
+    ensures trip { RoundTrip table.now out.old (write_answered result) out.new }
 {
     if table.len() < AREA_WORDS {
         return Err(Refusal::ShortArea.at(0));

@@ -21,7 +21,7 @@ use Rattle.columns.proofs.Full.{fit}
 use Rattle.recovery_line.proofs.Sets.{places_of}
 use Rattle.recovery_line.specs.Given.{line_in, line_to, restart_phase_in, numbers_of, back_of, back_ones}
 use Rattle.refusal.specs.declared.Refusal.{Refusal}
-use Rattle.refusal.specs.Refusals.{number_of}
+use Rattle.refusal.specs.Refusals.{number_of_refusal}
 use Rattle.refusal.proofs.Refusals.{no_number_0}
 use Rattle.preparing.specs.Faults.{failure_fault_of}
 use Rattle.preparing.specs.Inner.Prepared.{Takeable}
@@ -58,9 +58,9 @@ module _ (t : Trace) (full : List ℕ) (G : Marked t (rule_of t) full) (cut set 
       }
 
 module _ (a : List ℕ) (step set : ℕ) where
-  pub refuses_restart : (e : Refusal) → number_of e ≡ failure_fault_of a step set → restart_refusal (number_of e) ≡ restart_answer a step set
+  pub refuses_restart : (e : Refusal) → number_of_refusal e ≡ failure_fault_of a step set → restart_refusal (number_of_refusal e) ≡ restart_answer a step set
   unfolding restart_answer
-  refuses_restart e f = rw (← f, ne_eqb (number_of e) 0 (no_number_0 e))
+  refuses_restart e f = rw (← f, ne_eqb (number_of_refusal e) 0 (no_number_0 e))
 
   pub answers_restart : (r : RestartAnswer) → 0 ≡ failure_fault_of a step set → r ≡ restart_of (held a) step set → r ≡ restart_answer a step set
   unfolding restart_answer

@@ -11,7 +11,7 @@ use Rattle.theory.specs.Line.{in_set, stays_in, current, Greatest, usable_at, un
 use Rattle.recovery_line.specs.declared.Line.{Line}
 use Rattle.recovery_line.specs.Given.{each, line_in, line_to, restart_phase_in, numbers_of, back_of, back_ones}
 use Rattle.refusal.specs.declared.Refused.{Refused}
-use Rattle.refusal.specs.Refusals.{number_of}
+use Rattle.refusal.specs.Refusals.{number_of_refusal}
 use Rattle.restart.specs.declared.Restarted.{Restarted}
 use Rattle.preparing.specs.Faults.{failure_fault_of}
 
@@ -77,7 +77,7 @@ abbrev pub restart_answered : Result Restarted Refused → RestartAnswer
 restart_answered (Ok r) = restart_found r
 restart_answered (Err e) =
     record {
-      number = number_of e.refusal;
+      number = number_of_refusal e.refusal;
       place = e.place;
       line = record { epochs = replicate 64 0; count = 0 };
       going = 0;

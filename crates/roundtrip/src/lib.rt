@@ -3,7 +3,7 @@
 #![tactic(auto)]
 
 ghost use Rattle.std.specs.Prelude.{◌≡◌, length};
-ghost use Rattle.rendering.specs.Write.{answer_of, write_answer, write_buffer};
+ghost use Rattle.rendering.specs.Write.{write_answered, write_answer, write_buffer};
 ghost use Rattle.roundtrip.specs.Trip.{comes_back};
 
 use refusal::Refused;
@@ -29,7 +29,7 @@ fn changed(out: &[u8], from: usize) -> u64 {
 
 // How many bytes of a text were written: none where writing is refused.
 fn length_of(answer: Result<usize, Refused>) -> usize
-    ensures { result ≡ (answer_of answer).length }
+    ensures { result ≡ (write_answered answer).length }
 {
     match answer {
         Ok(length) => length,

@@ -27,9 +27,10 @@ ghost use Rattle.columns.specs.Inner.Given.{Given};
 ghost use Rattle.sets.specs.Inner.Sets.{with_in};
 ghost use Rattle.links.specs.Inner.Listed.{ListsRising, ListsWalkable};
 ghost use Rattle.search.specs.Inner.Lowest.{Idle, Unready, Waiting, NoneTo, ToHand, Receiver, Ran, LowestDone};
-ghost use Rattle.search.specs.Inner.Looking.{Goes, Ends, GoesOn};
+ghost use Rattle.search.specs.Inner.Looking.{Goes, SearchEnds, GoesOn};
 ghost use Rattle.search.specs.Inner.Opened.{Searchable, Shut, GatesOpened, ListJoined, PhasesJoined};
-ghost use Rattle.orders.specs.Answer.{answered, answer_of, words_of};
+ghost use Rattle.orders.specs.Answer.{answer_of, words_of};
+ghost use Rattle.orders.specs.Inner.Answered.{answered};
 
 use links::{HEAD_WORDS, LINK_WORDS};
 use machine::{LOW_PLACE, NO_PHASE, TREE_WORDS};
@@ -255,7 +256,7 @@ fn carry_next(
     o: Open,
 ) -> Option<Open>
     requires { Goes full.now links.now heads.now gates.now area.old tree.old ready.old o.may o.senders o.shut o.gate }
-    ensures none { IfNone result (Ends full.now links.now heads.now gates.now area.old tree.old ready.old o.may o.senders o.shut o.gate area.new) }
+    ensures none { IfNone result (SearchEnds full.now links.now heads.now gates.now area.old tree.old ready.old o.may o.senders o.shut o.gate area.new) }
     ensures next { IfSome result (λ p. GoesOn full.now links.now heads.now gates.now area.old tree.old ready.old o.may o.senders o.shut o.gate area.new tree.new ready.new p.may p.senders p.shut p.gate) }
 {
     let low = area[LOW_PLACE];

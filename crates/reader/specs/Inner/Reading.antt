@@ -10,7 +10,7 @@ use Rattle.lines.specs.declared.Line.{Line}
 use Rattle.lines.specs.declared.Line.TheVariants.{Procs, Send, Recv, Save, Done, Failure, Malformed}
 use Rattle.refusal.specs.declared.Refusal.{Refusal}
 use Rattle.refusal.specs.declared.Refused.{Refused}
-use Rattle.refusal.specs.Refusals.{number_of}
+use Rattle.refusal.specs.Refusals.{number_of_refusal}
 use Rattle.reader.specs.Verdict.{Judged, Fit, Fails, Unfit, Scan, refused, ended, stopped, pieces, lines_from, scan}
 use Rattle.reader.specs.declared.Judged as code_judged
 use Rattle.reader.specs.declared.Scanned as code_scanned
@@ -19,7 +19,7 @@ use Rattle.reader.specs.declared.Scanned as code_scanned
 abbrev pub judged : Result code_judged.Judged Refusal → Judged
 judged (Ok (code_judged.TheVariants.Event e)) = Fit e
 judged (Ok (code_judged.TheVariants.Failure f)) = Fails f.step f.set
-judged (Err r) = Unfit (number_of r)
+judged (Err r) = Unfit (number_of_refusal r)
 
 -- a process count, or none
 unfoldable pub count_only : Line → Line
@@ -57,7 +57,7 @@ appended table n e =
 -- what the first line comes to: its refusal, or the process count and the place where the lines after it begin
 abbrev pub FirstRead : List ℕ → Result (ℕ × ℕ) Refused → Type 0
 FirstRead text (Ok r) = (r.0 ≤ 64) × ((r.1 ≤ length text) × (lines_from (started r.0) 2 (pieces (drop r.1 text)) ≡ scan text))
-FirstRead text (Err r) = scan text ≡ refused (number_of r.refusal) r.place
+FirstRead text (Err r) = scan text ≡ refused (number_of_refusal r.refusal) r.place
 
 -- where the lines end: a refusal's number and line; the line after the last; or a failure line, its step, its set, its
 -- own line and the place after it
@@ -69,7 +69,7 @@ pub data Scanned : Type 0 where
 abbrev pub scanned : Result code_scanned.Scanned Refused → Scanned
 scanned (Ok (code_scanned.TheVariants.Ended k)) = Ended k
 scanned (Ok (code_scanned.TheVariants.Failure f k next)) = Stopped f.step f.set k next
-scanned (Err r) = Unread (number_of r.refusal) r.place
+scanned (Err r) = Unread (number_of_refusal r.refusal) r.place
 
 -- the loop stopped at a failure line: its outcome with the place after that line, what follows there, and the table;
 -- the line is one of the first 2,050

@@ -2,18 +2,18 @@
 use mathlib.Core.Path.{refl, sym, ap, ◌∙◌}
 use Rattle.std.proofs.Common.{not, Err}
 use Rattle.refusal.specs.declared.Refused.{Refused}
-use Rattle.rendering.specs.Write.{answer_of}
+use Rattle.rendering.specs.Write.{write_answered}
 use Rattle.rendering.proofs.Ways.{holds, within, own_size, short_area, no_trace, straight, no_room, copied}
 use Rattle.rendering.proofs.write.Goals as goal
 
 pub returns-then-table-lt-AREA_WORDS : goal.returns-then-table-lt-AREA_WORDS
 returns-then-table-lt-AREA_WORDS c =
-    let (answer, (buffer, trip)) = short_area _ _ _ c.if-table-lt-AREA_WORDS.true (ap (λ (x : Refused). answer_of (Err x)) c.at.ensures) in
+    let (answer, (buffer, trip)) = short_area _ _ _ c.if-table-lt-AREA_WORDS.true (ap (λ (x : Refused). write_answered (Err x)) c.at.ensures) in
     record { answer = answer; buffer = buffer; trip = trip }
 
 pub returns-then-not-holds_trace : goal.returns-then-not-holds_trace
 returns-then-not-holds_trace c =
-    let (answer, (buffer, trip)) = no_trace _ _ _ c.if-table-lt-AREA_WORDS.false (sym c.holds_trace.ensures ∙ c.if-not-holds_trace.true) (ap (λ (x : Refused). answer_of (Err x)) c.at-then-not-holds_trace.ensures) in
+    let (answer, (buffer, trip)) = no_trace _ _ _ c.if-table-lt-AREA_WORDS.false (sym c.holds_trace.ensures ∙ c.if-not-holds_trace.true) (ap (λ (x : Refused). write_answered (Err x)) c.at-then-not-holds_trace.ensures) in
     record { answer = answer; buffer = buffer; trip = trip }
 
 pub put_text-requires : goal.put_text-requires
@@ -31,7 +31,7 @@ put_text-length-requires c =
 
 pub returns-then-out-length : goal.returns-then-out-length
 returns-then-out-length c =
-    let (answer, (buffer, trip)) = no_room _ _ _ c.if-table-lt-AREA_WORDS.false (holds _ _ c.holds_trace.ensures (ap not c.if-not-holds_trace.false)) _ _ _ own_size c.put_text-length.ensures c.if-out-length.true (ap (λ (x : Refused). answer_of (Err x)) c.at-then-out-length.ensures) in
+    let (answer, (buffer, trip)) = no_room _ _ _ c.if-table-lt-AREA_WORDS.false (holds _ _ c.holds_trace.ensures (ap not c.if-not-holds_trace.false)) _ _ _ own_size c.put_text-length.ensures c.if-out-length.true (ap (λ (x : Refused). write_answered (Err x)) c.at-then-out-length.ensures) in
     record { answer = answer; buffer = buffer; trip = trip }
 
 pub returns : goal.returns

@@ -47,8 +47,8 @@ module _ (t l h g a tree rs : List ℕ) (may senders shut gate : ℕ) where
     pub looking : Looking t l h g begun most a tree rs may senders shut gate done
 
   -- there is no other: whatever is done is the whole order
-  abbrev pub Ends : List ℕ → Type 0
-  Ends b =
+  abbrev pub SearchEnds : List ℕ → Type 0
+  SearchEnds b =
       (a₀ : List ℕ) (most i : ℕ) → Looking t l h g a₀ most a tree rs may senders shut gate i → (R : Run) → Started R t l g a₀ → LowestDone R b most i
 
   -- one more is done
