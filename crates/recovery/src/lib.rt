@@ -62,7 +62,7 @@ pub fn lowest(
     Ok(search::lowest(&full, &gates, run, step as usize))
 }
 
-// What `restart` answers, and with its line `lowest` and `messages`.
+// What `restart` answers, and with its line `lowest` and `messages`. (Clone and Copy alone, as `Restarted`.)
 #[derive(Clone, Copy)]
 pub struct Recovered {
     pub restarted: Restarted,

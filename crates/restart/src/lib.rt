@@ -18,7 +18,8 @@ use refusal::Refused;
 use words::AREA_WORDS;
 
 // What a failure asks for: the engine's line, the set of the processes that go back and its size, and of each process
-// its epoch at the cut and its phase at the restart, or at the cut where it stays.
+// its epoch at the cut and its phase at the restart, or at the cut where it stays. (Clone and Copy alone: nothing
+// compares or prints its 800 bytes.)
 #[derive(Clone, Copy)]
 pub struct Restarted {
     pub line: Line,
