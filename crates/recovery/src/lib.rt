@@ -38,6 +38,7 @@ pub fn replay(
     let mut gates = [0u32; GATE_WORDS];
     preparing::prepare(table, area.len(), step, set, line, &mut full, &mut gates)?;
     let run = &mut area[..AREA_WORDS];
+    // (By its arms: `map_err` was tried, and the proof didn't close.)
     match orders::replay(&full, &gates, order, run, step as usize) {
         Ok(replayed) => Ok(replayed),
         Err(not_allowed) => Err(Refusal::Choice.at(not_allowed.place)),
