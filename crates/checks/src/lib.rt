@@ -84,8 +84,8 @@ fn put_piece(sink: &mut Sink<'_, u8>, b: u8, v: u64)
     }
 }
 
-// Puts a pattern with its values filled in at a place, and answers the place after it; a full buffer takes no more. (The
-// gate programs have fixed buffers, since nothing here allocates.)
+// Puts a pattern with its values filled in at a place, and answers the place after it; a full buffer takes no more.
+// (The gate programs have fixed buffers, since nothing here allocates.)
 pub fn put(out: &mut [u8], at: usize, pattern: &[u8], values: &[u64]) -> usize
     ensures { Fills pattern.now values.now out.old at out.new result }
 {
@@ -98,8 +98,8 @@ pub fn put(out: &mut [u8], at: usize, pattern: &[u8], values: &[u64]) -> usize
     sink.next
 }
 
-// Prints a pattern with its values filled in, its first 512 bytes, and answers how many bytes that is. (A pattern and no
-// `print!`: that can fail, and what could not fail still can't.)
+// Prints a pattern with its values filled in, its first 512 bytes, and answers how many bytes that is. (A pattern and
+// no `print!`: that can fail, and what could not fail still can't.)
 pub fn print(pattern: &[u8], values: &[u64]) -> usize
     ensures { result ≡ length (take 512 (filled pattern.now values.now 0)) }
 {

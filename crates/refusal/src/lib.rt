@@ -1,5 +1,5 @@
-// The refusals of every call, as MANUAL 6.2 has them: a variant for each cause, with the number that C sees. `trace` and
-// `orders` have refusals of their own; the crates above make one of these of them. Assumes nothing.
+// The refusals of every call, as MANUAL 6.2 has them: a variant for each cause, with the number that C sees. `trace`
+// and `orders` have refusals of their own; the crates above make one of these of them. Assumes nothing.
 #![tactic(auto)]
 
 ghost use Rattle.std.specs.Prelude.{◌≡◌};
