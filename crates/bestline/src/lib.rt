@@ -156,6 +156,7 @@ fn lowest(count: u32, line: &[u32; 4]) -> u32
         .fold(STAYS, |least, n| least.min(*n))
 }
 
+// The best line of a failure, with all that `Best` tells of it.
 pub fn best_line(f: Failure) -> Best
     requires { SmallRun f }
     ensures { result.judged ≤ 125 }

@@ -16,7 +16,7 @@ use words::AREA_WORDS;
 const BEFORE: u32 = 7;
 
 // The words before row 1 of each plane of a list of messages, and before the low and the high halves of the values of a
-// record (docs/LAYOUT.md).
+// record. (Written out, and not named from `listing` and `machine`: docs/LAYOUT.md is what is checked.)
 const ROW_BASE: usize = 16;
 
 const ROW_NUMBER_BASE: usize = 2065;

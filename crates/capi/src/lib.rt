@@ -67,6 +67,7 @@ fn line_from(numbers: &[u32]) -> Line
     }
 }
 
+// What a reading answers, and its number.
 fn put_read(answer: &mut [u64], outcome: Result<(), Refused>) -> u32
     ensures number { result ≡ (read_answered outcome).number }
     ensures numbers { answer.new ≡ written (read_numbers (read_answered outcome)) answer.old }
@@ -93,6 +94,7 @@ pub extern "C" fn hallback_read(text: &[u8], table: &mut [u32], answer: &mut [u6
     put_read(answer, outcome)
 }
 
+// What reading a failure answers, and its number.
 fn put_failure(answer: &mut [u64], outcome: Result<Failure, Refused>) -> u32
     ensures number { result ≡ (failure_answered outcome).number }
     ensures numbers { answer.new ≡ written (failure_numbers (failure_answered outcome)) answer.old }
@@ -137,6 +139,7 @@ pub extern "C" fn hallback_write(table: &[u32], out: &mut [u8], answer: &mut [u6
     }
 }
 
+// What a restart answers, and its number.
 fn put_restart(answer: &mut [u64], outcome: Result<Restarted, Refused>) -> u32
     ensures number { result ≡ (restart_answered outcome).number }
     ensures numbers { answer.new ≡ written (restart_numbers (restart_answered outcome)) answer.old }
@@ -169,6 +172,7 @@ pub extern "C" fn hallback_restart(table: &[u32], step: u64, set: u64, answer: &
     put_restart(answer, outcome)
 }
 
+// What counting the messages of a line answers, and its number.
 fn put_counted(answer: &mut [u64], outcome: Result<Counted, Refused>) -> u32
     ensures number { result ≡ (messages_answered outcome).number }
     ensures numbers { answer.new ≡ written (messages_numbers (messages_answered outcome)) answer.old }
@@ -209,6 +213,7 @@ pub extern "C" fn hallback_messages(
     put_counted(answer, outcome)
 }
 
+// What a replay answers, and its number.
 fn put_replayed(answer: &mut [u64], outcome: Result<Replayed, Refused>) -> u32
     ensures number { result ≡ (replay_answered outcome).number }
     ensures numbers { answer.new ≡ written (replay_numbers (replay_answered outcome)) answer.old }

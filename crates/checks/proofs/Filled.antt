@@ -24,14 +24,6 @@ pub piece_byte : (b v : ℕ) → (b ≡ 35 → ⊥) → b ∷ [] ≡ piece b v
 unfolding piece
 piece_byte b v n = rw (ne_eqb b 35 n)
 
-pub takes_one : (b : ℕ) → b ≡ 35 → 1 ≡ takes b
-unfolding takes
-takes_one b e = rw (eq-eqb b 35 e)
-
-pub takes_none : (b : ℕ) → (b ≡ 35 → ⊥) → 0 ≡ takes b
-unfolding takes
-takes_none b n = rw (ne_eqb b 35 n)
-
 -- whatever puts the rest of a pattern from byte i on, after what has been put, puts the whole
 abbrev pub Rest : (pattern values : List ℕ) (i k : ℕ) (first sink : Sink ℕ) → Type 0
 Rest pattern values i k first sink =

@@ -1,6 +1,6 @@
-// What gate programs share: the numbers of the rows of their cases, those of a refusal, and rows of results put together
-// and printed. Each function says what it does by a definition, for every input; no public function has a `requires`.
-// What reaches standard output no contract can say. Assumes what `libc` assumes.
+// What gate programs share: the numbers of the rows of their cases, those of a refusal, and rows of results put
+// together and printed. Each function says what it does by a definition, for every input; no public function has a
+// `requires`. What reaches standard output no contract can say. Assumes what `libc` assumes.
 #![tactic(auto)]
 
 ghost use Rattle.std.specs.Prelude.{◌≡◌, ◌≤◌, length, get_or, take};
@@ -66,10 +66,11 @@ fn value(values: &[u64], k: usize) -> u64
 }
 
 // How many values a byte of a pattern takes.
+#[tactic(auto, unfolding(crate::specs::Inner::Filled::takes))]
 fn taken(b: u8) -> usize
     ensures { (result ≡ takes b) × (result ≤ 1) }
 {
-    if b == b'#' { 1 } else { 0 }
+    usize::from(b == b'#')
 }
 
 // What a byte of a pattern stands for where v is the next value.
@@ -84,6 +85,7 @@ fn put_piece(sink: &mut Sink<'_, u8>, b: u8, v: u64)
 }
 
 // Puts a pattern with its values filled in at a place, and answers the place after it; a full buffer takes no more.
+// (The gate programs have fixed buffers, since nothing here allocates.)
 pub fn put(out: &mut [u8], at: usize, pattern: &[u8], values: &[u64]) -> usize
     ensures { Fills pattern.now values.now out.old at out.new result }
 {
@@ -96,7 +98,8 @@ pub fn put(out: &mut [u8], at: usize, pattern: &[u8], values: &[u64]) -> usize
     sink.next
 }
 
-// Prints a pattern with its values filled in, its first 512 bytes, and answers how many bytes that is.
+// Prints a pattern with its values filled in, its first 512 bytes, and answers how many bytes that is. (A pattern and
+// no `print!`: that can fail, and what could not fail still can't.)
 pub fn print(pattern: &[u8], values: &[u64]) -> usize
     ensures { result ≡ length (take 512 (filled pattern.now values.now 0)) }
 {

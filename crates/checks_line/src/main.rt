@@ -52,7 +52,7 @@ impl Trace {
         if self.is_long() { self.size } else { 0 }
     }
 
-    // Its text, and how many bytes that has.
+    // Its text, and how many bytes that has. (A buffer of fixed size and a length beside: nothing here allocates.)
     fn text(&self) -> ([u8; TEXT_BYTES], usize)
         ensures { result.1 ≤ TEXT_BYTES }
     {

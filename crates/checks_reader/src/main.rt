@@ -61,7 +61,7 @@ fn print_words(area: &[u32], from: usize) {
 
 // Reads a text into an area of 16,384 words, no more, and prints those from a place on.
 fn table(name: &[u8], text: &[u8], from: usize) {
-    let mut area = [BEFORE; 16384];
+    let mut area = [BEFORE; AREA_WORDS];
     print_answer(name, reader::read(text, &mut area));
     io::write_all(1, b"\n");
     print_words(&area, from);
@@ -84,7 +84,7 @@ fn repeat(text: &mut [u8], from: usize, piece: &[u8], times: usize) -> usize
 
 // Reads the first lines and then those of the case as one text.
 fn joined(name: &[u8], first: &[u8], lines: &[u8]) {
-    let mut text = [0u8; 65536];
+    let mut text = [0; 65536];
     let at = repeat(&mut text, 0, first, 1);
     let n = repeat(&mut text, at, lines, 1);
     case(name, &text[..n]);
@@ -230,7 +230,7 @@ fn largest_numbers() {
 // Reads a send whose value has these digits, and prints its words from those of the values on: the low half is word
 // 2066, the high half word 4115.
 fn halves(name: &[u8], digits: &[u8]) {
-    let mut text = [0u8; 128];
+    let mut text = [0; 128];
     let at = repeat(&mut text, 0, b"procs=2\nev=send at=0 to=1 val=", 1);
     let end = repeat(&mut text, at, digits, 1);
     let n = repeat(&mut text, end, b"\n", 1);
@@ -296,14 +296,14 @@ fn first_events() {
 
 // 6: the 30th and the 31st checkpoint of a process, and then another's; the same with dones, and a done too many.
 fn saves() {
-    let mut text = [0u8; 512];
+    let mut text = [0; 512];
     let at = repeat(&mut text, 0, b"procs=2\n", 1);
     let n = repeat(&mut text, at, b"ev=save at=1\n", 30);
     rows(
         &text[..n],
         b"saves-30:;saves-31:ev=save at=1\n;saves-30-and-1:ev=save at=0\n;",
     );
-    let mut done = [0u8; 1024];
+    let mut done = [0; 1024];
     let to = repeat(&mut done, 0, b"procs=2\n", 1);
     let m = repeat(&mut done, to, b"ev=save at=1\nev=done at=1\n", 30);
     rows(
@@ -314,7 +314,7 @@ fn saves() {
 
 // 7: the 2,048th and the 2,049th event, and what else stands at line 2,050.
 fn events() {
-    let mut text = [0u8; 65536];
+    let mut text = [0; 65536];
     let at = repeat(&mut text, 0, b"procs=2\n", 1);
     let m = repeat(&mut text, at, b"ev=send at=0 to=1 val=0\n", 2047);
     let n = repeat(&mut text, m, b"ev=send at=1 to=0 val=4294967305\n", 1);
@@ -332,7 +332,7 @@ fn events() {
 
 // The largest text that there is.
 fn largest_text() {
-    let mut text = [0u8; 92169];
+    let mut text = [0; 92169];
     let at = repeat(&mut text, 0, b"procs=64\n", 1);
     let n = repeat(
         &mut text,

@@ -68,7 +68,8 @@ fn print_filled(name: &[u8], n: u32, odd: u32, even: u32) {
     print_answer(&area);
 }
 
-// One row. A word is a field's number, of which the low 32 bits are looked at; all ones where there is none.
+// One row. A word is a field's number, of which the low 32 bits are looked at; all ones where there is none. (A letter
+// stands for a case: an enum of the five would be no plainer than this match.)
 fn case(area: &mut [u32], row: &[u8]) {
     let word = |k| (checks::number(row, k).unwrap_or(u64::MAX) % 4294967296) as u32;
     let a = word(1);

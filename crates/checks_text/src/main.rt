@@ -53,6 +53,7 @@ fn searches(text: &[u8]) {
     io::write_all(1, b"\n");
 }
 
+// A text with an LF at each of two places.
 fn two_lfs(first: usize, second: usize) {
     checks::print(b"lf # and # from:", &[first as u64, second as u64]);
     let mut text = [0x0b; LONG];

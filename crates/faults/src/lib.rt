@@ -15,6 +15,7 @@ ghost use Rattle.faults.specs.Inner.Permitted.{may_hold_w, may_w};
 
 use recovery_line::{Line, STAYS};
 use refusal::Refusal;
+use trace::PROCESSES;
 
 // Does a set name a process that is none of the first `count`.
 fn names_beyond(set: u64, count: usize) -> bool
@@ -68,7 +69,7 @@ pub fn line_fault(full: &[u32], cut: usize, set: u64, line: Line) -> Result<(), 
     if line.count != count {
         return Err(Refusal::Line);
     }
-    let mut finished = [1u32; 64];
+    let mut finished = [1; PROCESSES];
     positions::finished_at(full, cut, &mut finished);
     if permitted(&finished, &line.epochs, count, set) {
         Ok(())

@@ -54,8 +54,8 @@ pub fn messages(
     ensures few { IfOk result (λ c. c.orphans + (c.kept + c.lost) ≤ 2048) }
     ensures means { IfOk result (λ c. Lists (run_of table.now step line) c.orphans c.kept c.lost area.new) }
 {
-    let mut full = [0u32; FULL_WORDS];
-    let mut gates = [0u32; GATE_WORDS];
+    let mut full = [0; FULL_WORDS];
+    let mut gates = [0; GATE_WORDS];
     preparing::prepare(table, area.len(), step, set, line, &mut full, &mut gates)?;
     let list = &mut area[..AREA_WORDS];
     list.fill(0);

@@ -16,6 +16,7 @@ ghost use Rattle.preparing.specs.Faults.{areas_or, line_fault_of};
 use positions::LINKS;
 use recovery_line::Line;
 use refusal::Refusal;
+use trace::PROCESSES;
 use words::AREA_WORDS;
 
 // Checks the areas that a call is given (12, 13). Where nothing is wrong, fills the full table of the trace.
@@ -24,10 +25,7 @@ fn open_table(table: &[u32], room: usize, full: &mut [u32]) -> Result<(), Refusa
     ensures fault { number_of_check result ≡ areas_or table.now room 0 }
     ensures given { OnOk result (TableOpened table.now room full.new) }
 {
-    if table.len() < AREA_WORDS {
-        return Err(Refusal::ShortArea);
-    }
-    if room < AREA_WORDS {
+    if table.len() < AREA_WORDS || room < AREA_WORDS {
         return Err(Refusal::ShortArea);
     }
     if protocol::tabulate(table, full) {
@@ -58,8 +56,8 @@ pub fn gates_of(full: &[u32], line: Line, cut: usize, gates: &mut [u32])
     requires { (length gates.old ≡ 128) × ((t : Trace) × Takeable t full.now line cut) }
     ensures { (t : Trace) → Takeable t full.now line cut → Given (run_at t cut (line_in line)) cut full.now gates.new }
 {
-    let mut earlier = [0u16; LINKS];
-    let mut latest = [0u16; 64];
+    let mut earlier = [0; LINKS];
+    let mut latest = [0; PROCESSES];
     positions::link(full, cut, &mut earlier, &mut latest);
     gates::gates(full, &earlier, &latest, line, cut, gates);
 }

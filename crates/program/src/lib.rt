@@ -17,7 +17,8 @@ pub const READ_BYTES: usize = TEXT_MOST + 1;
 // A buffer of so many bytes holds all that the program prints.
 pub const REPORT_BYTES: usize = 262144;
 
-// How many bytes there are to write, and the status: 0 recovered, 1 refused.
+// How many bytes there are to write, and the status: 0 recovered, 1 refused. (A number and no enum: what may not
+// change, `respond`'s clause `status`.)
 #[derive(Clone, Copy)]
 pub struct Outcome {
     pub length: usize,

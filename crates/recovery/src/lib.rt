@@ -38,6 +38,7 @@ pub fn replay(
     let mut gates = [0u32; GATE_WORDS];
     preparing::prepare(table, area.len(), step, set, line, &mut full, &mut gates)?;
     let run = &mut area[..AREA_WORDS];
+    // (By its arms: `map_err` was tried, and the proof didn't close.)
     match orders::replay(&full, &gates, order, run, step as usize) {
         Ok(replayed) => Ok(replayed),
         Err(not_allowed) => Err(Refusal::Choice.at(not_allowed.place)),
@@ -62,7 +63,7 @@ pub fn lowest(
     Ok(search::lowest(&full, &gates, run, step as usize))
 }
 
-// What `restart` answers, and with its line `lowest` and `messages`.
+// What `restart` answers, and with its line `lowest` and `messages`. (Clone and Copy alone, as `Restarted`.)
 #[derive(Clone, Copy)]
 pub struct Recovered {
     pub restarted: Restarted,

@@ -26,7 +26,8 @@ use trace::EVENT_BASE;
 use words::AREA_WORDS;
 use writer::Sink;
 
-// How many bytes of a report were written, and whether it is a refusal.
+// How many bytes of a report were written, and whether it is a refusal. (`refused` is no error enum: what may not
+// change, `report`'s clause `refused`.)
 #[derive(Clone, Copy)]
 pub struct Reported {
     pub length: usize,

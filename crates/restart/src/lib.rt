@@ -15,17 +15,19 @@ ghost use Rattle.restart.specs.Restart.{restart_of, restart_answer, restart_foun
 use columns::FULL_WORDS;
 use recovery_line::Line;
 use refusal::Refused;
+use trace::PROCESSES;
 use words::AREA_WORDS;
 
 // What a failure asks for: the engine's line, the set of the processes that go back and its size, and of each process
-// its epoch at the cut and its phase at the restart, or at the cut where it stays.
+// its epoch at the cut and its phase at the restart, or at the cut where it stays. (Clone and Copy alone: nothing
+// compares or prints its 800 bytes.)
 #[derive(Clone, Copy)]
 pub struct Restarted {
     pub line: Line,
     pub going: u64,
     pub back: u32,
-    pub epochs: [u32; 64],
-    pub phases: [u32; 64],
+    pub epochs: [u32; PROCESSES],
+    pub phases: [u32; PROCESSES],
 }
 
 // The answer for a failure that is not refused, from the full table.
@@ -34,8 +36,8 @@ pub fn restart_from(full: &[u32], cut: usize, set: u64) -> Restarted
     ensures answer { (t : Trace) → Marked t (rule_of t) full.now → cut ≤ size t → restart_found result ≡ restart_of t cut set }
     ensures means { (t : Trace) → Marked t (rule_of t) full.now → cut ≤ size t → Restarts t cut set (restart_found result) }
 {
-    let mut epochs = [0u32; 64];
-    let mut phases = [0u32; 64];
+    let mut epochs = [0; PROCESSES];
+    let mut phases = [0; PROCESSES];
     let line = greatest::greatest(full, cut, set, &mut epochs, &mut phases);
     Restarted {
         line,
@@ -51,7 +53,7 @@ pub fn restart(table: &[u32], step: u64, set: u64) -> Result<Restarted, Refused>
     ensures answer { restart_answered result ≡ restart_answer table.now step set }
     ensures means { IfOk result (λ r. Restarts (held table.now) step set (restart_found r)) }
 {
-    let mut full = [0u32; FULL_WORDS];
+    let mut full = [0; FULL_WORDS];
     preparing::open_failure(table, AREA_WORDS, step, set, &mut full)?;
     Ok(restart_from(&full, step as usize, set))
 }

@@ -31,10 +31,7 @@ fn changed(out: &[u8], from: usize) -> u64 {
 fn length_of(answer: Result<usize, Refused>) -> usize
     ensures { result ≡ (write_answered answer).length }
 {
-    match answer {
-        Ok(length) => length,
-        Err(_) => 0,
-    }
+    answer.unwrap_or(0)
 }
 
 // Writes into a buffer and prints how many bytes it has, the answer, how many of the bytes written are not the text's,

@@ -70,7 +70,8 @@ fn put_event(text: &mut [u8], place: usize, w: u32, number: u32) -> usize
     }
 }
 
-// The text of a sequence of events, and its length.
+// The text of a sequence of events, and its length. (Buffers of fixed size and a length beside, here and in `sequence`:
+// nothing here allocates.)
 pub fn put_trace(text: &mut [u8], count: u32, events: &[u32; 7], size: u32) -> usize
     requires { size ≤ 7 }
     ensures { IsPrefixLen result text.new }
