@@ -8,7 +8,7 @@ ghost use Rattle.std.specs.Option.{option_map_or};
 ghost use Rattle.refusal.specs.Refusals as refusals;
 ghost use Rattle.writer.specs.Inner.Sinks.{Takes};
 ghost use Rattle.checks.specs.Inner.Filled.{piece, takes, filled, Fills};
-ghost use Rattle.checks.specs.Inner.Rows.{Place, field_place, number_of};
+ghost use Rattle.checks.specs.Inner.Rows.{Place, field_place, number_in_row};
 
 use refusal::Refused;
 use writer::Sink;
@@ -40,9 +40,9 @@ fn field(row: &[u8], k: usize) -> usize
 }
 
 // The number that field k of a row begins with, if there is one. None is above 2^64 - 2.
-#[tactic(auto, unfolding(crate::specs::Inner::Rows::number_of))]
+#[tactic(auto, unfolding(crate::specs::Inner::Rows::number_in_row))]
 pub fn number(row: &[u8], k: usize) -> Option<u64>
-    ensures { result ≡ number_of row.now k }
+    ensures { result ≡ number_in_row row.now k }
 {
     Some(text::number(row, field(row, k), u64::MAX - 1)?.value)
 }

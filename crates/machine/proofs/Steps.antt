@@ -9,7 +9,7 @@ use lib.ListN.{get_or}
 use lib.Dec.{ltb, eqb}
 use borrow.Author.Tests.{lt-ltb, le-ltb, eq-eqb, ne_eqb}
 use Rattle.words.proofs.Cases.{by_bool}
-use Rattle.trace.specs.Inner.Kind.{number_of_kind}
+use Rattle.trace.specs.Kind.{number_of_kind}
 use Rattle.trace.specs.declared.kinds.Kind.{Kind}
 use Rattle.trace.specs.declared.kinds.Kind.TheVariants.{Done, Send, Receive, Save}
 use Rattle.machine.specs.Inner.Words.{kept_phase, current_base, low_place, no_phase, cur_w, orp_w, take_w, put_w, low_w, send_ok, event_ok, process_ok, hand_ok, allowed_w, least_with, low_of, Bounded}

@@ -22,8 +22,7 @@ use Rattle.theory.proofs.Loss.{inv_start}
 use Rattle.columns.specs.Inner.Full.{procs_w}
 use Rattle.machine.specs.Inner.Shapes.{Pointed, Ranged, Readable, Aimed, Movable, Tryable, Begun}
 use Rattle.machine.specs.Inner.Tree.{Treed}
-use Rattle.orders.specs.Answer.{answer_of, words_of}
-use Rattle.orders.specs.Inner.Answered.{answered}
+use Rattle.orders.specs.Answer.{answered, answer_of, words_of}
 
 -- ---- What the tests and the steps of a replay ask of the words, where these stand for a state
 module _ (t l g a₀ : List ℕ) (B : Begun t l g a₀) (a : List ℕ) (long : length a ≡ length a₀) (s : State) (r : Rel B.run a s) (i : Inv B.run s) where

@@ -12,8 +12,7 @@ ghost use Rattle.machine.specs.Inner.Tree.{Treed};
 ghost use Rattle.theory.specs.Order.{run};
 ghost use Rattle.orders.specs.Inner.Left.{Left};
 ghost use Rattle.columns.specs.Inner.Given.{Given};
-ghost use Rattle.orders.specs.Answer.{answer_of, words_of};
-ghost use Rattle.orders.specs.Inner.Answered.{answered};
+ghost use Rattle.orders.specs.Answer.{answered, answer_of, words_of};
 
 use links::LINK_WORDS;
 use machine::{CURRENT_BASE, LOW_PLACE, NO_PHASE, TREE_WORDS};

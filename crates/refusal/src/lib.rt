@@ -80,7 +80,7 @@ impl From<Refusal> for Refused {
 }
 
 impl From<Unfit> for Refusal {
-    ghost from_gives = { λ u r. number_of_refusal r ≡ unfit.number_of_unfit u };
+    ghost from_gives = { λ u r. number_of_refusal r ≡ unfit.number_of u };
 
     fn from(unfit: Unfit) -> Refusal {
         match unfit {

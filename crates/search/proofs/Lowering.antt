@@ -24,7 +24,7 @@ use Rattle.machine.proofs.Choices.{Agrees, refuses, allows, choice_agrees}
 use Rattle.orders.proofs.Orders.{rel_bounded, record_left}
 use Rattle.orders.specs.declared.Replayed.{Replayed}
 use Rattle.orders.specs.Answer.{answer_of, words_of}
-use Rattle.orders.specs.Inner.Answered.{answered}
+use Rattle.orders.specs.Answer.{answered}
 use Rattle.search.specs.Inner.Looking.{Going}
 use Rattle.search.specs.Inner.Lowest.{no_choice, NoneBefore, LowestDone}
 

@@ -30,7 +30,7 @@ ghost use Rattle.search.specs.Inner.Lowest.{Idle, Unready, Waiting, NoneTo, ToHa
 ghost use Rattle.search.specs.Inner.Looking.{Goes, SearchEnds, GoesOn};
 ghost use Rattle.search.specs.Inner.Opened.{Searchable, Shut, GatesOpened, ListJoined, PhasesJoined};
 ghost use Rattle.orders.specs.Answer.{answer_of, words_of};
-ghost use Rattle.orders.specs.Inner.Answered.{answered};
+ghost use Rattle.orders.specs.Answer.{answered};
 
 use links::{HEAD_WORDS, LINK_WORDS};
 use machine::{LOW_PLACE, NO_PHASE, TREE_WORDS};

@@ -12,13 +12,13 @@ use Rattle.trace.specs.declared.Event.{Event}
 use Rattle.trace.specs.declared.Event.TheVariants.{Send, Recv, Save, Done}
 use Rattle.trace.specs.Trace.{sends_in, recvs_in, saves_in, dones_in}
 use Rattle.trace.specs.Fit.{event_fault}
-use Rattle.trace.specs.Inner.Tally.{Tally, fault_by, number_of_unfit}
+use Rattle.trace.specs.Inner.Tally.{Tally, fault_by, number_of}
 use Rattle.trace.specs.declared.Unfit.{Unfit}
 use Rattle.trace.specs.declared.Unfit.TheVariants.{NoProcess, Itself, NothingInTransit, TooManySaves, NothingToFinish}
 use Rattle.words.proofs.Cases.{by_lt, by_eq}
 
 -- what is wrong has a number
-pub unfit_some : (u : Unfit) → number_of_unfit u ≡ 0 → ⊥
+pub unfit_some : (u : Unfit) → number_of u ≡ 0 → ⊥
 unfit_some NoProcess e = omega arith
 unfit_some Itself e = omega arith
 unfit_some NothingInTransit e = omega arith

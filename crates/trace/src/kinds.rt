@@ -1,6 +1,6 @@
 // The kinds of events, by the two bits of an event's word that say it.
 ghost use Rattle.std.specs.Prelude.{◌≡◌};
-ghost use Rattle.trace.specs.Inner.Kind.{number_of_kind};
+ghost use Rattle.trace.specs.Kind.{number_of_kind};
 ghost use Rattle.trace.specs.Table.{kind_in};
 
 // What an event is: the end of a checkpoint, a send, a receive or a checkpoint.

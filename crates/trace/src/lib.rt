@@ -5,7 +5,7 @@
 
 ghost use Rattle.std.specs.Prelude.{List, ℕ, ◌+◌, ◌-◌, ◌*◌, ◌/◌, ◌%◌, ◌≤◌, ◌<◌, length, get_or, set, ◌≡◌};
 ghost use Rattle.trace.specs.declared.Event.TheVariants.{Send, Recv, Save, Done};
-ghost use Rattle.trace.specs.Inner.Tally.{count_words, fault_by, fault_number, tallied, Next};
+ghost use Rattle.trace.specs.Inner.Tally.{count_words, fault_by, number_or_zero, tallied, Next};
 ghost use Rattle.trace.specs.Trace.{value_of};
 ghost use Rattle.trace.specs.Table.{word_of, top_in, kind_in, process_in, peer_in};
 
@@ -125,7 +125,7 @@ fn channel(from: u64, to: u64) -> usize
 // What is wrong with a message between two processes: one of them is none, or they are one.
 #[tactic(auto, unfolding(crate::specs::Inner::Tally::fault_by))]
 fn pair_fault(procs: u64, at: u64, peer: u64) -> Result<(), Unfit>
-    ensures { (counts : List ℕ) (val : ℕ) → fault_number result ≡ fault_by procs counts (Send at peer val) }
+    ensures { (counts : List ℕ) (val : ℕ) → number_or_zero result ≡ fault_by procs counts (Send at peer val) }
 {
     if at >= procs || peer >= procs {
         return Err(Unfit::NoProcess);
@@ -139,7 +139,7 @@ fn pair_fault(procs: u64, at: u64, peer: u64) -> Result<(), Unfit>
 // What is wrong with a receive: also that nothing is in transit.
 fn recv_fault(counts: &[u16], procs: u64, at: u64, from: u64) -> Result<(), Unfit>
     requires { (procs ≤ 64) × (length counts.now ≡ count_words) }
-    ensures { fault_number result ≡ fault_by procs counts.now (Recv at from) }
+    ensures { number_or_zero result ≡ fault_by procs counts.now (Recv at from) }
 {
     pair_fault(procs, at, from)?;
     if counts[channel(from, at)] == 0 {
@@ -152,7 +152,7 @@ fn recv_fault(counts: &[u16], procs: u64, at: u64, from: u64) -> Result<(), Unfi
 #[tactic(auto, unfolding(crate::specs::Inner::Tally::fault_by))]
 fn save_fault(counts: &[u16], procs: u64, at: u64) -> Result<(), Unfit>
     requires { (procs ≤ 64) × (length counts.now ≡ count_words) }
-    ensures { fault_number result ≡ fault_by procs counts.now (Save at) }
+    ensures { number_or_zero result ≡ fault_by procs counts.now (Save at) }
 {
     if at >= procs {
         return Err(Unfit::NoProcess);
@@ -167,7 +167,7 @@ fn save_fault(counts: &[u16], procs: u64, at: u64) -> Result<(), Unfit>
 #[tactic(auto, unfolding(crate::specs::Inner::Tally::fault_by))]
 fn done_fault(counts: &[u16], procs: u64, at: u64) -> Result<(), Unfit>
     requires { (procs ≤ 64) × (length counts.now ≡ count_words) }
-    ensures { fault_number result ≡ fault_by procs counts.now (Done at) }
+    ensures { number_or_zero result ≡ fault_by procs counts.now (Done at) }
 {
     if at >= procs {
         return Err(Unfit::NoProcess);
@@ -181,7 +181,7 @@ fn done_fault(counts: &[u16], procs: u64, at: u64) -> Result<(), Unfit>
 // What is wrong with an event after those that were counted, if anything is (proofs/Faults: `fault_counted`).
 pub fn fault(counts: &[u16], procs: u64, e: Event) -> Result<(), Unfit>
     requires { (procs ≤ 64) × (length counts.now ≡ count_words) }
-    ensures { fault_number result ≡ fault_by procs counts.now e }
+    ensures { number_or_zero result ≡ fault_by procs counts.now e }
 {
     match e {
         Event::Send { at, to, .. } => pair_fault(procs, at, to),

@@ -25,5 +25,5 @@ unfoldable pub field_place : List ℕ → ℕ → ℕ
 field_place row zero = 0
 field_place row (suc k) = row_place 32 (field_place row k) row + 1
 
-unfoldable pub number_of : List ℕ → ℕ → Option ℕ
-number_of row k = option_map (λ n. n.value) (number_at row (field_place row k) 18446744073709551614)
+unfoldable pub number_in_row : List ℕ → ℕ → Option ℕ
+number_in_row row k = option_map (λ n. n.value) (number_at row (field_place row k) 18446744073709551614)

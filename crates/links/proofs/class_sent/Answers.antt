@@ -1,6 +1,6 @@
 -- `links::class_sent` meets its contract: a case for each way out.
 use mathlib.Core.Path.{◌∙◌, ap}
-use Rattle.trace.specs.Inner.Kind.{number_of_kind}
+use Rattle.trace.specs.Kind.{number_of_kind}
 use Rattle.trace.specs.Table.{kind_in}
 use Rattle.machine.proofs.Steps.{kind_send}
 use Rattle.links.proofs.Passing.{class_send, class_none}

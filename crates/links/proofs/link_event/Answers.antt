@@ -3,7 +3,7 @@ use mathlib.Core.Path.{refl, sym, ◌∙◌, ap}
 use mathlib.Core.Bool.{true, false}
 use borrow.Author.Tests.{lt-ltb, le-ltb, eq-eqb, ne_eqb}
 use Rattle.links.proofs.Passing.{pointed_next, linked_l_lem, linked_a_lem, chain_yes, chain_no, record_yes, record_none, early_listed, early_other}
-use Rattle.trace.specs.Inner.Kind.{number_of_kind}
+use Rattle.trace.specs.Kind.{number_of_kind}
 use Rattle.machine.proofs.Steps.{kind_receive}
 use native.Mathlib.Omega.{arith}
 use Rattle.links.proofs.link_event.Goals as goal

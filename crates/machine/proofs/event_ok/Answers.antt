@@ -1,7 +1,7 @@
 -- `machine::event_ok` meets its contract: a case for each kind of event.
 use mathlib.Core.Path.{◌≡◌, ap}
 use native.Mathlib.Omega.{arith}
-use Rattle.trace.specs.Inner.Kind.{number_of_kind}
+use Rattle.trace.specs.Kind.{number_of_kind}
 use Rattle.machine.proofs.Steps.{kind_send, kind_receive, event_send, event_recv, event_other}
 use Rattle.machine.proofs.event_ok.Goals as goal
 

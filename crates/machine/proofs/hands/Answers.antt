@@ -1,6 +1,6 @@
 -- `machine::hands` meets its contract: a case for each way out.
 use mathlib.Core.Path.{ap}
-use Rattle.trace.specs.Inner.Kind.{number_of_kind}
+use Rattle.trace.specs.Kind.{number_of_kind}
 use Rattle.machine.proofs.Steps.{kind_send}
 use Rattle.machine.proofs.Remaining.{hands_other, hands_later, hands_now}
 use Rattle.machine.proofs.hands.Goals as goal

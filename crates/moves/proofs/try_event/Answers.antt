@@ -1,7 +1,7 @@
 -- `moves::try_event` meets its contract: a case for each kind of event.
 use mathlib.Core.Path.{sym, ◌∙◌, ap}
 use native.Mathlib.Omega.{arith}
-use Rattle.trace.specs.Inner.Kind.{number_of_kind}
+use Rattle.trace.specs.Kind.{number_of_kind}
 use Rattle.machine.proofs.Steps.{kind_send, kind_receive}
 use Rattle.moves.proofs.Steps.{other_yes}
 use Rattle.moves.proofs.try_event.Goals as goal

@@ -2,7 +2,7 @@
 use mathlib.Core.Path.{refl, ◌∙◌, ap}
 use Rattle.std.specs.Prelude.{Ok}
 use Rattle.orders.specs.declared.Replayed.{Replayed}
-use Rattle.orders.specs.Inner.Answered.{answered}
+use Rattle.orders.specs.Answer.{answered}
 use Rattle.orders.proofs.Ordering.{first_asked, stop_answer, stop_words, went_asked, went_answer, went_words}
 use Rattle.orders.proofs.replay_in.Goals as goal
 

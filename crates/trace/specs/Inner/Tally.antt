@@ -20,16 +20,16 @@ pub record Tally (counts : List ℕ) (es : List Event) : Type 0 where
   pub finished : (z : ℕ) → z < 64 → get_or counts (4160 + z) 0 ≡ dones_in z es
 
 -- the number of what is wrong with an event (MANUAL 2.4), and 0 where nothing is
-abbrev pub number_of_unfit : Unfit → ℕ
-number_of_unfit NoProcess = 3
-number_of_unfit Itself = 4
-number_of_unfit NothingInTransit = 5
-number_of_unfit TooManySaves = 6
-number_of_unfit NothingToFinish = 15
+abbrev pub number_of : Unfit → ℕ
+number_of NoProcess = 3
+number_of Itself = 4
+number_of NothingInTransit = 5
+number_of TooManySaves = 6
+number_of NothingToFinish = 15
 
-abbrev pub fault_number : Result Unit Unfit → ℕ
-fault_number (Ok _) = 0
-fault_number (Err unfit) = number_of_unfit unfit
+abbrev pub number_or_zero : Result Unit Unfit → ℕ
+number_or_zero (Ok _) = 0
+number_or_zero (Err unfit) = number_of unfit
 
 -- what is wrong with an event, by the counters: 3, 4, 5, 6 or 15, or 0
 unfoldable pub fault_by : ℕ → List ℕ → Event → ℕ
