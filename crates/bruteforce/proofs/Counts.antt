@@ -1,6 +1,6 @@
 -- Laws of counting: one for each way a turn of a loop goes, over the values that the code has.
 use Rattle.std.specs.Int.{from_bool}
-use Rattle.std.proofs.Common.{Bool, true, false, refl, ◌≡◌, ℕ, suc, ◌+◌, ◌-◌, ◌<◌, ◌≤◌, cond, eqb, List, get_or, set, ◌∙◌, add-one, arith, get_or-set_other, le-leb}
+use Rattle.std.proofs.Common.{Bool, true, false, refl, ◌≡◌, ℕ, suc, ◌+◌, ◌-◌, ◌<◌, ◌≤◌, cond, eqb, List, get_or, set, add-one, arith, get_or-set_other, le-leb}
 use borrow.Author.Tests.{lt-leb}
 use Rattle.bruteforce.specs.Counts.{times_of, after_from, after_of, spare, first_word}
 

@@ -1,7 +1,9 @@
-// Events, alone and as the words that an array of them has, and how often they come.
-ghost use Rattle.std.specs.Prelude.{◌≡◌, ◌+◌, ◌*◌, ◌/◌, ◌%◌, ◌<◌, ◌≤◌, IfSome};
+// Events, and how often their words come in an array of them.
+ghost use Rattle.std.specs.Prelude.{◌≡◌, ◌≤◌, IfSome};
 ghost use Rattle.bruteforce.specs.Counts.{times_of, after_of};
 ghost use Rattle.bruteforce.specs.Events.{small_word_of, small_event_of, SmallEvent};
+
+use crate::word;
 
 // In a line: the process stays as it was at the cut.
 pub const STAYS: u32 = 32;
@@ -40,9 +42,9 @@ impl Event {
         ensures value { result ≡ small_event_of w }
         ensures small { IfSome result SmallEvent }
     {
-        let at = process(w);
-        let peer = w % 4;
-        match w / 16 {
+        let at = word::process(w);
+        let peer = word::peer(w);
+        match word::kind(w) {
             0 => Some(Event::Save { at }),
             1 => Some(Event::Send { at, to: peer }),
             2 => Some(Event::Receive { at, from: peer }),
@@ -56,27 +58,12 @@ impl Event {
         ensures { result ≡ small_word_of self }
     {
         match self {
-            Event::Save { at } => packed(Kind::Save as u32, at, 0),
-            Event::Send { at, to } => packed(Kind::Send as u32, at, to),
-            Event::Receive { at, from } => packed(Kind::Receive as u32, at, from),
-            Event::Done { at } => packed(Kind::Done as u32, at, 0),
+            Event::Save { at } => word::event(Kind::Save as u32, at, 0),
+            Event::Send { at, to } => word::event(Kind::Send as u32, at, to),
+            Event::Receive { at, from } => word::event(Kind::Receive as u32, at, from),
+            Event::Done { at } => word::event(Kind::Done as u32, at, 0),
         }
     }
-}
-
-// A word, from its kind, its process and its peer.
-pub(crate) fn packed(kind: u32, at: u32, peer: u32) -> u32
-    ensures { result ≡ kind % 4 * 16 + at % 4 * 4 + peer % 4 }
-{
-    kind % 4 * 16 + at % 4 * 4 + peer % 4
-}
-
-// The process of a word, whatever its kind.
-pub(crate) fn process(w: u32) -> u32
-    ensures value { result ≡ w / 4 % 4 }
-    ensures upper_bound { result < 4 }
-{
-    w / 4 % 4
 }
 
 // How many of the first `upto` events are this one.

@@ -7,6 +7,7 @@
 
 mod events;
 mod rules;
+pub mod word;
 
 pub use events::{Event, Failure, Kind, STAYS};
 pub use rules::{Fault, Refusal, epoch_by, loses, phases_at, record, steps, verdict};

@@ -2,7 +2,8 @@
 ghost use Rattle.std.specs.Prelude.{◌≡◌, ◌+◌, ◌*◌, ◌%◌, ◌<◌, ◌≤◌, false, IfSome};
 ghost use Rattle.bruteforce.specs.Counts.{SmallRun, times_of, spare, first_word};
 
-use crate::events::{Event, Failure, Kind, STAYS, after, packed, process, times};
+use crate::events::{Event, Failure, Kind, STAYS, after, times};
+use crate::word;
 
 // Where the run area has the values of the messages received.
 const VALUES: usize = 2049;
@@ -15,7 +16,7 @@ pub fn epoch_by(kind: u32, events: &[u32; 7], e: u32, z: u32) -> u32
     ensures value { result ≡ 1 + times_of events.now (kind % 4 * 16 + z * 4) e }
     ensures upper_bound { result ≤ 8 }
 {
-    1 + times(events, e, packed(kind, z, 0))
+    1 + times(events, e, word::event(kind, z, 0))
 }
 
 // The event that sent what process `at` receives from another in event e: channels are first-in first-out, so that the
@@ -157,7 +158,7 @@ pub fn steps(f: Failure, line: &[u32; 4]) -> u32
     let mut n = 0;
     for i in 0..f.size {
         let w = f.events[i as usize];
-        if i + 1 > restart(f, line, process(w)) {
+        if i + 1 > restart(f, line, word::process(w)) {
             n += 1;
         }
         if keeps_at(f, line, i + 1, w) {
@@ -173,7 +174,7 @@ fn phase(events: &[u32; 7], phases: &[u32; 7], e: u32, z: u32) -> u32
 {
     let mut p = 1;
     for i in 0..e as usize {
-        if process(events[i]) == z {
+        if word::process(events[i]) == z {
             p = phases[i];
         }
     }
@@ -186,7 +187,7 @@ fn phase(events: &[u32; 7], phases: &[u32; 7], e: u32, z: u32) -> u32
 fn next_phase(events: &[u32; 7], phases: &[u32; 7], e: u32, w: u32) -> u32
     requires { (1 ≤ e) × (e ≤ 7) }
 {
-    let own = phase(events, phases, e - 1, process(w));
+    let own = phase(events, phases, e - 1, word::process(w));
     match Event::of(w) {
         Some(Event::Save { .. }) => own.wrapping_add(1),
         Some(Event::Receive { at, from }) => {

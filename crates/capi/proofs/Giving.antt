@@ -27,11 +27,18 @@ use Rattle.restart.specs.Restart.{RestartAnswer, engine_line_of, restart_of, res
 use Rattle.messages.specs.declared.Counted.{Counted}
 use Rattle.messages.specs.Messages.{MessagesAnswer, messages_answered}
 use Rattle.messages.specs.Meaning.{Lists}
+use Rattle.writer.specs.declared.Sink.{Sink}
+use Rattle.writer.specs.Inner.Puts.{Puts}
+use Rattle.writer.specs.Inner.Sinks.{Takes}
 use Rattle.writer.specs.Buffer.{room, written}
 use Rattle.capi.specs.Answers.{restart_numbers, messages_numbers, replay_numbers, lowest_answer, ExactIn, LowestExactIn, AtMostIn, CarriesOutIn, CompletedIn, restart_given, RestartsIn, ListsIn, LowestEqualIn, EqualIn}
 
 pub answer_is : (vs ws before after : List ℕ) → vs ≡ ws → after ≡ written vs before → after ≡ written ws before
 answer_is vs ws before after e h = rw e at h
+
+-- what was put into a sink is other numbers, put there too
+pub takes_as : {vs ws : List ℕ} {a b : Sink ℕ} → Takes vs a b → Puts ws a.out.now a.next b.out.now b.next → Takes ws a b
+takes_as t p = record { puts = p; same = t.same }
 
 -- ---- What is promised of a value, of the answer in numbers
 

@@ -104,7 +104,7 @@ fn put_failure(answer: &mut [u64], outcome: Result<Failure, Refused>) -> u32
             put_numbers(answer, &[0, failure.step, failure.set]);
             0
         }
-        Err(refused) => put_refused(answer, refused, &[0, 0]),
+        Err(refused) => put_refused(answer, refused, &[0, 0]), // a failure: its step and its set
     }
 }
 

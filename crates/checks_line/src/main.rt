@@ -48,7 +48,9 @@ impl Trace {
     }
 
     // The first cut that is looked at: the cuts before the last are those of shorter traces.
-    fn first_cut(&self) -> u32 {
+    fn first_cut(&self) -> u32
+        ensures { result ≤ self.now.size }
+    {
         if self.is_long() { self.size } else { 0 }
     }
 

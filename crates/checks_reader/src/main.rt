@@ -15,7 +15,12 @@ const BEFORE: u32 = 7;
 
 // How many words of an area, from a place to another, are not v.
 fn others(area: &[u32], from: usize, to: usize, v: u32) -> u64 {
-    area.iter().take(to).skip(from).filter(|w| **w != v).count() as u64
+    let end = to.min(area.len());
+    let mut count = 0;
+    for w in &area[from.min(end)..end] {
+        count += u64::from(*w != v);
+    }
+    count
 }
 
 fn print_answer(name: &[u8], answer: Result<(), Refused>) {

@@ -1,6 +1,6 @@
 -- What `messages` answers and leaves, by its definitions: the promises of its contract.
 use Prim.Native.Nat.{ℕ, ◌+◌, ◌≤◌}
-use mathlib.Core.Path.{◌≡◌, refl, sym, ap, subst, ◌∙◌}
+use mathlib.Core.Path.{◌≡◌, refl, sym, subst, ◌∙◌}
 use mathlib.Core.List.{List, ◌++◌}
 use native.Mathlib.Omega.{arith}
 use lib.ListN.{length, drop}
@@ -18,9 +18,8 @@ use Rattle.recovery_line.specs.declared.Line.{Line}
 use Rattle.recovery_line.specs.Given.{line_in}
 use Rattle.listing.specs.Listing.{list_word}
 use Rattle.preparing.specs.Faults.{run_of, line_fault_of}
-use Rattle.messages.specs.Messages.{MessagesAnswer, counts_of, messages_refusal, messages_answer, messages_area}
-use Rattle.messages.specs.Meaning.{Lists}
-use Rattle.messages.proofs.Listing.{lists}
+use Rattle.messages.specs.Messages.{counts_of, messages_refusal, messages_answer, messages_area}
+use Rattle.messages.proofs.Listing.{Listed, refuses_messages, lists}
 use Rattle.demands.proofs.Numbers.{left_iff, line_accepts, messages_number}
 use Rattle.demands.proofs.Few.{messages_few}
 
@@ -47,14 +46,8 @@ module _ (a area : List ℕ) (step set : ℕ) (l : Line) where
   unfolding messages_area
   area_unfit z = rw (ne_eqb fault 0 z)
 
-  -- what the contract of `messages` promises of an answer and of the words that are left
-  abbrev pub Listed : MessagesAnswer → List ℕ → Type 0
-  Listed r w =
-      (r ≡ messages_answer a area step set l)
-      × ((w ≡ messages_area a area step set l) × ((r.orphans + (r.kept + r.lost) ≤ 2048) × (r.number ≡ 0 → Lists R r.orphans r.kept r.lost w)))
-
-  -- .. of the definitions, and for every input
-  pub messages_promised : Listed (messages_answer a area step set l) (messages_area a area step set l)
+  -- what the contract of `messages` promises, of the definitions and for every input
+  pub messages_promised : Listed a area step set l (messages_answer a area step set l) (messages_area a area step set l)
   messages_promised = by_eq fault 0
       (λ z.
       let F = (line_accepts a (length area) step set l).0 z in
@@ -62,9 +55,10 @@ module _ (a area : List ℕ) (step set : ℕ) (l : Line) where
       let L : Laws R = laws (held a) (rule_of (held a)) (held_valid a h) step (line_in l) F.1.failure.step_most in
       let few : length (orphans R) + (length (kept_ones R) + length (lost_ones R)) ≤ 2048 = omega (arith, messages_few R L, held_few a h) in
       let room : (messages_answer a area step set l).orphans + ((messages_answer a area step set l).kept + (messages_answer a area step set l).lost) ≤ 2048 = rw (counts_fit z) few in
-      let (answer, (words, means)) = lists a area step set l L (messages_answer a area step set l) (words_from (list_word R) 0 area_words) (sym z) (counts_fit z) refl room in
-      subst (Listed (messages_answer a area step set l)) (sym (area_fit z)) (answer, (words, (room, λ _. means))))
-      (λ z. (refl, (refl, (rw (counts_unfit z) (omega arith), λ h. absurd (z (sym (ap (λ (r : MessagesAnswer). r.number) (counts_unfit z)) ∙ h))))))
+      subst (Listed a area step set l (messages_answer a area step set l)) (sym (area_fit z))
+      (lists a area step set l L (messages_answer a area step set l) (words_from (list_word R) 0 area_words) (sym z) (counts_fit z) refl room))
+      (λ z. subst (Listed a area step set l (messages_answer a area step set l)) (sym (area_unfit z))
+      (refuses_messages a area step set l fault (messages_answer a area step set l) refl z (counts_unfit z)))
 
   pub counts_are : (messages_answer a area step set l).number ≡ 0 → messages_answer a area step set l ≡ counts_of R
   counts_are h = counts_fit (sym (messages_number a area step set l) ∙ h)

@@ -7,26 +7,15 @@ use native.Mathlib.Omega.{arith}
 use lib.Dec.{ltb}
 use lib.ListN.{length, drop, length-drop, drop_of_length-le}
 use lib.Seq.{drop-drop, drop-append_seam}
-use borrow.Author.Tests.{ltb-true, eq-eqb}
+use borrow.Author.Tests.{ltb-true}
 use Rattle.words.proofs.Cases.{and_left, and_right}
 use Rattle.text.specs.Bytes.{bytes_of}
 use Rattle.text.specs.Key.{starts_with}
 use Rattle.text.specs.Inner.Blocks.{packed}
 use Rattle.text.specs.Inner.Standing.{Stands}
 use Rattle.text.proofs.Keys.{key_split}
-use Rattle.text.proofs.Blocks.{Bytes, bytes_from}
+use Rattle.text.proofs.Blocks.{Bytes, bytes_from, starts_packed}
 use Rattle.text.proofs.Standing.{stands_then}
-
--- lists that begin with the same number of k bytes agree there
-starts_packed : (k : ℕ) (l m : List ℕ) → k ≤ length l → k ≤ length m → Bytes l → Bytes m
-    → packed k l ≡ packed k m → starts_with l m ≡ starts_with (drop k l) (drop k m)
-unfolding packed starts_with
-starts_packed zero l m h g p q e = refl
-starts_packed (suc k) [] m h g p q e = absurd (let z : ⊥ = omega arith in z)
-starts_packed (suc k) (b ∷ l) [] h g p q e = absurd (let z : ⊥ = omega arith in z)
-starts_packed (suc k) (b ∷ l) (c ∷ m) h g p q e =
-    let same : b ≡ c = omega (arith, p 0, q 0, e) in
-    rw (eq-eqb b c same) (starts_packed k l m (omega arith) (omega arith) (λ i. p (suc i)) (λ i. q (suc i)) (omega (arith, p 0, q 0, e)))
 
 -- seen by computation of a key: its words are bytes
 unfoldable pub all_bytes : List ℕ → Bool

@@ -1,10 +1,9 @@
 -- The list of the messages, from a full table and gates to the run area.
 use Prim.Native.Nat.{ℕ, ◌+◌, ◌<◌, ◌≤◌}
-use mathlib.Core.Path.{◌≡◌, refl, ap, ◌∙◌}
+use mathlib.Core.Path.{◌≡◌, refl, sym, ap, ◌∙◌}
+use mathlib.Core.Logic.{◌↔◌}
 use mathlib.Core.List.{List, ◌++◌}
 use native.Mathlib.Omega.{arith}
-use mathlib.Core.Bool.{false}
-use lib.Dec.{eqb}
 use lib.ListN.{length, get_or, take, drop, replicate, get_or-append}
 use lib.Seq.{length-take-le}
 use borrow.Author.Tests.{ne_eqb}
@@ -17,12 +16,14 @@ use Rattle.listing.specs.Listing.{list_word}
 use Rattle.listing.proofs.Whole.{rows_few}
 use Rattle.recovery_line.specs.declared.Line.{Line}
 use Rattle.columns.specs.Inner.Given.{Given}
-use Rattle.refusal.specs.declared.Refusal.{Refusal}
-use Rattle.refusal.specs.Refusals.{number_of_refusal}
+use Rattle.std.specs.Prelude.{Result, Ok, Err}
+use Rattle.refusal.specs.declared.Refused.{Refused}
 use Rattle.refusal.proofs.Refusals.{no_number_0}
 use Rattle.preparing.specs.Faults.{run_of, line_fault_of}
-use Rattle.messages.specs.Messages.{counts_of, MessagesAnswer, messages_refusal, messages_answer, messages_area}
+use Rattle.messages.specs.declared.Counted.{Counted}
+use Rattle.messages.specs.Messages.{counts_of, MessagesAnswer, messages_refusal, messages_answer, messages_area, messages_answered}
 use Rattle.messages.specs.Meaning.{Lists}
+use Rattle.messages.specs.Inner.Promise.{MessagesPromise}
 use Rattle.messages.proofs.Meaning.{lists_mean}
 
 -- ---- Words that are cleared
@@ -47,13 +48,28 @@ module _ (R : Run) (cut : ℕ) (full gates : List ℕ) (G : Given R cut full gat
   few_counted = rw (word_is 0 (omega arith), word_is 1 (omega arith), word_is 2 (omega arith)) (rows_few R cut full gates G)
 
 module _ (a area : List ℕ) (step set : ℕ) (l : Line) where
+  -- what the contract promises, of the answer that a result stands for
+  abbrev pub Listed : MessagesAnswer → List ℕ → Type 0
+  Listed r w =
+      (r ≡ messages_answer a area step set l)
+      × ((w ≡ messages_area a area step set l)
+      × ((r.orphans + (r.kept + r.lost) ≤ 2048) × (r.number ≡ 0 → Lists (run_of a step l) r.orphans r.kept r.lost w)))
+
+  pub listed : (x : Result Counted Refused) (w : List ℕ) → MessagesPromise a area step set l x w ↔ Listed (messages_answered x) w
+  listed (Ok c) w = (
+    λ p. (p.answer, (p.words, (omega (arith, p.few), λ _. p.means))),
+    λ q. record { answer = q.0; words = q.1.0; few = omega (arith, q.1.1.0); means = q.1.1.1 refl },
+  )
+  listed (Err e) w = (
+    λ p. (p.answer, (p.words, (omega arith, λ h. absurd (no_number_0 e.refusal h)))),
+    λ q. record { answer = q.0; words = q.1.0; few = tt; means = tt },
+  )
+
   -- a refusal leaves the area as it was
-  pub refuses_messages : (e : Refusal) → number_of_refusal e ≡ line_fault_of a (length area) step set l
-      → (messages_refusal (number_of_refusal e) ≡ messages_answer a area step set l) × (area ≡ messages_area a area step set l)
+  pub refuses_messages : (n : ℕ) (r : MessagesAnswer) → n ≡ line_fault_of a (length area) step set l → (n ≡ 0 → ⊥) → r ≡ messages_refusal n → Listed r area
   unfolding messages_answer messages_area
-  refuses_messages e f =
-      let z : eqb (number_of_refusal e) 0 ≡ false = ne_eqb (number_of_refusal e) 0 (no_number_0 e) in
-      (rw (← f, z), rw (← f, z))
+  refuses_messages n r f z e =
+      (e ∙ rw (← f, ne_eqb n 0 z), (rw (← f, ne_eqb n 0 z), (rw e (omega arith), λ h. absurd (z (sym (ap (λ (x : MessagesAnswer). x.number) e) ∙ h)))))
 
   -- the words of the list, in the area
   listed_front : (w : List ℕ) → w ≡ words_from (list_word (run_of a step l)) 0 area_words
@@ -64,14 +80,12 @@ module _ (a area : List ℕ) (step set : ℕ) (l : Line) where
       ∙ words_at_lem g 16384 k h
 
   pub lists : Laws (run_of a step l) → (r : MessagesAnswer) (w : List ℕ) → 0 ≡ line_fault_of a (length area) step set l → r ≡ counts_of (run_of a step l)
-      → w ≡ words_from (list_word (run_of a step l)) 0 area_words → r.orphans + (r.kept + r.lost) ≤ 2048
-      → (r ≡ messages_answer a area step set l)
-      × ((w ++ drop area_words area ≡ messages_area a area step set l) × Lists (run_of a step l) r.orphans r.kept r.lost (w ++ drop area_words area))
+      → w ≡ words_from (list_word (run_of a step l)) 0 area_words → r.orphans + (r.kept + r.lost) ≤ 2048 → Listed r (w ++ drop area_words area)
   unfolding messages_answer messages_area
   lists L r w f e q few =
       let R = run_of a step l in
       let room : length (orphans R) + (length (kept_ones R) + length (lost_ones R)) ≤ 2048 = rw e at few in
-      (e ∙ rw (← f), (ap (λ (x : List ℕ). x ++ drop 16384 area) q ∙ rw (← f), rw e (lists_mean R L (w ++ drop 16384 area) (listed_front w q) room)))
+      (e ∙ rw (← f), (ap (λ (x : List ℕ). x ++ drop 16384 area) q ∙ rw (← f), (few, λ _. rw e (lists_mean R L (w ++ drop 16384 area) (listed_front w q) room))))
 
   -- what `messages` answers and leaves where nothing is wrong
   module _ (ok : line_fault_of a (length area) step set l ≡ 0) where

@@ -58,6 +58,6 @@ pub fn messages(
     let mut gates = [0; GATE_WORDS];
     preparing::prepare(table, area.len(), step, set, line, &mut full, &mut gates)?;
     let list = &mut area[..AREA_WORDS];
-    list.fill(0);
+    words::zero(list);
     Ok(list_from(&full, &gates, step as usize, list))
 }

@@ -53,7 +53,7 @@ module _ (R : Run) (t l g a₀ : List ℕ) (S : Started R t l g a₀) where
       → r ≡ allowed_w t g a c → r ≡ false → Left R b (length ns) w (Err (record { place = i + 1 }))
   unfolding Left
   run_bad a b i ns w c r v h ec er f =
-      subst (λ x. Left R b (length ns) x (Err (record { place = i + 1 }))) (sym (live_bad R S.laws t l g S.cols a i ns w v h (rw (← ec) (sym er ∙ f)))) refl
+      subst (λ x. Left R b (length ns) x (Err (record { place = i + 1 }))) (sym (live_bad R S.laws t l g S.cols a i ns w v h (rw (← ec) (sym er ∙ f)))) (refl, omega arith, omega arith)
 
   pub run_next : (a b : List ℕ) (i : ℕ) (ns : List ℕ) (w : Outcome) (c : ℕ) (r : Bool) → Live R a i ns w → i < length ns → c ≡ get_or ns i 0
       → r ≡ allowed_w t g a c → r ≡ true → b ≡ apply_w t l a c → Live R b (i + 1) ns w
@@ -70,7 +70,7 @@ module _ (R : Run) (t l g a₀ : List ℕ) (S : Started R t l g a₀) where
   pub stop_answer : (a : List ℕ) (w : Outcome) (e : NotAllowed) (n : ℕ) → Left R a n w (Err e) → answered (Err e) ≡ answer_of R w n
   unfolding Left answer_of
   stop_answer a (carried_out s) e n v = absurd v
-  stop_answer a (refused i) e n v = rw v
+  stop_answer a (refused i) e n v = rw v.0
 
   pub stop_words : (a b : List ℕ) (w : Outcome) (e : NotAllowed) (n : ℕ) → Left R a n w (Err e) → length a ≡ area_words → b ≡ replicate (length a) 0 → b ≡ words_of R w
   unfolding Left words_of

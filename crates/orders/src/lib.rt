@@ -85,7 +85,7 @@ fn replay_in(
             Ok(finish(area, steps, complete))
         }
         Err(refused) => {
-            area.fill(0);
+            words::zero(area);
             Err(refused)
         }
     }
@@ -104,7 +104,7 @@ pub fn replay(
     ensures words { (R : Run) → Given R cut full.now gates.now → area.new ≡ words_of R (run R order.now) }
 {
     let mut links = [0u16; LINK_WORDS];
-    area.fill(0);
+    words::zero(area);
     links::begin(full, gates, &mut links, area, cut);
     replay_in(full, &links, gates, order, area)
 }

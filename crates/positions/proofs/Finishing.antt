@@ -42,7 +42,7 @@ finished_most t full G x f F l z lz = omega (arith, F.counts t G l z lz, cnt_bou
 
 module _ (full : List ℕ) (x : ℕ) (f : List ℕ) (F : FinishedEpochs full x f) (k : ℕ) (ek : k ≡ kind_w full (x + 1)) where
   -- an event that finishes no checkpoint
-  next_unfinished : (k ≡ 0 → ⊥) → FinishedEpochs full (x + 1) f
+  pub next_unfinished : (k ≡ 0 → ⊥) → FinishedEpochs full (x + 1) f
   next_unfinished n = record {
     counts = λ t G l z lz.
         let no : eqb (kind_w full (x + 1)) 0 ≡ false = ne_eqb (kind_w full (x + 1)) 0 (λ q. n (ek ∙ q)) in
@@ -51,7 +51,7 @@ module _ (full : List ℕ) (x : ℕ) (f : List ℕ) (F : FinishedEpochs full x f
   }
 
   -- one that finishes a checkpoint of y
-  next_finished : k ≡ 0 → (y : ℕ) → y ≡ at_w full (x + 1) → length f ≡ 64 → FinishedEpochs full (x + 1) (set f y (get_or f y 0 + 1))
+  pub next_finished : k ≡ 0 → (y : ℕ) → y ≡ at_w full (x + 1) → length f ≡ 64 → FinishedEpochs full (x + 1) (set f y (get_or f y 0 + 1))
   next_finished e y ey len = record {
     counts = λ t G l z lz.
         let yes : eqb (kind_w full (x + 1)) 0 ≡ true = eq-eqb (kind_w full (x + 1)) 0 (sym ek ∙ e) in

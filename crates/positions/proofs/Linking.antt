@@ -21,7 +21,7 @@ linked_none t earlier latest a b h = record {
   };
 }
 
-linked_next : (t earlier latest : List ℕ) (x z : ℕ) → x < 2048 → z ≡ at_w t (x + 1) → Linked t x earlier latest
+pub linked_next : (t earlier latest : List ℕ) (x z : ℕ) → x < 2048 → z ≡ at_w t (x + 1) → Linked t x earlier latest
     → Linked t (x + 1) (set earlier (x + 1) (get_or latest z 0)) (set latest z (x + 1))
 linked_next t earlier latest x z few ez L = record {
   long = simp length-set L.long;

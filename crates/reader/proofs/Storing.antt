@@ -6,18 +6,18 @@ use mathlib.Core.List.{List, [], ◌∷◌}
 use native.Mathlib.Omega.{arith}
 use mathlib.Core.Bool.{Bool, true, false, cond}
 use lib.Dec.{eqb, leb}
-use lib.ListN.{length, get_or, set, length-set, length-append, replicate, length-replicate, get_or-replicate}
-use lib.Seq.{get_or-set_same, get_or-set_other}
+use lib.ListN.{length, get_or, set, take, length-set, length-append, replicate, length-replicate, get_or-replicate}
+use lib.Seq.{get_or-set_same, get_or-set_other, length-take-le, take_all}
 use borrow.Author.Tests.{ne_eqb, le-leb, lt-leb}
 use Rattle.words.specs.Area.{area_words}
-use Rattle.words.proofs.Cases.{by_eq, by_lt}
+use Rattle.words.proofs.Cases.{by_eq, by_lt, clash}
 use Rattle.words.proofs.Halves.{each_half}
 use Rattle.words.proofs.Lists.{last_mapped, other_mapped}
 use Rattle.trace.specs.declared.Event.{Event}
 use Rattle.trace.specs.Trace.{Trace, started, extended}
 use Rattle.trace.specs.Table.{word_of, value_word, table_word}
 use Rattle.trace.proofs.Places as places
-use Rattle.reader.specs.Inner.Reading.{Holds, appended}
+use Rattle.reader.specs.Inner.Reading.{Lent, Holds, appended}
 
 module _ (t : Trace) (e : Event) where
   -- the words that an event changes, and the others
@@ -108,6 +108,16 @@ none_holds procs table z =
           (λ n. get_or-set_other table 0 k procs 0 n ∙ ap (λ (w : List ℕ). get_or w k 0) z ∙ get_or-replicate {A = ℕ} 16384 k 0 0 lk ∙ sym (none_word procs k n));
     }
 
--- an area that is zero has 16,384 words
+-- 16,384 words that are lent on: such as they are, or those of an area that is zero
+pub lent_any : (a : List ℕ) → length a ≡ area_words → Lent a false
+lent_any a l = record { size = l; zero = λ e. clash e refl }
+
 pub clear_size : (a : List ℕ) → a ≡ replicate area_words 0 → length a ≡ area_words
 clear_size a z = ap length z ∙ length-replicate {A = ℕ} area_words 0
+
+pub lent_clear : (a : List ℕ) → a ≡ replicate area_words 0 → Lent (take area_words a) true
+lent_clear a z =
+    let l = clear_size a z in
+    let all : take area_words a ≡ a = take_all area_words a (omega arith) in
+    let same : length (take area_words a) ≡ area_words = length-take-le area_words a (omega arith) in
+    record { size = same; zero = λ e. all ∙ z ∙ ap (λ (n : ℕ). replicate n 0) (sym same) }

@@ -5,7 +5,7 @@
 // Assumes nothing.
 #![tactic(auto)]
 
-ghost use Rattle.std.specs.Prelude.{◌≡◌, ◌≤◌, ◌<◌, length, drop, replicate, OnErr};
+ghost use Rattle.std.specs.Prelude.{◌≡◌, ◌≤◌, ◌<◌, length, drop, replicate, Err, OnErr};
 ghost use Rattle.lines.specs.Line.{line_said};
 ghost use Rattle.reader.specs.Answer.{verdict_answer, verdict_word, read_answered, read_answer, read_area};
 ghost use Rattle.reader.specs.Failure.{trace_of, last_failure, failure_answer_of, failure_answered, failure_answer, failure_area};
@@ -14,7 +14,7 @@ ghost use Rattle.words.specs.Area.{area_words, words_from};
 ghost use Rattle.trace.specs.Trace.{Trace, started};
 ghost use Rattle.trace.specs.Inner.Tally.{count_words};
 ghost use Rattle.reader.specs.Verdict.{judge_event, judge, lines_from, pieces, scan, verdict};
-ghost use Rattle.reader.specs.Inner.Reading.{count_only, judged, Tallied, Opened, appended, FirstRead, scanned, ScanOutcome};
+ghost use Rattle.reader.specs.Inner.Reading.{Lent, count_only, judged, Tallied, Opened, appended, FirstRead, scanned, ScanOutcome};
 
 use lines::Line;
 use refusal::{Refusal, Refused};
@@ -144,37 +144,55 @@ fn read_events(
     Ok(Scanned::Ended(n + 2))
 }
 
-// The lines of a text, into 16,384 words that are zero; a refusal leaves zeros. (What is wrong with the first line is
-// seen before anything is stored.)
-fn scan(text: &[u8], table: &mut [u32]) -> Result<Scanned, Refused>
-    requires { table.old ≡ replicate area_words 0 }
+// A refusal leaves zeros.
+fn refuse<T>(table: &mut [u32], refused: Refused) -> Result<T, Refused>
+    ensures answer { result ≡ Err refused }
+    ensures words { table.new ≡ replicate (length table.old) 0 }
+{
+    words::zero(table);
+    Err(refused)
+}
+
+// Leaves zeros in 16,384 words, which may be `clear`, that is zero already.
+fn clear_words(table: &mut [u32], clear: bool)
+    requires { Lent table.old clear }
+    ensures { table.new ≡ replicate (length table.old) 0 }
+{
+    if !clear {
+        words::zero(table);
+    }
+}
+
+// The lines of a text, into 16,384 words; a refusal leaves zeros. (What is wrong with the first line is seen before
+// anything is stored. The words are cleared here and not by callers, in a function that has the stack of the counters
+// already: without enough of it nothing is written.)
+fn scan(text: &[u8], table: &mut [u32], clear: bool) -> Result<Scanned, Refused>
+    requires { Lent table.old clear }
     ensures outcome { ScanOutcome text.now (scan text.now) (scanned result) table.new }
     ensures zeros { OnErr result (table.new ≡ replicate area_words 0) }
 {
-    let (procs, next) = process_count(text)?;
+    let (procs, next) = match process_count(text) {
+        Ok(first) => first,
+        Err(refused) => return refuse(table, refused),
+    };
+    clear_words(table, clear);
     table[0] = procs as u32;
     let mut counts = [0; trace::COUNTS];
     match read_events(text, next, procs, table, &mut counts) {
         Ok(scanned) => Ok(scanned),
-        Err(refused) => {
-            table.fill(0);
-            Err(refused)
-        }
+        Err(refused) => refuse(table, refused),
     }
 }
 
-// Reads a text into 16,384 words that are zero.
+// Reads a text into 16,384 words.
 fn read_in(text: &[u8], table: &mut [u32]) -> Result<(), Refused>
-    requires { table.old ≡ replicate area_words 0 }
+    requires { length table.old ≡ area_words }
     ensures answer { read_answered result ≡ verdict_answer (verdict text.now) }
     ensures words { table.new ≡ words_from (verdict_word (verdict text.now)) 0 area_words }
 {
-    match scan(text, table)? {
+    match scan(text, table, false)? {
         Scanned::Ended(_) => Ok(()),
-        Scanned::Failure(_, line, _) => {
-            table.fill(0);
-            Err(Refusal::Malformed.at(line))
-        }
+        Scanned::Failure(_, line, _) => refuse(table, Refusal::Malformed.at(line)),
     }
 }
 
@@ -188,26 +206,20 @@ pub fn read(text: &[u8], table: &mut [u32]) -> Result<(), Refused>
     if table.len() < AREA_WORDS {
         return Err(Refusal::ShortArea.at(0));
     }
-    let words = &mut table[..AREA_WORDS];
-    words.fill(0);
-    read_in(text, words)
+    read_in(text, &mut table[..AREA_WORDS])
 }
 
-// Reads a text that ends with a failure line into 16,384 words that are zero.
-fn read_failure_in(text: &[u8], table: &mut [u32]) -> Result<Failure, Refused>
-    requires { table.old ≡ replicate area_words 0 }
+// Reads a text that ends with a failure line into 16,384 words, which may be `clear`.
+fn read_failure_in(text: &[u8], table: &mut [u32], clear: bool) -> Result<Failure, Refused>
+    requires { Lent table.old clear }
     ensures answer { failure_answered result ≡ failure_answer_of (last_failure text.now) }
     ensures words { table.new ≡ words_from (verdict_word (trace_of (last_failure text.now))) 0 area_words }
 {
-    match scan(text, table)? {
-        Scanned::Ended(line) => {
-            table.fill(0);
-            Err(Refusal::Malformed.at(line))
-        }
+    match scan(text, table, clear)? {
+        Scanned::Ended(line) => refuse(table, Refusal::Malformed.at(line)),
         Scanned::Failure(failure, line, next) => {
             if next < text.len() {
-                table.fill(0);
-                return Err(Refusal::Malformed.at(line + 1));
+                return refuse(table, Refusal::Malformed.at(line + 1));
             }
             Ok(failure)
         }
@@ -226,9 +238,7 @@ pub fn read_failure(text: &[u8], table: &mut [u32]) -> Result<Failure, Refused>
     if AREA_WORDS > table.len() {
         return Err(Refusal::ShortArea.at(0));
     }
-    let area = &mut table[..AREA_WORDS];
-    area.fill(0);
-    read_failure_in(text, area)
+    read_failure_in(text, &mut table[..AREA_WORDS], false)
 }
 
 // The same, for crates above this one, into an area of their own that is zero: it is not cleared before.
@@ -240,5 +250,5 @@ pub fn read_failure_clear(text: &[u8], table: &mut [u32]) -> Result<Failure, Ref
     ensures told { FailureTold text.now (failure_answered result) }
     ensures refuses { FailureRefuses text.now (length table.old) (failure_answered result) }
 {
-    read_failure_in(text, &mut table[..AREA_WORDS])
+    read_failure_in(text, &mut table[..AREA_WORDS], true)
 }

@@ -54,12 +54,12 @@ module _ (a : List ℕ) (step set : ℕ) where
   refuses_recovery e f =
       let l : Line = (recover_answered (Err (at_no_place e))).restarted.line in
       let g = failure_first a (length a) step set l (number_of_refusal e) (f ∙ own_room) (no_number_0 e) in
-      let y = refuses_messages a a step set l e g in
+      let y = refuses_messages a a step set l (number_of_refusal e) _ g (no_number_0 e) refl in
       record {
-        restart = refuses_restart a step set e f;
+        restart = (refuses_restart a step set (number_of_refusal e) _ f (no_number_0 e) refl).0;
         replay = (refuses a a step set l (lowest_order (run_of a step l)) (number_of_refusal e) g (no_number_0 e)).answer;
         messages = y.0;
-        words = y.1;
+        words = y.1.0;
         means = λ h. absurd (no_number_0 e h);
         lists = λ h. absurd (no_number_0 e h);
       }
@@ -78,10 +78,10 @@ module _ (a : List ℕ) (step set : ℕ) where
       let (e, b) = steps_counted a a step set l (lowest_order R) F.opened.holds cl (run R (lowest_order R)) refl in
       let exact : r.replayed.steps ≡ exact_steps R = (rw (← D.replayed) at e) (c ok).0 (c ok).1 D.restarts.greatest.loss_free in
       record {
-        restart = answers_restart a step set r.restarted f D.restarted;
+        restart = (answers_restart a step set r.restarted f D.restarted D.restarts).0;
         replay = D.replayed ∙ rw ok;
         messages = m.0;
         words = m.1.0;
         means = λ _. record { restarts = D.restarts; taken = ok; completed = c; exact = exact; at_most = rw D.replayed b; few = D.few };
-        lists = λ _. m.1.1;
+        lists = m.1.1.1;
       }

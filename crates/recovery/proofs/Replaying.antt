@@ -49,8 +49,8 @@ module _ (a area : List ℕ) (step set : ℕ) (l : Line) (order : List ℕ) wher
         same_lists = λ h c. absurd (z h);
       }
 
-  pub not_completed : (n : ℕ) → n ≡ line_fault_of a (length area) step set l → (n ≡ 0 → ⊥) → Completed a (length area) step set l (refusal n)
-  not_completed n f z h = absurd (z (f ∙ h))
+  pub not_completed : (n : ℕ) (r : Answered) → n ≡ line_fault_of a (length area) step set l → (n ≡ 0 → ⊥) → Completed a (length area) step set l r
+  not_completed n r f z h = absurd (z (f ∙ h))
 
   module _ (holds : holds_trace a ≡ true) (cl : step ≤ size (held a)) where
     abbrev R : Run

@@ -82,7 +82,7 @@ fn recover_from(full: &[u32], cut: usize, set: u64, area: &mut [u32]) -> Recover
     let mut gates = [0u32; GATE_WORDS];
     preparing::gates_of(full, restarted.line, cut, &mut gates);
     let listed = steps::listed_events(full, &gates);
-    area[..TRACE_WORDS].fill(0);
+    words::zero(&mut area[..TRACE_WORDS]);
     let counted = messages::list_from(full, &gates, cut, area);
     Recovered {
         restarted,

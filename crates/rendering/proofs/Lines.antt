@@ -3,19 +3,26 @@ use Prim.Native.Nat.{ℕ, zero, suc, ◌+◌}
 use mathlib.Core.Path.{◌≡◌, refl, sym, ap, ◌∙◌}
 use mathlib.Core.List.{List, [], ◌∷◌, ◌++◌, append_assoc}
 use native.Mathlib.Omega.{arith}
+use Rattle.text.specs.Number.{decimal}
 use Rattle.trace.specs.declared.Event.{Event}
 use Rattle.lines.specs.Render.{render_event}
 use Rattle.reader.specs.Render.{render_events}
 use Rattle.table.specs.Held.{held_event, held_events}
 use Rattle.writer.specs.declared.Sink.{Sink}
+use Rattle.writer.specs.Inner.Puts.{Puts}
 use Rattle.writer.specs.Inner.Sinks.{Takes}
-use Rattle.writer.proofs.Buffers.{takes_none, takes_then, takes_same}
+use Rattle.writer.proofs.Buffers.{then, takes_none, takes_then, takes_same}
 
 -- ---- One line
 
 -- a key and a number after what stands before them
 pub then_pair : {xs : List ℕ} {s₀ s₁ s₂ : Sink ℕ} (k d : List ℕ) → Takes xs s₀ s₁ → Takes (k ++ d) s₁ s₂ → Takes (xs ++ k ++ d) s₀ s₂
 then_pair {xs} k d g h = takes_same (sym (append_assoc xs k d)) (takes_then g h)
+
+-- a line with a process only, of a checkpoint or of the end of one, by its key
+pub process_put : (key : List ℕ) (a : ℕ) (o₀ o₁ o₂ : List ℕ) (p₀ p₁ p₂ : ℕ)
+    → Puts (key ++ decimal a) o₀ p₀ o₁ p₁ → Puts (10 ∷ []) o₁ p₁ o₂ p₂ → Puts ((key ++ decimal a) ++ 10 ∷ []) o₀ p₀ o₂ p₂
+process_put key a o₀ o₁ o₂ p₀ p₁ p₂ ha he = then (key ++ decimal a) (10 ∷ []) o₀ o₁ o₂ p₀ p₁ p₂ ha he
 
 -- ---- Line after line
 

@@ -1,6 +1,7 @@
 -- Each way out of `restart_from` and `restart`: the answer by its definition, and demand 2.
 use Prim.Native.Nat.{ℕ, ◌≤◌}
-use mathlib.Core.Path.{◌≡◌, sym, ap, ◌∙◌}
+use mathlib.Core.Path.{◌≡◌, refl, sym, ap, ◌∙◌}
+use mathlib.Core.Logic.{◌↔◌}
 use mathlib.Core.Bool.{true, ◌&&◌, not}
 use mathlib.Core.List.{List}
 use native.Mathlib.Omega.{arith}
@@ -20,12 +21,14 @@ use Rattle.columns.specs.Inner.Given.{Marked}
 use Rattle.columns.proofs.Full.{fit}
 use Rattle.recovery_line.proofs.Sets.{places_of}
 use Rattle.recovery_line.specs.Given.{line_in, line_to, restart_phase_in, numbers_of, back_of, back_ones}
-use Rattle.refusal.specs.declared.Refusal.{Refusal}
-use Rattle.refusal.specs.Refusals.{number_of_refusal}
+use Rattle.std.specs.Prelude.{Result, Ok, Err}
+use Rattle.refusal.specs.declared.Refused.{Refused}
 use Rattle.refusal.proofs.Refusals.{no_number_0}
 use Rattle.preparing.specs.Faults.{failure_fault_of}
 use Rattle.preparing.specs.Inner.Prepared.{Takeable}
-use Rattle.restart.specs.Restart.{engine_line_of, of_each, restart_by, restart_of, restart_refusal, restart_answer, RestartAnswer, Restarts}
+use Rattle.restart.specs.declared.Restarted.{Restarted}
+use Rattle.restart.specs.Restart.{engine_line_of, of_each, restart_by, restart_of, restart_refusal, restart_answer, restart_answered, RestartAnswer, Restarts}
+use Rattle.restart.specs.Inner.Promise.{RestartPromise}
 
 -- ---- From the full table
 
@@ -58,13 +61,22 @@ module _ (t : Trace) (full : List ℕ) (G : Marked t (rule_of t) full) (cut set 
       }
 
 module _ (a : List ℕ) (step set : ℕ) where
-  pub refuses_restart : (e : Refusal) → number_of_refusal e ≡ failure_fault_of a step set → restart_refusal (number_of_refusal e) ≡ restart_answer a step set
-  unfolding restart_answer
-  refuses_restart e f = rw (← f, ne_eqb (number_of_refusal e) 0 (no_number_0 e))
+  -- what the contract promises, of the answer that a result stands for
+  abbrev pub Answered : RestartAnswer → Type 0
+  Answered r = (r ≡ restart_answer a step set) × (r.number ≡ 0 → Restarts (held a) step set r)
 
-  pub answers_restart : (r : RestartAnswer) → 0 ≡ failure_fault_of a step set → r ≡ restart_of (held a) step set → r ≡ restart_answer a step set
+  pub answered : (x : Result Restarted Refused) → RestartPromise a step set x ↔ Answered (restart_answered x)
+  answered (Ok r) = (λ p. (p.answer, λ _. p.means), λ q. record { answer = q.0; means = q.1 refl })
+  answered (Err e) = (λ p. (p.answer, λ h. absurd (no_number_0 e.refusal h)), λ q. record { answer = q.0; means = tt })
+
+  pub refuses_restart : (n : ℕ) (r : RestartAnswer) → n ≡ failure_fault_of a step set → (n ≡ 0 → ⊥) → r ≡ restart_refusal n → Answered r
   unfolding restart_answer
-  answers_restart r f e = e ∙ rw (← f)
+  refuses_restart n r f z e =
+      (e ∙ rw (← f, ne_eqb n 0 z), λ h. absurd (z (sym (ap (λ (x : RestartAnswer). x.number) e) ∙ h)))
+
+  pub answers_restart : (r : RestartAnswer) → 0 ≡ failure_fault_of a step set → r ≡ restart_of (held a) step set → Restarts (held a) step set r → Answered r
+  unfolding restart_answer
+  answers_restart r f e m = (e ∙ rw (← f), λ _. m)
 
 -- ---- A failure that is not refused
 

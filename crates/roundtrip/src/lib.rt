@@ -17,14 +17,20 @@ pub const ROOM: usize = rendering::TEXT_BYTES;
 
 // How many of the first n bytes of a buffer are not those of a text.
 fn differing(out: &[u8], n: usize, text: &[u8]) -> u64 {
-    (0..n)
-        .filter(|i| text::byte(out, *i) != text::byte(text, *i))
-        .count() as u64
+    let mut count = 0;
+    for i in 0..n {
+        count += u64::from(text::byte(out, i) != text::byte(text, i));
+    }
+    count
 }
 
 // How many bytes of a buffer, from a place on, are not as they were.
 fn changed(out: &[u8], from: usize) -> u64 {
-    out.iter().skip(from).filter(|b| **b != BEFORE).count() as u64
+    let mut count = 0;
+    for b in &out[from.min(out.len())..] {
+        count += u64::from(*b != BEFORE);
+    }
+    count
 }
 
 // How many bytes of a text were written: none where writing is refused.

@@ -41,11 +41,10 @@ use Rattle.preparing.specs.Faults.{line_fault_of, run_of as code_run, failure_fa
 use Rattle.recovery.specs.Answers.{refusal, replay_answer, replay_area, Completed, Replays as Replay}
 use Rattle.recovery.specs.Recover.{RecoverAnswer, Recovers as Recover}
 use Rattle.messages.specs.Messages.{MessagesAnswer, messages_refusal, counts_of, messages_answer, messages_area}
-use Rattle.messages.specs.Meaning.{Lists as ListsOf}
-use Rattle.restart.specs.Restart.{RestartAnswer, engine_line_of, restart_of, restart_refusal, restart_answer, Restarts}
+use Rattle.restart.specs.Restart.{RestartAnswer, engine_line_of, restart_of, restart_refusal, restart_answer}
 use Rattle.messages.proofs.Rows.{At, orphans_at, kept_at, lost_at}
-use Rattle.messages.proofs.Listing.{counts_are, listed_at}
-use Rattle.restart.proofs.Restarting.{Ready}
+use Rattle.messages.proofs.Listing.{Listed as Messages, counts_are, listed_at}
+use Rattle.restart.proofs.Restarting.{Answered as Restart, Ready}
 use Rattle.recovery.proofs.Taking.{not_refused}
 use Rattle.report.specs.Report.{Answer, refused, given, unless, then, Failure, engine_run, Recovery, recovery_of, recovery, failure_of}
 use Rattle.report.proofs.Found.{run_is}
@@ -55,15 +54,6 @@ use Rattle.runs.specs.Answers.{line_from, run_with, losses, Replayed as Told, fa
 
 -- ---- What the rows say. `Restart`, `Messages`, `Replay` and `Recover` are the contracts of those calls: what they
 -- promise of the answer, and of the area that they leave.
-
-abbrev pub Restart : List ℕ → ℕ → ℕ → RestartAnswer → Type 0
-Restart a step set r = (r ≡ restart_answer a step set) × (r.number ≡ 0 → Restarts (held a) step set r)
-
-abbrev pub Messages : List ℕ → List ℕ → ℕ → ℕ → Line → MessagesAnswer → List ℕ → Type 0
-Messages a area step set l r w =
-    (r ≡ messages_answer a area step set l)
-    × ((w ≡ messages_area a area step set l)
-    × ((r.orphans + (r.kept + r.lost) ≤ 2048) × (r.number ≡ 0 → ListsOf (code_run a step l) r.orphans r.kept r.lost w)))
 
 -- what a call leaves in an area after a refusal that clears it; "Words past 16,384 are never touched"
 abbrev pub cleared : List ℕ → List ℕ

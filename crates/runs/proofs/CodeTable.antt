@@ -23,13 +23,14 @@ use Rattle.theory.specs.Inner.Tests.{two}
 use Rattle.theory.proofs.Runs.{opens}
 use Rattle.recovery_line.specs.Given.{line_in, numbers_of}
 use Rattle.restart.specs.Restart.{RestartAnswer, Restarts}
+use Rattle.restart.proofs.Restarting.{Answered as Restart}
 use Rattle.writer.specs.Buffer.{room, written}
 use Rattle.printing.specs.Inner.Texts.{lines_of}
 use Rattle.report.specs.Report.{reported}
 use Rattle.program.specs.Program.{ReadFrom, printed, status_of}
 use Rattle.runs.specs.Texts.{lines_h, lines_l, lines_s, lines_t, lines_first, failing, text_h, lines_wide, text_wide, lines_floor, lines_twice}
 use Rattle.runs.proofs.Table.{reads, message, trace_h, trace_wide, trace_l, trace_s, trace_t, Said, printed1, recovery1, recovery4, recovery5, recovery7, recovery8, recovery9, recovery10, table, trace_floor, recovery_floor, unfinished, no_save, receives_h, taken_h, no_high_h, records_h, words_wide, records_wide}
-use Rattle.runs.proofs.Calls.{Restart, cleared, Accepts, Reads, OnTable, Recovers, AllRefuse, Loses, AllHaveSteps, Finishes, Completes, Leaves, Stops, accepts, read_refused, failure_refused, recovers, all_refuse, loses, all_have_steps, finishes, completes, leaves, stops, reads as reads_failure}
+use Rattle.runs.proofs.Calls.{cleared, Accepts, Reads, OnTable, Recovers, AllRefuse, Loses, AllHaveSteps, Finishes, Completes, Leaves, Stops, accepts, read_refused, failure_refused, recovers, all_refuse, loses, all_have_steps, finishes, completes, leaves, stops, reads as reads_failure}
 
 -- `report` writes these lines: into a buffer `out`, which it leaves as `after`, and it answers n
 abbrev pub Reports : List ℕ → List String → Type 0

@@ -343,7 +343,7 @@ pub fn lowest(full: &[u32], gates: &[u32], area: &mut [u32], cut: usize) -> Repl
 {
     let mut links = [0u16; LINK_WORDS];
     let mut heads = [0u16; HEAD_WORDS];
-    area.fill(0);
+    words::zero(area);
     links::begin_listed(full, gates, &mut links, &mut heads, area, cut);
     let n = full[1] as usize;
     lowest_in(full, &links, gates, &heads, area, n + n)

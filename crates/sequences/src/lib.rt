@@ -5,7 +5,7 @@
 ghost use Rattle.std.specs.Prelude.{◌≤◌, ◌<◌, length};
 ghost use Rattle.io.specs.Counts.{IsPrefixLen};
 
-use bruteforce::Event;
+use bruteforce::{Event, word};
 
 // What a process can do, by number from 0: a checkpoint, a done, a send to each other process, a receive from each
 // other.
@@ -46,7 +46,8 @@ pub fn sequence(count: u32, x: u32, events: &mut [u32; 7]) -> u32
     7
 }
 
-// An event's line. The value of a send is the event's number: no two sends have the same.
+// An event's line. The value of a send is the event's number: no two sends have the same. (A word of a kind above 3 is
+// written as a send too: what may not change.)
 fn put_event(text: &mut [u8], place: usize, w: u32, number: u32) -> usize
     requires { place ≤ length text.old }
     ensures { result ≤ length text.new }
@@ -60,13 +61,16 @@ fn put_event(text: &mut [u8], place: usize, w: u32, number: u32) -> usize
             b"ev=recv at=# from=#\n",
             &[u64::from(at), u64::from(from)],
         ),
-        Some(Event::Send { at, to }) => checks::put(
+        Some(Event::Send { .. }) | None => checks::put(
             text,
             place,
             b"ev=send at=# to=# val=#\n",
-            &[u64::from(at), u64::from(to), u64::from(number)],
+            &[
+                u64::from(word::process(w)),
+                u64::from(word::peer(w)),
+                u64::from(number),
+            ],
         ),
-        None => place,
     }
 }
 

@@ -1,11 +1,15 @@
--- Laws of numbers that stand for several bytes: which bytes they are.
+-- Laws of numbers that stand for several bytes: which bytes they are, and keys compared by fours.
 use Prim.Native.Nat.{ℕ, suc, zero, ◌+◌, ◌*◌, ◌/◌, ◌%◌, ◌^◌, ◌<◌, ◌≤◌}
-use mathlib.Core.Path.{◌≡◌, refl, ◌∙◌, ap}
+use mathlib.Core.Path.{◌≡◌, refl, sym, ◌∙◌, ap}
 use mathlib.Core.List.{List, [], ◌∷◌}
+use mathlib.Core.Bool.{false}
 use native.Mathlib.Omega.{arith}
 use native.Mathlib.Nat.{pow-zero, pow-suc, div-one, zero-div, mul_comm, div-div-eq-div-mul}
-use lib.ListN.{length, get_or, drop}
-use lib.Seq.{drop-cons, get_or-drop}
+use lib.ListN.{length, get_or, drop, length-drop}
+use lib.Seq.{drop-cons, drop-drop, get_or-drop}
+use borrow.Author.Tests.{eq-eqb, ne_eqb}
+use Rattle.words.proofs.Cases.{by_eq}
+use Rattle.text.specs.Key.{starts_with}
 use Rattle.text.specs.Inner.Blocks.{packed, byte_of}
 
 -- the words of a list are bytes
@@ -59,5 +63,49 @@ byte_packed (suc k) (b ∷ l) (suc i) h p =
     let e : (b + 256 * packed k l) / 256 ≡ packed k l = omega (arith, p 0) in
     byte_next (b + 256 * packed k l) i ∙ rw e (byte_packed k l i (omega arith) (λ j. p (suc j)))
 
+-- lists that begin with the same number of k bytes agree there, and others do not
+pub starts_packed : (k : ℕ) (l m : List ℕ) → k ≤ length l → k ≤ length m → Bytes l → Bytes m
+    → packed k l ≡ packed k m → starts_with l m ≡ starts_with (drop k l) (drop k m)
+unfolding packed starts_with
+starts_packed zero l m h g p q e = refl
+starts_packed (suc k) [] m h g p q e = absurd (let z : ⊥ = omega arith in z)
+starts_packed (suc k) (b ∷ l) [] h g p q e = absurd (let z : ⊥ = omega arith in z)
+starts_packed (suc k) (b ∷ l) (c ∷ m) h g p q e =
+    let same : b ≡ c = omega (arith, p 0, q 0, e) in
+    rw (eq-eqb b c same) (starts_packed k l m (omega arith) (omega arith) (λ i. p (suc i)) (λ i. q (suc i)) (omega (arith, p 0, q 0, e)))
+
+pub starts_unpacked : (k : ℕ) (l m : List ℕ) → k ≤ length l → k ≤ length m
+    → (packed k l ≡ packed k m → ⊥) → starts_with l m ≡ false
+unfolding packed starts_with
+starts_unpacked zero l m h g n = absurd (n refl)
+starts_unpacked (suc k) [] m h g n = absurd (let z : ⊥ = omega arith in z)
+starts_unpacked (suc k) (b ∷ l) [] h g n = absurd (let z : ⊥ = omega arith in z)
+starts_unpacked (suc k) (b ∷ l) (c ∷ m) h g n =
+    by_eq b c
+    (λ e. rw (eq-eqb b c e) (starts_unpacked k l m (omega arith) (omega arith) (λ s. n (rw (e, s)))))
+    (λ d. rw (ne_eqb b c d))
+
 pub bytes_from : (n : ℕ) (l : List ℕ) → Bytes l → Bytes (drop n l)
 bytes_from n l b i = rw (get_or-drop n l i 0) (b (n + i))
+
+-- a turn of the key's loop by fours, where the key has room in the text
+module _ (text : List ℕ) (at i : ℕ) (key : List ℕ) (h : i + 4 ≤ length key) (g : at + length key ≤ length text) where
+  pub key_four_next : Bytes text → Bytes key → (a b : ℕ) → a ≡ packed 4 (drop (at + i) text) → b ≡ packed 4 (drop i key) → a ≡ b
+      → starts_with (drop (at + i) text) (drop i key) ≡ starts_with (drop (at + (i + 4)) text) (drop (i + 4) key)
+  key_four_next p q a b ea eb e =
+      let next : at + i + 4 ≡ at + (i + 4) = omega arith in
+      starts_packed 4 (drop (at + i) text) (drop i key)
+      (omega (arith, length-drop (at + i) text))
+      (omega (arith, length-drop i key))
+      (bytes_from (at + i) text p)
+      (bytes_from i key q)
+      (sym ea ∙ e ∙ eb)
+      ∙ rw (drop-drop 4 (at + i) text, drop-drop 4 i key, next)
+
+  pub key_four_differs : (a b : ℕ) → a ≡ packed 4 (drop (at + i) text) → b ≡ packed 4 (drop i key) → (a ≡ b → ⊥)
+      → starts_with (drop (at + i) text) (drop i key) ≡ false
+  key_four_differs a b ea eb n =
+      starts_unpacked 4 (drop (at + i) text) (drop i key)
+      (omega (arith, length-drop (at + i) text))
+      (omega (arith, length-drop i key))
+      (λ e. n (ea ∙ e ∙ sym eb))

@@ -17,8 +17,8 @@ pub struct Numeral {
     pub end: usize,
 }
 
-// Four bytes from a place on as one number, the first of them lowest: the machine takes them at once. (By places, as
-// all here that others call: a place past the end is allowed, and docs/CLAIMS.md says what is found there.)
+// Four bytes from a place on as one number, the first of them lowest: the machine takes them at once. (By a place, as
+// `line_end`, `byte`, `number` and `key` have it; theirs may lie past the end, and their contracts say what they find.)
 pub fn four(text: &[u8], at: usize) -> u32
     requires { at + 4 ≤ length text.now }
     ensures { result ≡ packed 4 (drop at text.now) }

@@ -53,6 +53,13 @@ module _ {A : Type 0} where
   pub full_put : (bs out : List A) (at : ℕ) → length out ≤ at → Puts bs out at out at
   full_put bs out at h = record { is = sym (puts_full bs out at h) }
 
+  -- where none of the items is left to write, all are written
+  pub rest_put : (bs before out : List A) (i at next : ℕ) → length bs ≤ i
+      → puts (drop i bs) (record { bytes = out; next = next }) ≡ puts bs (record { bytes = before; next = at }) → Puts bs before at out next
+  unfolding puts
+  rest_put bs before out i at next h e =
+      record { is = ap (λ (x : List A). puts x (record { bytes = out; next = next })) (sym (drop_of_length-le bs h)) ∙ e }
+
   -- the same of sinks
   pub takes_none : (s : Sink A) → Takes [] s s
   takes_none s = record { puts = none s.out.now s.next; same = refl }

@@ -25,5 +25,5 @@ pub returns-in-Err : goal.returns-in-Err
 returns-in-Err c =
     record {
       answer = λ R S. stop_answer R _ _ _ _ S _ _ _ _ (c.in-Err.ensures R S);
-      words = λ R S. stop_words R _ _ _ _ S _ _ _ _ _ (c.in-Err.ensures R S) (c.carry_out.auto.area ∙ c.requires.area_long) (c.fill.ensures.after (λ y e. e));
+      words = λ R S. stop_words R _ _ _ _ S _ _ _ _ _ (c.in-Err.ensures R S) (c.carry_out.auto.area ∙ c.requires.area_long) c.zero.ensures;
     }

@@ -1,7 +1,5 @@
 -- `reader::read` meets its contract: 12 changes nothing; otherwise the first 16,384 words are lent on.
-use Prim.Native.Nat.{ℕ}
 use mathlib.Core.Path.{ap, ◌∙◌}
-use lib.ListN.{replicate}
 use lib.Seq.{length-take-le}
 use native.Mathlib.Omega.{arith}
 use Rattle.std.proofs.Common.{Err}
@@ -25,7 +23,7 @@ returns-then-table-lt-AREA_WORDS c =
 
 pub read_in-requires : goal.read_in-requires
 read_in-requires c =
-    c.fill.ensures.after (λ y e. e) ∙ ap (λ (n : ℕ). replicate n 0) (length-take-le area_words c.args.table.now (omega arith))
+    length-take-le area_words c.args.table.now (omega arith)
 
 pub returns : goal.returns
 returns c =

@@ -1,7 +1,5 @@
 -- `reader::read_failure` meets its contract: 12 changes nothing; otherwise the first 16,384 words are lent on.
-use Prim.Native.Nat.{ℕ}
 use mathlib.Core.Path.{ap, ◌∙◌}
-use lib.ListN.{replicate}
 use lib.Seq.{length-take-le}
 use native.Mathlib.Omega.{arith}
 use Rattle.std.proofs.Common.{Err}
@@ -9,6 +7,7 @@ use Rattle.words.specs.Area.{area_words}
 use Rattle.refusal.specs.declared.Refused.{Refused}
 use Rattle.reader.specs.Failure.{failure_answered}
 use Rattle.reader.proofs.Claims.{failure_means}
+use Rattle.reader.proofs.Storing.{lent_any}
 use Rattle.reader.proofs.Verdicts.{short_failing, long_failing}
 use Rattle.reader.proofs.read_failure.Goals as goal
 
@@ -26,7 +25,7 @@ returns-then-table-lt-AREA_WORDS c =
 
 pub read_failure_in-requires : goal.read_failure_in-requires
 read_failure_in-requires c =
-    c.fill.ensures.after (λ y e. e) ∙ ap (λ (n : ℕ). replicate n 0) (length-take-le area_words c.args.table.now (omega arith))
+    lent_any _ (length-take-le area_words c.args.table.now (omega arith))
 
 pub returns : goal.returns
 returns c =

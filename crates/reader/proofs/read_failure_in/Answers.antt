@@ -1,6 +1,6 @@
 -- `reader::read_failure_in` meets its contract, one law for each end of the scan: the one that is wanted, and the
 -- others.
-use mathlib.Core.Path.{refl, ap}
+use mathlib.Core.Path.{refl, ap, ◌∙◌}
 use native.Mathlib.Omega.{arith}
 use Rattle.std.proofs.Common.{Ok, Err}
 use Rattle.std.proofs.lemmas.Result.{err_from_is_err_and}
@@ -20,7 +20,8 @@ returns-in_err-line c =
 pub returns-in-Ended : goal.returns-in-Ended
 returns-in-Ended c =
     let (answer, words) = failing_ended _ _ _ c.in_ok-line.ensures.outcome _ _ _
-    (ap (λ (x : Scanned). scanned (Ok x)) c.in-Ended.is) (ap (λ (x : Refused). failure_answered (Err x)) c.at.ensures) (c.fill.ensures.after (λ y e. e)) in
+    (ap (λ (x : Scanned). scanned (Ok x)) c.in-Ended.is)
+    (ap failure_answered c.refuse.ensures.answer ∙ ap (λ (x : Refused). failure_answered (Err x)) c.at.ensures) c.refuse.ensures.words in
     record { answer = answer; words = words }
 
 pub overflow_add-line : goal.overflow_add-line
@@ -30,7 +31,9 @@ overflow_add-line c =
 pub returns-then-next-text : goal.returns-then-next-text
 returns-then-next-text c =
     let (answer, words) = failing_follows _ _ _ c.in_ok-line.ensures.outcome _ _ _ _ (ap (λ (x : Scanned). scanned (Ok x)) c.in-Failure.is) _ _
-    c.if-next-text.true (ap (λ (x : Refused). failure_answered (Err x)) c.at-then-next-text.ensures) (c.fill-then-next-text.ensures.after (λ y e. e)) in
+    c.if-next-text.true
+    (ap failure_answered c.refuse-then-next-text.ensures.answer ∙ ap (λ (x : Refused). failure_answered (Err x)) c.at-then-next-text.ensures)
+    c.refuse-then-next-text.ensures.words in
     record { answer = answer; words = words }
 
 pub returns-else-next-text : goal.returns-else-next-text

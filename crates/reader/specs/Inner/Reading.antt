@@ -1,6 +1,6 @@
 -- What the reader's loop holds between two lines: the words it has stored, and how its outcome stands for a `Scan`; and
 -- what it makes of the first line. No public contract cites these.
-use Rattle.std.specs.Prelude.{ℕ, ◌+◌, ◌<◌, ◌≤◌, ◌≡◌, List, [], length, get_or, set, drop, Result, Ok, Err}
+use Rattle.std.specs.Prelude.{ℕ, ◌+◌, ◌<◌, ◌≤◌, ◌≡◌, Bool, true, List, [], length, get_or, set, drop, replicate, Result, Ok, Err}
 use Rattle.words.specs.Area.{area_words}
 use Rattle.trace.specs.declared.Event.{Event}
 use Rattle.trace.specs.Trace.{Trace, started}
@@ -20,6 +20,11 @@ abbrev pub judged : Result code_judged.Judged Refusal → Judged
 judged (Ok (code_judged.TheVariants.Event e)) = Fit e
 judged (Ok (code_judged.TheVariants.Failure f)) = Fails f.step f.set
 judged (Err r) = Unfit (number_of_refusal r)
+
+-- a table of 16,384 words, which are zero where it is said to be clear
+pub record Lent (table : List ℕ) (clear : Bool) : Type 0 where
+  pub size : length table ≡ area_words
+  pub zero : clear ≡ true → table ≡ replicate (length table) 0
 
 -- a process count, or none
 unfoldable pub count_only : Line → Line

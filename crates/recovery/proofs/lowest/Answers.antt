@@ -4,6 +4,7 @@ use Rattle.words.specs.Area.{area_words}
 use Rattle.refusal.proofs.Refusals.{no_number_0, placeless}
 use Rattle.theory.specs.Order.{lowest_order}
 use Rattle.preparing.specs.Faults.{run_of}
+use Rattle.recovery.specs.Answers.{refusal}
 use Rattle.recovery.proofs.Replaying.{refuses, not_completed, carried, completed}
 use Rattle.recovery.proofs.lowest.Goals as goal
 
@@ -12,7 +13,7 @@ returns-in_err-prepare c =
     let order = lowest_order (run_of c.args.table.now c.args.step c.args.line) in
     rw (placeless _ _ c.from_residual.ensures.1) (record {
       replays = refuses c.args.table.now c.args.area.now c.args.step c.args.set c.args.line order _ c.in_err-prepare.ensures.fault (no_number_0 _);
-      completed = not_completed c.args.table.now c.args.area.now c.args.step c.args.set c.args.line order _ c.in_err-prepare.ensures.fault (no_number_0 _);
+      completed = not_completed c.args.table.now c.args.area.now c.args.step c.args.set c.args.line order _ (refusal _) c.in_err-prepare.ensures.fault (no_number_0 _);
     })
 
 pub lowest-requires : goal.lowest-requires

@@ -17,15 +17,15 @@ pub listed_events-listed-requires : goal.listed_events-listed-requires
 listed_events-listed-requires c =
     let g = c.gates_of.ensures c.requires.1.0 (engine_takeable c.requires.1.0 _ c.requires.1.1 c.args.cut c.args.set c.requires.1.2 _ (c.restart_from-restarted.ensures.answer c.requires.1.0 c.requires.1.1 c.requires.1.2) (c.restart_from-restarted.ensures.means c.requires.1.0 c.requires.1.1 c.requires.1.2)) in (_, g.tells, g.gated)
 
-pub slice_bounds-fill-end : goal.slice_bounds-fill-end
-slice_bounds-fill-end c = omega (arith, c.requires.0.0)
+pub slice_bounds-zero-end : goal.slice_bounds-zero-end
+slice_bounds-zero-end c = omega (arith, c.requires.0.0)
 
-pub slice_bounds-fill-end-2 : goal.slice_bounds-fill-end-2
-slice_bounds-fill-end-2 c = sym (length-take-le _ c.args.area.now (omega (arith, c.requires.0.0)))
+pub slice_bounds-zero-end-2 : goal.slice_bounds-zero-end-2
+slice_bounds-zero-end-2 c = sym (length-take-le _ c.args.area.now (omega (arith, c.requires.0.0)))
 
 pub list_from-counted-requires : goal.list_from-counted-requires
 list_from-counted-requires c =
-    let g = c.gates_of.ensures c.requires.1.0 (engine_takeable c.requires.1.0 _ c.requires.1.1 c.args.cut c.args.set c.requires.1.2 _ (c.restart_from-restarted.ensures.answer c.requires.1.0 c.requires.1.1 c.requires.1.2) (c.restart_from-restarted.ensures.means c.requires.1.0 c.requires.1.1 c.requires.1.2)) in (trace_cleared c.args.area.now _ c.requires.0 (c.fill.ensures.after (λ y e. e)), (_, g))
+    let g = c.gates_of.ensures c.requires.1.0 (engine_takeable c.requires.1.0 _ c.requires.1.1 c.args.cut c.args.set c.requires.1.2 _ (c.restart_from-restarted.ensures.answer c.requires.1.0 c.requires.1.1 c.requires.1.2) (c.restart_from-restarted.ensures.means c.requires.1.0 c.requires.1.1 c.requires.1.2)) in (trace_cleared c.args.area.now _ c.requires.0 c.zero.ensures, (_, g))
 
 pub returns : goal.returns
 returns c =
